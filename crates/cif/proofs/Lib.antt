@@ -1,0 +1,4 @@
+pub mod NameTable
+pub mod KindTable
+pub mod Quotes
+pub mod Splits

@@ -1,0 +1,32 @@
+-- `cif::line::classify` meets its contract: each return has the tests of `classOf` on its way.
+-- Assumes nothing.
+use mathlib.Core.Path.{sym, _∙_}
+use borrow.Author.Tests.{le-leb, lt-leb}
+use Rattle.cif.specs.Line.{classOf}
+use borrow.Author.Needs.{needs}
+use Rattle.cif.proofs.line.classify.Statement.{statement}
+use Rattle.cif.proofs.line.classify.Tie as tie
+
+returns : tie.Need-returns
+unfolding classOf
+returns c = simp (lt-leb _ _ (c .if1 .taken))
+
+all-between-requires : tie.Need-all-between-requires
+all-between-requires c κs = search needs
+
+classify-typed-requires : tie.Need-classify-typed-requires
+classify-typed-requires c κs = search needs
+
+returns-2 : tie.Need-returns-2
+unfolding classOf
+returns-2 c =
+    let k = c .before in
+    simp (le-leb _ _ (k .before .before .if1 .left), sym (k .before .all-between .ensures) ∙ k .if2 .taken, c .classify-typed .ensures)
+
+returns-3 : tie.Need-returns-3
+unfolding classOf
+returns-3 c = simp (le-leb _ _ (c .before .before .if1 .left), sym (c .before .all-between .ensures) ∙ c .if2 .left)
+
+pub classify-spec : {M : Type 1} → statement M
+classify-spec =
+    tie.close (tie.spec returns all-between-requires classify-typed-requires returns-2 returns-3)

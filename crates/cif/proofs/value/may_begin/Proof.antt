@@ -1,0 +1,19 @@
+-- `cif::value::may_begin` meets its contract: the byte is none of the table's.
+-- Assumes nothing.
+use Rattle.cif.specs.Value.{mayBegin}
+use borrow.Author.Needs.{needs}
+use Rattle.cif.proofs.value.may_begin.Statement.{statement}
+use Rattle.cif.proofs.value.may_begin.Tie as tie
+
+slice-aggregate-lacks : tie.Need-slice-aggregate-lacks
+slice-aggregate-lacks c = search needs
+
+lacks-requires : tie.Need-lacks-requires
+lacks-requires c κs = search needs
+
+returns : tie.Need-returns
+unfolding mayBegin
+returns c = c .lacks .ensures
+
+pub may-begin-spec : {M : Type 1} → statement M
+may-begin-spec = tie.close (tie.spec slice-aggregate-lacks lacks-requires returns)

@@ -1,0 +1,8 @@
+pub mod Values
+pub mod Signs
+pub mod Digits
+pub mod Complete
+pub mod Sound
+pub mod Agree
+pub mod Small
+pub mod Vectors

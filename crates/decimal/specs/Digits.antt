@@ -1,0 +1,35 @@
+-- Digits, what they write, and the limits of a number (document 01, "A line, a number").
+-- Assumes nothing.
+use Prim.Native.Nat.{ℕ, _+_, _-_, _*_, _^_}
+use mathlib.Core.Bool.{Bool}
+use mathlib.Core.List.{List, [], _∷_}
+use Rattle.text.specs.Run.{between}
+
+-- "1 to 9 digits before any bracket": nine in all, on both sides of the point together
+abbrev pub mostDigits : ℕ
+mostDigits = 9
+
+-- "at most 6 after it": after the point
+abbrev pub mostPlaces : ℕ
+mostPlaces = 6
+
+-- "1 to 4 digits of uncertainty"
+abbrev pub mostUncertain : ℕ
+mostUncertain = 4
+
+-- 0 to 9, in ASCII
+abbrev pub isDigit : ℕ → Bool
+isDigit = between 48 57
+
+-- the number that acc and then the digits write, in base ten
+unfoldable pub valueFrom : ℕ → List ℕ → ℕ
+valueFrom acc [] = acc
+valueFrom acc (b ∷ bs) = valueFrom (acc * 10 + (b - 48)) bs
+
+-- the whole number that some digits write
+abbrev pub valueOf : List ℕ → ℕ
+valueOf ds = valueFrom 0 ds
+
+-- what the last of n digits after the point is worth, in millionths; with n = 0, what one is worth
+abbrev pub scaleOf : ℕ → ℕ
+scaleOf n = 10 ^ (mostPlaces - n)

@@ -1,0 +1,5 @@
+pub mod Bools
+pub mod Parts
+pub mod Runs
+pub mod Sames
+pub mod Tables

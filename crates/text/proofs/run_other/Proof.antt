@@ -1,0 +1,53 @@
+-- `text::run_other` meets its contract. The loop's invariant: the bytes passed are other than x, so the run is i and the run from i.
+-- The measure is what is left of the text. Assumes nothing.
+use native.Mathlib.Omega.{arith}
+use Prim.Native.Nat.{_-_}
+use borrow.Author.Tests.{eq-eqb, ne-eqb}
+use lib.ListN.{length}
+use Rattle.text.specs.Run.{other}
+use Rattle.text.proofs.Runs.{Passed, start, more, stop, end}
+use Rattle.text.proofs.run_other.Statement.{statement}
+use Rattle.text.proofs.run_other.Tie as tie
+
+abbrev Inv-loop : tie.InvT-loop
+Inv-loop s x i₀ i = Passed (other x) s i
+
+abbrev μ-loop : tie.MeasureT-loop
+μ-loop s x i₀ i = length s - i
+
+loop-holds : tie.Need-loop-holds Inv-loop μ-loop
+loop-holds c = start _ _
+
+shared-slice-read-if1 : tie.Need-shared-slice-read-if1 Inv-loop μ-loop
+shared-slice-read-if1 c = omega arith
+
+returns : tie.Need-returns Inv-loop μ-loop
+unfolding other
+returns c = stop _ _ (c .before .before .before .loop .inv) (c .before .before .loop-test .taken) (simp (eq-eqb _ _ (c .if1 .taken)))
+
+add-i : tie.Need-add-i Inv-loop μ-loop
+add-i c = omega arith
+
+loop-less : tie.Need-loop-less Inv-loop μ-loop
+loop-less c = omega arith
+
+loop-again : tie.Need-loop-again Inv-loop μ-loop
+unfolding other
+loop-again c = more _ _ (c .before .before .before .loop .inv) (c .before .before .loop-test .taken) (simp (ne-eqb _ _ (c .if1 .left)))
+
+returns-2 : tie.Need-returns-2 Inv-loop μ-loop
+returns-2 c = end _ _ (c .before .loop .inv) (c .loop-test .left)
+
+pub run-other-spec : {M : Type 1} → statement M
+run-other-spec =
+    tie.close
+    (tie.spec
+    Inv-loop
+    μ-loop
+    loop-holds
+    shared-slice-read-if1
+    returns
+    add-i
+    loop-less
+    loop-again
+    returns-2)

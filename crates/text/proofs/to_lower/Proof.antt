@@ -1,0 +1,25 @@
+-- `text::to_lower` meets its contract: each return is a case of `lower`.
+-- Assumes nothing.
+use borrow.Author.Tests.{le-leb, lt-leb}
+use Rattle.text.specs.Same.{lower}
+use borrow.Author.Needs.{needs}
+use Rattle.text.proofs.to_lower.Statement.{statement}
+use Rattle.text.proofs.to_lower.Tie as tie
+
+returns : tie.Need-returns
+unfolding lower
+returns c = simp (lt-leb _ _ (c .if1 .taken))
+
+returns-2 : tie.Need-returns-2
+unfolding lower
+returns-2 c = simp (le-leb _ _ (c .before .if1 .left), lt-leb _ _ (c .if2 .taken))
+
+add-result : tie.Need-add-result
+add-result c = search needs
+
+returns-3 : tie.Need-returns-3
+unfolding lower
+returns-3 c = simp (le-leb _ _ (c .before .if1 .left), le-leb _ _ (c .if2 .left))
+
+pub to-lower-spec : {M : Type 1} → statement M
+to-lower-spec = tie.close (tie.spec returns returns-2 add-result returns-3)

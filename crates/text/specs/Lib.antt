@@ -1,0 +1,3 @@
+pub mod Quote
+pub mod Run
+pub mod Same
