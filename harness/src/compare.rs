@@ -1,0 +1,239 @@
+//! The comparison: the same inputs to two programs, and every answer held equal.
+
+use crate::inputs::{Inputs, ROWS};
+use crate::lists;
+use crate::program::{Graded, NumberResult, Program};
+use crate::tally::{Question, Tally};
+use std::fmt::Debug;
+
+/// Rows that judge no single value: neighbours of 6, 8 and 10, and what a cut-off number would
+/// turn into one of them.
+pub const OTHER_ROWS: [u64; 22] = [
+    0,
+    1,
+    2,
+    3,
+    4,
+    5,
+    7,
+    9,
+    11,
+    12,
+    13,
+    255,
+    256,
+    262,
+    264,
+    266,
+    (1 << 16) + 6,
+    (1 << 32) + 6,
+    (1 << 32) + 8,
+    (1 << 32) + 10,
+    (1 << 63) + 6,
+    u64::MAX,
+];
+/// How many differences are printed.
+const SHOWN: usize = 10;
+
+/// What is generated, beside the fixed lists.
+pub struct Plan {
+    pub fixed_seed: u64,
+    pub new_seed: u64,
+    /// Lines, and values; half from each seed.
+    pub count: u64,
+}
+
+/// One named check and what it compared.
+pub struct Group {
+    pub name: &'static str,
+    inputs: u64,
+    answers: u64,
+    pub different: u64,
+}
+
+impl Group {
+    /// Something was compared, and nothing was different.
+    fn passed(&self) -> bool {
+        self.inputs > 0 && self.different == 0
+    }
+}
+
+pub struct Comparison<'a> {
+    tested: &'a dyn Program,
+    expected: &'a dyn Program,
+    pub groups: Vec<Group>,
+    pub tally: Tally,
+    examples: Vec<String>,
+}
+
+/// Runs the whole comparison.
+pub fn compare<'a>(
+    tested: &'a dyn Program,
+    expected: &'a dyn Program,
+    plan: &Plan,
+) -> Comparison<'a> {
+    let mut run =
+        Comparison { tested, expected, groups: vec![], tally: Tally::default(), examples: vec![] };
+    let half = plan.count.div_ceil(2);
+    run.generated_lines("lines, fixed seed", plan.fixed_seed, half);
+    run.generated_lines("lines, new seed", plan.new_seed, half);
+    run.generated_values("values, fixed seed", plan.fixed_seed, half);
+    run.generated_values("values, new seed", plan.new_seed, half);
+    run.values("short texts as values", lists::short_texts(lists::SHORT_VALUE));
+    run.lines("short texts in lines", lists::in_lines(lists::short_texts(lists::SHORT_IN_LINE)));
+    run.values("single bytes", lists::single_bytes());
+    run.values("reserved words as values", lists::reserved_words());
+    run.lines("reserved words in lines", lists::in_lines(lists::reserved_words()));
+    run.values("numbers at the limits", lists::numbers_at_limits());
+    run.values("numbers at the bounds", lists::numbers_at_bounds());
+    run.lines("items with values", lists::items_with_values());
+    run.lines("names one byte off", lists::names_one_byte_off());
+    run.lines("line lengths", lists::line_lengths());
+    run
+}
+
+impl Comparison<'_> {
+    pub fn differences(&self) -> u64 {
+        self.groups.iter().map(|group| group.different).sum()
+    }
+
+    /// Prints the table; answers how many checks passed and failed.
+    pub fn print(&self) -> (usize, usize) {
+        println!("{:<26} {:>9} {:>9} {:>9}", "check", "inputs", "answers", "different");
+        for group in &self.groups {
+            let Group { name, inputs, answers, different } = group;
+            println!("{name:<26} {inputs:>9} {answers:>9} {different:>9}");
+        }
+        self.tally.print();
+        let missing = self.tally.missing();
+        missing.iter().for_each(|answer| println!("NEVER SEEN {answer}"));
+        self.examples.iter().for_each(|example| println!("DIFFERENT {example}"));
+        let groups = self.groups.iter().filter(|group| group.passed()).count();
+        let passed = groups + usize::from(missing.is_empty());
+        (passed, self.groups.len() + 1 - passed)
+    }
+
+    fn generated_lines(&mut self, name: &'static str, seed: u64, count: u64) {
+        let mut inputs = Inputs::new(seed);
+        self.lines(name, (0..count).map(|_| inputs.line()));
+    }
+
+    fn generated_values(&mut self, name: &'static str, seed: u64, count: u64) {
+        let mut inputs = Inputs::new(!seed);
+        self.values(name, (0..count).map(|_| inputs.value()));
+    }
+
+    fn begin(&mut self, name: &'static str) {
+        self.groups.push(Group { name, inputs: 0, answers: 0, different: 0 });
+    }
+
+    fn group(&mut self) -> &mut Group {
+        self.groups.last_mut().expect("a group was begun")
+    }
+
+    fn lines(&mut self, name: &'static str, lines: impl IntoIterator<Item = Vec<u8>>) {
+        self.begin(name);
+        for line in lines {
+            self.group().inputs += 1;
+            self.line(&line);
+        }
+    }
+
+    fn values(&mut self, name: &'static str, values: impl IntoIterator<Item = Vec<u8>>) {
+        self.begin(name);
+        for (value, other_row) in values.into_iter().zip(OTHER_ROWS.into_iter().cycle()) {
+            self.group().inputs += 1;
+            self.value(&value, other_row);
+        }
+    }
+
+    fn line(&mut self, line: &[u8]) {
+        let (tested, expected) = (self.tested, self.expected);
+        let answer =
+            self.same(&"wall_classify", line, tested.classify(line), expected.classify(line));
+        self.tally.note(
+            Question::Line,
+            [0, 5, 6, 7].iter().position(|&known| known == answer).unwrap_or(usize::MAX),
+        );
+
+        let form = self.same(&"probe_line", line, tested.line(line), expected.line(line));
+        self.tally.note(Question::Form, form.found as usize);
+
+        let name = line.split(|&byte| byte == b' ').next().unwrap_or(line);
+        let item = self.same(&"probe_item", name, tested.item(name), expected.item(name));
+        self.tally.note(Question::Item, item as usize);
+    }
+
+    fn value(&mut self, value: &[u8], other_row: u64) {
+        let (tested, expected) = (self.tested, self.expected);
+        let number =
+            self.same(&"probe_number", value, tested.number(value), expected.number(value));
+        self.tally.note(Question::Number, number_place(number));
+
+        let form = self.same(&"probe_value", value, tested.value(value), expected.value(value));
+        self.tally.note(Question::Value, form as usize);
+
+        for (row, question) in
+            ROWS.into_iter().zip([Question::Row6, Question::Row8, Question::Row10])
+        {
+            let graded = self.grade(row, value);
+            self.tally.note(question, grade_place(graded));
+        }
+        let graded = self.grade(other_row, value);
+        self.tally.note(Question::OtherRow, if graded == (6, 0).into() { 0 } else { usize::MAX });
+    }
+
+    fn grade(&mut self, row: u64, value: &[u8]) -> Graded {
+        let (tested, expected) = (self.tested, self.expected);
+        self.same(
+            &format_args!("wall_grade row {row}"),
+            value,
+            tested.grade(row, value),
+            expected.grade(row, value),
+        )
+    }
+
+    /// Holds one answer equal to the expected one, and hands it on.
+    fn same<T: PartialEq + Debug>(
+        &mut self,
+        question: &dyn std::fmt::Display,
+        input: &[u8],
+        tested: T,
+        expected: T,
+    ) -> T {
+        self.group().answers += 1;
+        if tested != expected {
+            self.group().different += 1;
+            if self.examples.len() < SHOWN {
+                let input = hex(input);
+                self.examples
+                    .push(format!("{question}, input {input}: {tested:?}, reference {expected:?}"));
+            }
+        }
+        tested
+    }
+}
+
+fn number_place(number: NumberResult) -> usize {
+    match number {
+        NumberResult { found: 0, .. } => 0,
+        NumberResult { millionths, .. } => (2 + millionths.signum()) as usize,
+    }
+}
+
+fn grade_place(graded: Graded) -> usize {
+    match (graded.answer, graded.level) {
+        (0, 0) => 0,
+        (0, level @ 2..=4) => level as usize - 1,
+        (7, 0) => 4,
+        _ => usize::MAX,
+    }
+}
+
+/// Bytes in hexadecimal, `-` for none.
+pub fn hex(bytes: &[u8]) -> String {
+    if bytes.is_empty() {
+        return "-".into();
+    }
+    bytes.iter().map(|byte| format!("{byte:02x}")).collect()
+}

@@ -1,0 +1,167 @@
+//! Compares the proved library with the reference program.
+
+mod bench;
+mod client;
+mod compare;
+mod inputs;
+mod lists;
+mod program;
+mod proved;
+mod random;
+mod self_check;
+mod tally;
+mod trace;
+
+use compare::Plan;
+use inputs::Inputs;
+use program::{Graded, LineResult, NumberResult, Reference};
+use proved::Proved;
+use std::io::{stdin, stdout, BufWriter, Write};
+use std::mem::{offset_of, size_of};
+use std::process::ExitCode;
+
+const USAGE: &str = "usage: harness MODE
+  compare [--seed N] [--count N]  compare both programs on N lines and N values (default 1000000),
+                                  half from a fixed seed and half from a new one or the one given
+  self-check                      show that the comparison finds faulty programs
+  trace, reference-trace          answer trace commands by the proved library, by the reference
+  bench                           speed of both programs
+  layout                          sizes and offsets of the boundary's structs
+  trace-commands SEED COUNT       write generated trace commands
+  client-lines SEED COUNT         write generated lines
+  client-values SEED COUNT        write generated values
+  client-answers [ROW]            what the client must print for the input
+";
+const FIXED_SEED: u64 = 20_000_609;
+const COUNT: u64 = 1_000_000;
+
+/// What a mode comes to: how many checks passed and failed, or a message.
+type Outcome = Result<(usize, usize), String>;
+const DONE: Outcome = Ok((0, 0));
+
+fn main() -> ExitCode {
+    let arguments: Vec<String> =
+        std::env::args_os().skip(1).map(|word| word.to_string_lossy().into_owned()).collect();
+    let words: Vec<&str> = arguments.iter().map(String::as_str).collect();
+    match run(&words) {
+        Ok((_, 0)) => ExitCode::SUCCESS,
+        Ok(_) => ExitCode::FAILURE,
+        Err(message) => {
+            eprintln!("harness: {message}");
+            ExitCode::from(2)
+        }
+    }
+}
+
+fn run(words: &[&str]) -> Outcome {
+    let output = BufWriter::new(stdout().lock());
+    match words {
+        ["compare", options @ ..] => compare(plan(options)?),
+        ["self-check"] => Ok(counted(self_check::run())),
+        ["trace"] => done(trace::run(&Proved, stdin().lock(), output)),
+        ["reference-trace"] => done(trace::run(&Reference, stdin().lock(), output)),
+        ["bench"] => {
+            bench::run();
+            DONE
+        }
+        ["layout"] => {
+            layout();
+            DONE
+        }
+        ["trace-commands", seed, count] => {
+            write(trace::commands(number(2, seed)?, number(3, count)?), output)
+        }
+        ["client-lines", seed, count] => {
+            let mut inputs = Inputs::new(number(2, seed)?);
+            write((0..number(3, count)?).map(|_| inputs.line()), output)
+        }
+        ["client-values", seed, count] => {
+            let mut inputs = Inputs::new(number(2, seed)?);
+            write((0..number(3, count)?).map(|_| inputs.value()), output)
+        }
+        ["client-answers"] => done(client::answers(None, stdin().lock(), output)),
+        ["client-answers", row] => {
+            done(client::answers(Some(number(2, row)?), stdin().lock(), output))
+        }
+        _ => Err(format!("no such mode or wrong arguments: {}\n{USAGE}", words.join(" "))),
+    }
+}
+
+fn number(place: usize, word: &str) -> Result<u64, String> {
+    trace::number(place, word)
+}
+
+fn done(result: std::io::Result<()>) -> Outcome {
+    result.map_err(|fault| fault.to_string()).and(DONE)
+}
+
+fn counted((passed, failed): (usize, usize)) -> (usize, usize) {
+    println!("{passed} passed, {failed} failed");
+    (passed, failed)
+}
+
+fn plan(options: &[&str]) -> Result<Plan, String> {
+    let mut plan = Plan { fixed_seed: FIXED_SEED, new_seed: random::new_seed(), count: COUNT };
+    for (place, option) in options.chunks(2).enumerate() {
+        match *option {
+            ["--seed", seed] => plan.new_seed = number(2 * place + 3, seed)?,
+            ["--count", count] => plan.count = number(2 * place + 3, count)?,
+            ["--seed" | "--count"] => {
+                return Err(format!(
+                    "argument {} missing: {} needs a number",
+                    2 * place + 3,
+                    option[0]
+                ))
+            }
+            _ => {
+                return Err(format!(
+                    "argument {} '{}': unknown option\n{USAGE}",
+                    2 * place + 2,
+                    option[0]
+                ))
+            }
+        }
+    }
+    Ok(plan)
+}
+
+fn compare(plan: Plan) -> Outcome {
+    println!(
+        "fixed seed {}, new seed {} (repeat with --seed {})",
+        plan.fixed_seed, plan.new_seed, plan.new_seed
+    );
+    Ok(counted(compare::compare(&Proved, &Reference, &plan).print()))
+}
+
+fn write(texts: impl Iterator<Item = Vec<u8>>, mut output: impl Write) -> Outcome {
+    let all = || {
+        for text in texts {
+            output.write_all(&text)?;
+            output.write_all(b"\n")?;
+        }
+        output.flush()
+    };
+    done(all())
+}
+
+fn layout() {
+    println!(
+        "wall_graded {} answer {} level {}",
+        size_of::<Graded>(),
+        offset_of!(Graded, answer),
+        offset_of!(Graded, level)
+    );
+    println!(
+        "probe_number_result {} millionths {} found {}",
+        size_of::<NumberResult>(),
+        offset_of!(NumberResult, millionths),
+        offset_of!(NumberResult, found)
+    );
+    println!(
+        "probe_line_result {} found {} name_end {} value_start {}",
+        size_of::<LineResult>(),
+        offset_of!(LineResult, found),
+        offset_of!(LineResult, name_end),
+        offset_of!(LineResult, value_start)
+    );
+}

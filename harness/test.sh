@@ -1,0 +1,251 @@
+#!/usr/bin/env bash
+# Tests the C boundary: headers, client, trace and comparison.
+# Needs the built harness and client (build/cargo/release/harness, build/wall_screen).
+# Prints one line for each check and at the end 'N passed, M failed'.
+set -u
+cd "$(dirname "$0")/.." || exit 2
+
+harness=$PWD/build/cargo/release/harness
+client=$PWD/build/wall_screen
+warnings=(-Wall -Wextra -Werror -pedantic)
+for program in "$harness" "$client"; do
+    [ -x "$program" ] || { echo "$program is missing: build it first" >&2; exit 2; }
+done
+work=$(mktemp -d) || exit 2
+trap 'rm -rf "$work"' EXIT
+passed=0
+failed=0
+
+ok() {
+    passed=$((passed + 1))
+    echo "ok $1"
+}
+
+fail() {
+    failed=$((failed + 1))
+    echo "FAIL $1: $2"
+}
+
+# same NAME EXPECTED ACTUAL: two files are equal, and not empty.
+same() {
+    local difference
+    if [ ! -s "$2" ]; then
+        fail "$1" "nothing to compare"
+    elif difference=$(diff -a "$2" "$3" 2>&1); then
+        ok "$1"
+    else
+        fail "$1" "$(head -n 4 <<<"$difference" | tr '\n' ' ')"
+    fi
+}
+
+# runs NAME STATUS EXPECTED-OUT EXPECTED-ERR COMMAND..: exit status and both outputs, to the byte.
+runs() {
+    local name=$1 status=$2
+    printf %s "$3" >"$work/want.out"
+    printf %s "$4" >"$work/want.err"
+    shift 4
+    "$@" >"$work/out" 2>"$work/err"
+    local got=$?
+    if [ $got -ne "$status" ]; then
+        fail "$name" "exit $got, not $status"
+    elif ! cmp -s "$work/want.out" "$work/out"; then
+        fail "$name" "standard output is '$(tr '\0\n' '  ' <"$work/out" | head -c 200)'"
+    elif ! cmp -s "$work/want.err" "$work/err"; then
+        fail "$name" "standard error is '$(head -c 200 "$work/err")'"
+    else
+        ok "$name"
+    fi
+}
+
+# compiles NAME COMMAND..: the compiler takes it without a word.
+compiles() {
+    local name=$1 words
+    shift
+    if words=$("$@" 2>&1) && [ -z "$words" ]; then ok "$name"; else fail "$name" "$(head -n 1 <<<"$words")"; fi
+}
+
+headers() {
+    local source='#include "wall.h"
+#include "probe.h"
+#include "wall.h"
+#include "probe.h"
+uint8_t ask(const uint8_t *text);
+uint8_t ask(const uint8_t *text) { return (uint8_t)(wall_classify(text, 0) + probe_item(text, 0)); }'
+    echo "$source" >"$work/headers.c"
+    cp "$work/headers.c" "$work/headers.cc"
+    compiles "headers as C" gcc -std=c11 "${warnings[@]}" -Iinclude -Iharness -c "$work/headers.c" -o "$work/headers.o"
+    compiles "client without warnings" gcc -std=c11 -O2 "${warnings[@]}" -Iinclude -c client/wall_screen.c -o "$work/client.o"
+    if command -v g++ >/dev/null; then
+        compiles "headers as C++" g++ -std=c++17 "${warnings[@]}" -Iinclude -Iharness -c "$work/headers.cc" -o "$work/headers++.o"
+        nm -u "$work/headers++.o" | awk '{ print $2 }' | grep -E '^(wall|probe)_' >"$work/symbols"
+        printf 'probe_item\nwall_classify\n' >"$work/want"
+        same "C names from C++" "$work/want" "$work/symbols"
+    else
+        echo "skipped: headers as C++ (no g++)"
+    fi
+}
+
+layout() {
+    compiles "layout program" gcc -std=c11 "${warnings[@]}" -Iinclude -Iharness harness/layout.c -o "$work/layout"
+    "$work/layout" >"$work/want"
+    "$harness" layout >"$work/out"
+    same "struct sizes and offsets" "$work/want" "$work/out"
+}
+
+client_arguments() {
+    local no_row='not a row number (0 to 18446744073709551615)' word
+    runs "client: unknown option" 2 '' $'wall_screen: argument 1 \'--rwo\': unknown option\n' "$client" --rwo 6
+    runs "client: empty argument" 2 '' $'wall_screen: argument 1 \'\': unknown option\n' "$client" ''
+    runs "client: row missing" 2 '' $'wall_screen: argument 2 missing: --row needs a row number\n' "$client" --row
+    for word in x1 '' -6 +6 6.0 ' 6' 18446744073709551616 99999999999999999999; do
+        runs "client: row '$word'" 2 '' "wall_screen: argument 2 '$word': $no_row"$'\n' "$client" --row "$word"
+    done
+    runs "client: argument after row" 2 '' $'wall_screen: argument 3 \'7\': nothing may follow\n' "$client" --row 6 7
+    runs "client: argument after help" 2 '' $'wall_screen: argument 2 \'x\': nothing may follow\n' "$client" --help x
+    runs "client: help" 0 $'usage: wall_screen [--row ROW | --help]\n' '' bash -c '"$1" --help | head -n 1' - "$client"
+}
+
+client_streams() {
+    runs "client: empty input" 0 '' '' "$client" </dev/null
+    runs "client: no newline at the end" 0 $'0 3\n6\n' '' "$client" < <(printf '_refine_ls_R_factor_gt 0.16\n_a 1')
+    runs "client: a carriage return is a byte" 0 $'5\n' '' "$client" < <(printf '_refine_ls_R_factor_gt 0.16\r\n')
+    runs "client: NUL bytes" 0 $'5\n5\n0 3\n' '' "$client" < <(printf '\0\n_refine_ls_R_factor_gt 0.16\0\n_refine_ls_R_factor_gt 0.16\n')
+    runs "client: a line of a million bytes" 0 $'5\n6\n' '' "$client" < <(head -c 1000000 /dev/zero | tr '\0' x; printf '\n_a 1\n')
+    runs "client: largest row" 0 $'6 0\n' '' "$client" --row 18446744073709551615 < <(echo 0.3)
+    runs "client: input cannot be read" 1 '' $'wall_screen: standard input: Is a directory\n' env LC_ALL=C "$client" <.
+    if [ -c /dev/full ]; then
+        runs "client: output cannot be written" 1 '' $'wall_screen: standard output: No space left on device\n' \
+            env LC_ALL=C bash -c 'echo x | "$1" >/dev/full' - "$client"
+    fi
+}
+
+# client_agrees NAME FILE [ROW]: the client prints what the reference expects.
+client_agrees() {
+    "$harness" client-answers ${3+"$3"} <"$2" >"$work/want"
+    "$client" ${3+--row "$3"} <"$2" >"$work/out"
+    same "$1" "$work/want" "$work/out"
+}
+
+client_generated() {
+    local row
+    "$harness" client-lines 11 5000 >"$work/lines"
+    client_agrees "client: 5000 generated lines" "$work/lines"
+    head -c -1 "$work/lines" >"$work/open_end"
+    client_agrees "client: the same without the last newline" "$work/open_end"
+    "$harness" client-values 12 5000 >"$work/values"
+    for row in 6 8 10 7 262; do
+        client_agrees "client: 5000 generated values, row $row" "$work/values" "$row"
+    done
+}
+
+# trace_table NAME: 'COMMAND|ANSWER' lines from standard input, held against the proved library.
+trace_table() {
+    tee "$work/table" | cut -d'|' -f1 | "$harness" trace >"$work/out"
+    cut -d'|' -f2 "$work/table" >"$work/want"
+    same "$1" "$work/want" "$work/out"
+}
+
+# Makes 'COMMAND|HEX OF TEXT|ANSWER' from 'COMMAND|TEXT|ANSWER'.
+in_hex() {
+    local command text answer hex
+    while IFS='|' read -r command text answer; do
+        hex=$(printf %s "$text" | od -An -v -tx1 | tr -d ' \n')
+        echo "$command ${hex:--}|$answer"
+    done
+}
+
+trace_examples() {
+    in_hex <<'END' | trace_table "trace: examples of document 01"
+grade 6|0.16|0 3
+grade 6|0.20|0 3
+grade 6|0.200001|0 4
+grade 6|0.3|0 4
+grade 8|0.2|0 0
+grade 10|-0.05|0 0
+grade 10|-0.06|0 2
+grade 6|?|7 0
+grade 6|.|7 0
+grade 6|'0.3'|7 0
+grade 6||7 0
+grade 7|0.3|6 0
+grade 7|?|6 0
+line|_refine_ls_R_factor_gt 0.16|0
+line|_refine_ls_wR_factor_obs 0.2|0
+line|_chemical_formula_sum 'C18 H19 N7 O8 S'|0
+line|_reflns_threshold_expression 'F^2^ > 6\s(F^2^)'|0
+line|_chemical_formula_sum ''|0
+line||5
+line|_refine_ls_R_factor_gt|5
+line|_refine_ls_R_factor_gt LOOP_|5
+line|_refine_ls_R_factor 0.16|6
+line|_refine_ls_R_factor_gt '?'|7
+line|_chemical_formula_weight 1234567890|7
+END
+}
+
+trace_malformed() {
+    trace_table "trace: one line for every command" <<'END'
+line -|5
+line|error: argument 1 missing: HEX
+line 0|error: argument 1 '0': an odd number of hexadecimal digits
+line 0g|error: argument 1 '0g': 'g' is not a hexadecimal digit
+line - 5|error: argument 2 '5': nothing may follow
+grade|error: argument 1 missing: ROW
+grade 6|error: argument 2 missing: HEX
+grade 6 zz|error: argument 2 'zz': 'z' is not a hexadecimal digit
+grade x 30|error: argument 1 'x': not a number of 0 to 18446744073709551615
+grade +6 30|error: argument 1 '+6': not a number of 0 to 18446744073709551615
+grade 18446744073709551616 30|error: argument 1 '18446744073709551616': not a number of 0 to 18446744073709551615
+grade 18446744073709551615 30|6 0
+|none
+LINE -|none
+new 4096 1|none
+k 0 10|none
+dump|none
+END
+}
+
+trace_generated() {
+    "$harness" trace-commands 13 5000 >"$work/commands"
+    "$harness" reference-trace <"$work/commands" >"$work/want"
+    "$harness" trace <"$work/commands" >"$work/answers"
+    same "trace: 5000 generated commands" "$work/want" "$work/answers"
+    runs "trace: as many answers as commands" 0 $'5000\n' '' grep -c '' "$work/answers"
+    runs "trace: last command without newline" 0 $'none\n5\n' '' "$harness" trace < <(printf '\xff\nline -')
+    runs "tools/trace from another folder" 0 $'5\n0 3\n' '' \
+        bash -c 'cd "$1" && "$2/tools/trace" more words 2>/dev/null' - "$work" "$PWD" < <(printf 'line -\ngrade 6 302e3230\n')
+}
+
+# summary NAME COMMAND..: ends with 'N passed, 0 failed', N not 0.
+summary() {
+    local name=$1
+    shift
+    "$@" >"$work/out" 2>&1
+    local status=$? last
+    last=$(tail -n 1 "$work/out")
+    if [ $status -eq 0 ] && [[ $last =~ ^[1-9][0-9]*\ passed,\ 0\ failed$ ]]; then
+        ok "$name ($last)"
+    else
+        cat "$work/out"
+        fail "$name" "exit $status, $last"
+    fi
+}
+
+comparison() {
+    summary "self-check of the comparison" "$harness" self-check
+    summary "comparison with the reference" "$harness" compare
+    grep -a 'new seed' "$work/out" | head -n 1
+}
+
+headers
+layout
+runs "client: sample" 0 "$(cat client/sample.out)"$'\n' '' "$client" <client/sample.txt
+client_arguments
+client_streams
+client_generated
+trace_examples
+trace_malformed
+trace_generated
+comparison
+echo "$passed passed, $failed failed"
+[ $failed -eq 0 ]

@@ -1,0 +1,114 @@
+//! Numbers: document 01, "A line, a number", second paragraph.
+
+use crate::cut;
+use std::iter::repeat;
+
+/// "1 to 9 digits before any bracket": on both sides of the point together.
+pub const DIGITS: usize = 9;
+/// "at most 6 after it"
+pub const PLACES: usize = 6;
+/// "1 to 4 digits of uncertainty in round brackets"
+pub const UNCERTAINTY_DIGITS: usize = 4;
+
+/// The number in millionths, or that there is none. The uncertainty is read and left out.
+pub fn number(text: &[u8]) -> Option<i64> {
+    let (sign, unsigned) = match text {
+        [b'+', rest @ ..] => (1, rest),
+        [b'-', rest @ ..] => (-1, rest),
+        _ => (1, text),
+    };
+    let digits = without_uncertainty(unsigned)?;
+    let (whole, fraction) = match cut(digits, b'.') {
+        None => (digits, &digits[..0]),
+        // "an optional point with at least one digit on each side"
+        Some((whole, fraction)) if !whole.is_empty() && !fraction.is_empty() => (whole, fraction),
+        Some(_) => return None,
+    };
+    let well_formed = all_digits(whole)
+        && all_digits(fraction)
+        && (1..=DIGITS).contains(&(whole.len() + fraction.len()))
+        && fraction.len() <= PLACES;
+    well_formed.then(|| sign * millionths(whole, fraction))
+}
+
+/// What stands before the brackets; none where the brackets are wrong.
+fn without_uncertainty(text: &[u8]) -> Option<&[u8]> {
+    let Some((digits, rest)) = cut(text, b'(') else {
+        return Some(text);
+    };
+    let uncertainty = rest.strip_suffix(b")")?;
+    let fits = all_digits(uncertainty) && (1..=UNCERTAINTY_DIGITS).contains(&uncertainty.len());
+    fits.then_some(digits)
+}
+
+fn all_digits(text: &[u8]) -> bool {
+    text.iter().all(u8::is_ascii_digit)
+}
+
+/// The digits read as one whole number after filling the fraction up to six places.
+fn millionths(whole: &[u8], fraction: &[u8]) -> i64 {
+    let places = fraction.iter().chain(repeat(&b'0')).take(PLACES);
+    whole.iter().chain(places).fold(0, |sum, &digit| 10 * sum + i64::from(digit - b'0'))
+}
+
+#[cfg(test)]
+mod tests {
+    use super::number;
+
+    fn reads(text: &str, millionths: i64) {
+        assert_eq!(number(text.as_bytes()), Some(millionths), "{text}");
+    }
+
+    fn none(texts: &[&str]) {
+        for text in texts {
+            assert_eq!(number(text.as_bytes()), None, "{text}");
+        }
+    }
+
+    #[test]
+    fn signs_points_and_places() {
+        reads("0", 0);
+        reads("-0", 0);
+        reads("0.20", 200_000);
+        reads("0.200001", 200_001);
+        reads("-0.05", -50_000);
+        reads("+138.8673", 138_867_300);
+        none(&["", "+", "-", "+-1", "--1", "1-", "1+1", "1e5", "1,5", " 1", "1 "]);
+    }
+
+    #[test]
+    fn digits_on_each_side_of_the_point() {
+        none(&[".", "-.", ".5", "5.", "+.5", "-5.", "1..2", "1.2.3", ".5(3)", "45.(3)"]);
+    }
+
+    #[test]
+    fn nine_digits_in_all() {
+        reads("999999999", 999_999_999_000_000);
+        reads("-999999999", -999_999_999_000_000);
+        reads("000000001", 1_000_000);
+        reads("999.999999", 999_999_999);
+        reads("12345678.9(9999)", 12_345_678_900_000);
+        none(&["1234567890", "0000000001", "1234.567890", "123456789.0"]);
+    }
+
+    #[test]
+    fn six_places() {
+        reads("0.000001", 1);
+        reads("-0.000001", -1);
+        none(&["0.0000001", "0.1000000"]);
+    }
+
+    #[test]
+    fn uncertainty() {
+        reads("1(1)", 1_000_000);
+        reads("1.5(0)", 1_500_000);
+        reads("0.16(1234)", 160_000);
+        none(&["1()", "1(12345)", "1(1", "1)", "1(", "(1)", "-(1)", "1(1)2", "1(1)(1)", "1((1))"]);
+        none(&["1(-1)", "1(1.0)", "1 (1)", "1(1) ", "1()1)"]);
+    }
+
+    #[test]
+    fn a_number_is_bare() {
+        none(&["'1'", "\"1\"", "?", "."]);
+    }
+}
