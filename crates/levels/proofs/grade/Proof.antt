@@ -1,0 +1,67 @@
+-- `levels::grade` meets its contract: the three comparisons are those of `gradeOf`.
+-- Assumes nothing.
+use mathlib.Core.Path.{_≡_, sym, _∙_, ap}
+use Rattle.levels.specs.Bounds.{gradeOf}
+use Rattle.decimal.proofs.Signs.{back, small-fits}
+use borrow.Author.Needs.{needs}
+use Rattle.levels.proofs.grade.Statement.{statement}
+use Rattle.levels.proofs.grade.Tie as tie
+
+judged-requires : tie.Need-judged-requires
+judged-requires c κs = search needs
+
+mul-bound : tie.Need-mul-bound
+mul-bound c = search needs
+
+bound-requires : tie.Need-bound-requires
+bound-requires c κs = search needs
+
+mul-bound-2 : tie.Need-mul-bound-2
+mul-bound-2 c = search needs
+
+add-bound : tie.Need-add-bound
+add-bound c = search needs
+
+bound-requires-2 : tie.Need-bound-requires-2
+bound-requires-2 c κs = search needs
+
+mul-bound-3 : tie.Need-mul-bound-3
+mul-bound-3 c = search needs
+
+add-bound-2 : tie.Need-add-bound-2
+add-bound-2 c = search needs
+
+bound-requires-3 : tie.Need-bound-requires-3
+bound-requires-3 c κs = search needs
+
+level-requires : tie.Need-level-requires
+level-requires c κs = search needs
+
+returns : tie.Need-returns
+unfolding gradeOf
+returns c =
+    let j = c .before .before .before .before in
+    let b = c .before .before .before .bound in
+    let b2 = c .before .before .bound2 in
+    let b3 = c .before .bound3 in
+    let z = j .judged in
+    let s = j .before in
+    c .level .ensures
+    ∙ cc
+    (back (b .result) (record { sfits = b .ok }), back (b2 .result) (record { sfits = b2 .ok }), back (b3 .result) (record { sfits = b3 .ok }), back (z .result) (record { sfits = z .ok }), back (s .args .v) (s .fits .v), z .ensures, b .ensures, b2 .ensures, b3 .ensures)
+
+pub grade-spec : {M : Type 1} → statement M
+grade-spec =
+    tie.close
+    (tie.spec
+    judged-requires
+    mul-bound
+    bound-requires
+    mul-bound-2
+    add-bound
+    bound-requires-2
+    mul-bound-3
+    add-bound-2
+    bound-requires-3
+    level-requires
+    returns)

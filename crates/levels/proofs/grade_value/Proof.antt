@@ -1,0 +1,95 @@
+-- `levels::grade_value` meets its contract: the row's place, then the number.
+-- Assumes nothing.
+use native.Mathlib.Omega.{arith}
+use mathlib.Core.Path.{_≡_, sym, _∙_, ap, subst}
+use Prim.Native.Nat.{_<_, _^_}
+use lib.IntN.{ℤ}
+use lib.Signed.{mag}
+use mir.Syntax.{w64}
+use mir.Val.{toZ, ofZ}
+use Rattle.decimal.specs.Reading.{readingOf}
+use Rattle.decimal.specs.declared.Reading.the-variants.{Number}
+use Rattle.decimal.proofs.Small.{number-small}
+use Rattle.levels.specs.Bounds.{placeOf, gradeOf, readGrade, placedGrade, gradedOf}
+use Rattle.levels.specs.declared.Place.{Place}
+use Rattle.levels.specs.declared.Place.the-variants.{At}
+use Rattle.levels.specs.declared.Graded.the-variants.{Level}
+use Rattle.decimal.proofs.Signs.{back, small-fits}
+use Rattle.levels.proofs.Levels.{place-small}
+use borrow.Author.Needs.{needs}
+use Rattle.levels.proofs.grade_value.Statement.{statement}
+use Rattle.levels.proofs.grade_value.Tie as tie
+
+placed : (c : tie.After-place) → placeOf (c .before .before .before .before .args .row) ≡ At (c .place .given .0 .0)
+placed c = sym (c .before .before .place-of .ensures) ∙ c .place .given .1
+
+-- the value is graded at the row's place
+graded : (c : tie.After-place) → let s = c .before .before .before .before in gradedOf (s .args .row) (s .args .typed .now) ≡ readGrade (c .place .given .0 .0) (readingOf (s .args .typed .now))
+unfolding gradedOf
+graded c = ap (λ (p : Place). placedGrade p (c .before .before .before .before .args .typed .now)) (placed c)
+
+read : (c : tie.After-v) → readingOf (c .before .before .before .before .before .before .before .before .args .typed .now) ≡ Number (c .v .given .0 .0)
+read c = sym (c .before .before .read-number .ensures) ∙ c .v .given .1
+
+small : (c : tie.After-v) → mag (c .v .given .0 .0) < 2 ^ 62
+small c = let h = number-small _ _ (read c) in omega arith
+
+place-of-requires : tie.Need-place-of-requires
+place-of-requires c κs = search needs
+
+enum-known-place : tie.Need-enum-known-place
+enum-known-place c = search needs
+
+enum-told : tie.Need-enum-told
+enum-told c = search needs
+
+returns : tie.Need-returns
+unfolding gradedOf
+returns c =
+    let s = c .before .before .before .before in
+    sym (ap (λ (p : Place). placedGrade p (s .args .typed .now)) (sym (c .before .before .place-of .ensures) ∙ c .enum-told .given .1))
+
+read-number-requires : tie.Need-read-number-requires
+read-number-requires c κs = search needs
+
+enum-known-v : tie.Need-enum-known-v
+enum-known-v c = search needs
+
+enum-told-2 : tie.Need-enum-told-2
+enum-told-2 c = search needs
+
+returns-2 : tie.Need-returns-2
+returns-2 c =
+    let r = c .before .before in
+    let p = r .before .before in
+    sym (graded p ∙ ap (readGrade _) (sym (r .read-number .ensures) ∙ c .enum-told2 .given .1))
+
+grade-requires : tie.Need-grade-requires
+grade-requires c κs =
+    let v = c .before in
+    let p = v .before .before .before .before in
+    let z = v .v .given .0 .0 in
+    (place-small (p .before .before .before .before .args .row) _ (placed p), subst (λ (z : ℤ). mag z < 2 ^ 62) (sym (back z (small-fits z (small v)))) (small v))
+
+returns-3 : tie.Need-returns-3
+returns-3 c =
+    let v = c .before .before in
+    let p = v .before .before .before .before in
+    let k = p .place .given .0 .0 in
+    let z = v .v .given .0 .0 in
+    ap Level (c .grade .ensures ∙ ap (gradeOf k) (back z (small-fits z (small v)))) ∙ sym (graded p ∙ ap (readGrade k) (read v))
+
+pub grade-value-spec : {M : Type 1} → statement M
+grade-value-spec =
+    tie.close
+    (tie.spec
+    place-of-requires
+    enum-known-place
+    enum-told
+    returns
+    read-number-requires
+    enum-known-v
+    enum-told-2
+    returns-2
+    grade-requires
+    returns-3)

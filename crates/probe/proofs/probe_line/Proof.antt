@@ -1,0 +1,26 @@
+-- `probe::probe_line` meets its contract: the line is split or not.
+-- Assumes nothing.
+use mathlib.Core.Path.{sym, _∙_, ap}
+use Rattle.probe.specs.Probe.{lineTold}
+use borrow.Author.Needs.{needs}
+use Rattle.probe.proofs.probe_line.Statement.{statement}
+use Rattle.probe.proofs.probe_line.Tie as tie
+
+split-line-requires : tie.Need-split-line-requires
+split-line-requires c κs = search needs
+
+enum-known-name : tie.Need-enum-known-name
+enum-known-name c = search needs
+
+enum-told : tie.Need-enum-told
+enum-told c = search needs
+
+returns : tie.Need-returns
+returns c = sym (ap lineTold (sym (c .before .before .split-line .ensures) ∙ c .enum-told .given .1))
+
+returns-2 : tie.Need-returns-2
+returns-2 c = sym (ap lineTold (sym (c .before .before .before .split-line .ensures) ∙ c .before .name .given .1))
+
+pub probe-line-spec : {M : Type 1} → statement M
+probe-line-spec =
+    tie.close (tie.spec split-line-requires enum-known-name enum-told returns returns-2)

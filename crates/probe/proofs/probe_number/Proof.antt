@@ -1,0 +1,43 @@
+-- `probe::probe_number` meets its contract: the number is found or not.
+-- Assumes nothing.
+use native.Mathlib.Omega.{arith}
+use mathlib.Core.Path.{_≡_, sym, _∙_, ap}
+use Prim.Native.Nat.{ℕ, _<_, _^_}
+use lib.IntN.{ℤ}
+use mir.Syntax.{w64}
+use mir.Val.{toZ, ofZ}
+use Rattle.decimal.specs.Reading.{readingOf}
+use Rattle.decimal.specs.declared.Reading.the-variants.{Number}
+use Rattle.decimal.proofs.Small.{number-small}
+use Rattle.decimal.proofs.Signs.{back, small-fits}
+use Rattle.probe.specs.Probe.{numberTold}
+use Rattle.probe.specs.declared.ProbeNumber.{ProbeNumber}
+use borrow.Author.Needs.{needs}
+use Rattle.probe.proofs.probe_number.Statement.{statement}
+use Rattle.probe.proofs.probe_number.Tie as tie
+
+told : {y z : ℤ} → y ≡ z → _≡_ {A = ProbeNumber} (record { millionths = y; found = 1 }) (record { millionths = z; found = 1 })
+told e = λ i. record { millionths = e i; found = 1 }
+
+read-number-requires : tie.Need-read-number-requires
+read-number-requires c κs = search needs
+
+enum-known-millionths : tie.Need-enum-known-millionths
+enum-known-millionths c = search needs
+
+enum-told : tie.Need-enum-told
+enum-told c = search needs
+
+returns : tie.Need-returns
+returns c = sym (ap numberTold (sym (c .before .before .read-number .ensures) ∙ c .enum-told .given .1))
+
+returns-2 : tie.Need-returns-2
+returns-2 c =
+    let k = c .before in
+    let z = k .millionths .given .0 .0 in
+    let read : readingOf (k .before .before .before .before .args .t .now) ≡ Number z = sym (k .before .before .read-number .ensures) ∙ k .millionths .given .1 in
+    told (back z (small-fits z (let h = number-small _ _ read in omega arith))) ∙ sym (ap numberTold read)
+
+pub probe-number-spec : {M : Type 1} → statement M
+probe-number-spec =
+    tie.close (tie.spec read-number-requires enum-known-millionths enum-told returns returns-2)

@@ -1,0 +1,52 @@
+-- `probe::probe_value` meets its contract: each return has the tests of `formTold` on its way.
+-- Assumes nothing.
+use mathlib.Core.Path.{sym, _∙_}
+use Rattle.probe.specs.Probe.{formTold}
+use borrow.Author.Needs.{needs}
+use Rattle.probe.proofs.probe_value.Statement.{statement}
+use Rattle.probe.proofs.probe_value.Tie as tie
+
+is-unassigned-requires : tie.Need-is-unassigned-requires
+is-unassigned-requires c κs = search needs
+
+returns : tie.Need-returns
+unfolding formTold
+returns c = simp (sym (c .before .is-unassigned .ensures) ∙ c .if1 .taken)
+
+is-quoted-requires : tie.Need-is-quoted-requires
+is-quoted-requires c κs = search needs
+
+returns-2 : tie.Need-returns-2
+unfolding formTold
+returns-2 c =
+    let k = c .before .before in
+    simp (sym (k .before .is-unassigned .ensures) ∙ k .if1 .left, sym (c .before .is-quoted .ensures) ∙ c .if2 .taken)
+
+is-value-requires : tie.Need-is-value-requires
+is-value-requires c κs = search needs
+
+returns-3 : tie.Need-returns-3
+unfolding formTold
+returns-3 c =
+    let q = c .before .before in
+    let k = q .before .before in
+    simp (sym (k .before .is-unassigned .ensures) ∙ k .if1 .left, sym (q .before .is-quoted .ensures) ∙ q .if2 .left, sym (c .before .is-value .ensures) ∙ c .if3 .taken)
+
+returns-4 : tie.Need-returns-4
+unfolding formTold
+returns-4 c =
+    let q = c .before .before in
+    let k = q .before .before in
+    simp (sym (k .before .is-unassigned .ensures) ∙ k .if1 .left, sym (q .before .is-quoted .ensures) ∙ q .if2 .left, sym (c .before .is-value .ensures) ∙ c .if3 .left)
+
+pub probe-value-spec : {M : Type 1} → statement M
+probe-value-spec =
+    tie.close
+    (tie.spec
+    is-unassigned-requires
+    returns
+    is-quoted-requires
+    returns-2
+    is-value-requires
+    returns-3
+    returns-4)

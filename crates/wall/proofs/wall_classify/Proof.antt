@@ -1,0 +1,19 @@
+-- `wall::wall_classify` meets its contract: the number of what the line is.
+-- Assumes nothing.
+use mathlib.Core.Path.{_∙_, ap}
+use Rattle.cif.specs.Line.{classNumber}
+use borrow.Author.Needs.{needs}
+use Rattle.wall.proofs.wall_classify.Statement.{statement}
+use Rattle.wall.proofs.wall_classify.Tie as tie
+
+classify-requires : tie.Need-classify-requires
+classify-requires c κs = search needs
+
+class-number-requires : tie.Need-class-number-requires
+class-number-requires c κs = search needs
+
+returns : tie.Need-returns
+returns c = c .class-number .ensures ∙ ap classNumber (c .before .classify .ensures)
+
+pub wall-classify-spec : {M : Type 1} → statement M
+wall-classify-spec = tie.close (tie.spec classify-requires class-number-requires returns)

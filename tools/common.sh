@@ -1,0 +1,33 @@
+# Sourced by the tools: finds the toolchain and builds what is missing or older than its sources.
+cd "$(dirname "${BASH_SOURCE[0]}")/.." || exit 2
+PATH=$PATH:/opt/rattle/bin
+export CARGO_TARGET_DIR=$PWD/build/cargo
+
+# The proved libraries that C and Rust link.
+archives=(wall probe)
+
+# stale ARCHIVE: it is missing, or crates.txt or some file under crates/ is newer.
+stale() {
+    [ ! -e "$1" ] || [ -n "$(find crates crates.txt -type f -newer "$1" -print -quit)" ]
+}
+
+# The proved static libraries, in target/staticlib, or those of the folder PROVED_LIBS as they are.
+build_archives() {
+    local name
+    [ -z "${PROVED_LIBS-}" ] || return 0
+    for name in "${archives[@]}"; do
+        if stale "target/staticlib/lib$name.a"; then rt staticlib "$name" || return 1; fi
+    done
+}
+
+# The comparison program.
+build_harness() {
+    cargo build --release --offline --quiet --manifest-path harness/Cargo.toml
+}
+
+# The C client of the wall screen.
+build_client() {
+    mkdir -p build
+    gcc -std=c11 -O2 -Wall -Wextra -Werror -pedantic -Iinclude client/wall_screen.c \
+        "${PROVED_LIBS:-target/staticlib}/libwall.a" -o build/wall_screen
+}
