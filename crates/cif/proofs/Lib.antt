@@ -2,3 +2,4 @@ pub mod NameTable
 pub mod KindTable
 pub mod Quotes
 pub mod Splits
+pub mod Passes

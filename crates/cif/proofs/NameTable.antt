@@ -74,3 +74,14 @@ find-at s k t h e =
 pub find-end : (s : List ℕ) (n k : ℕ) → itemCount ≤ k → findFrom n (drop k items) s ≡ Unknown
 unfolding findFrom
 find-end s n k h = let l : length items ≤ k = omega (arith, items-length) in rw (drop-of-length-le items l)
+
+size : ℕ → ℕ
+size k = getD starts (k + 1) 0 - getD starts k 0
+
+name-size : ℕ → ℕ
+name-size k = length (rowOf (k + 1) .name)
+
+-- the length of a name is the distance of its start from the next
+pub name-length : (k : ℕ) → k < itemCount → getD starts (k + 1) 0 - getD starts k 0 ≡ length (rowOf (k + 1) .name)
+unfolding size name-size starts items
+name-length k h = sym (entry size 0 itemCount k h) ∙ entry name-size 0 itemCount k h

@@ -1,3 +1,4 @@
 pub mod Value
 pub mod Items
 pub mod Line
+pub mod Fits

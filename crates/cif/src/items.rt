@@ -3,7 +3,11 @@ ghost use mathlib.Core.Path.{_≡_};
 ghost use Prim.Native.Nat.{_≤_, _<_, _+_};
 ghost use lib.ListN.{length, take, drop};
 ghost use Rattle.text.specs.Same.{sameFolded};
+ghost use Rattle.cif.specs.Fits.{fits};
 ghost use Rattle.cif.specs.Items.{itemCount, rowOf, itemOf, isCategory, ofKind, passes};
+use crate::line::FIRST_TYPED;
+use crate::line::LAST_TYPED;
+use crate::line::LINE_MOST;
 
 // What a value must be.
 pub enum Kind {
@@ -119,4 +123,28 @@ pub fn passes_kind(item: usize, v: &[u8]) -> bool
         return true;
     }
     is_of_kind(kind_at(item - 1), v)
+}
+
+// The length of the name of item k + 1.
+fn name_length(k: usize) -> usize
+    requires { ⌜ k < itemCount ⌝ }
+    ensures { λ r. ⌜ (r ≡ length (rowOf (k + 1) .name)) × (r ≤ 237) ⌝ }
+{
+    STARTS[k + 1] - STARTS[k]
+}
+
+// Whether an item can hold the value v: form, bytes, kind, and the length of its line.
+pub fn fits_item(item: usize, v: &[u8]) -> bool
+    ensures { λ r. ⌜ r ≡ fits item (now (v .entry)) ⌝ }
+{
+    if !passes_kind(item, v) {
+        return false;
+    }
+    if !crate::value::is_value(v) {
+        return false;
+    }
+    if !text::all_between(v, FIRST_TYPED, LAST_TYPED) {
+        return false;
+    }
+    name_length(item - 1) + 1 + v.len() <= LINE_MOST
 }
