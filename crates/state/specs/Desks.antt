@@ -1,0 +1,43 @@
+-- The desk: "Four benches, 0 to 3, each with one unfinished line", and one sheet (document 01, "What the desk holds").
+-- Assumes nothing.
+use Prim.Native.Nat.{ℕ}
+use mathlib.Core.List.{List, []}
+use lib.ListN.{getD, set, replicate}
+use Rattle.state.specs.Lines.{emptyLine}
+use Rattle.state.specs.Sheets.{emptySheet}
+use Rattle.state.specs.declared.line.Line.{Line}
+use Rattle.state.specs.declared.sheet.Sheet.{Sheet}
+use Rattle.state.specs.declared.desk.Desk.{Desk}
+use Rattle.state.specs.declared.answer.Answer.{Answer}
+use Rattle.state.specs.declared.answer.Answer.the-variants.{Accepted, NoBench, Unsound, NoKey, LineFull, BadForm, UnknownName, WrongKind, NoRoom}
+
+abbrev pub benchCount : ℕ
+benchCount = 4
+
+-- what the logic reads past the end of an array of lines
+abbrev pub noLine : Line
+noLine = record { bytes = []; len = 0 }
+
+-- the line of a bench
+abbrev pub lineAt : Desk → ℕ → Line
+lineAt d bench = getD (d .lines) bench noLine
+
+-- the desk with another line for a bench
+abbrev pub withLine : Desk → ℕ → Line → Desk
+withLine d bench l = record { lines = set (d .lines) bench l; sheet = d .sheet }
+
+-- "A fresh desk has all of this empty"
+abbrev pub freshDesk : Desk
+freshDesk = record { lines = replicate benchCount emptyLine; sheet = emptySheet }
+
+-- the numbers of "Keys and their refusals"
+abbrev pub answerNumber : Answer → ℕ
+answerNumber Accepted = 0
+answerNumber NoBench = 1
+answerNumber Unsound = 2
+answerNumber NoKey = 3
+answerNumber LineFull = 4
+answerNumber BadForm = 5
+answerNumber UnknownName = 6
+answerNumber WrongKind = 7
+answerNumber NoRoom = 8

@@ -1,0 +1,4 @@
+pub mod Lines
+pub mod Sheets
+pub mod Desks
+pub mod Sound

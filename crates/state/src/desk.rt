@@ -1,0 +1,25 @@
+// The desk: four benches with a line each, and one sheet.
+ghost use mathlib.Core.Path.{_≡_};
+ghost use Rattle.state.specs.Desks.{freshDesk};
+use crate::line::Line;
+use crate::sheet::Sheet;
+
+pub const BENCH_COUNT: usize = 4;
+
+#[repr(C)]
+pub struct Desk {
+    pub lines: [Line; BENCH_COUNT],
+    pub sheet: Sheet,
+}
+
+// A fresh desk.
+pub fn fresh_desk() -> Desk
+    ensures { λ r. ⌜ r ≡ freshDesk ⌝ }
+{
+    let line = crate::line::empty_line();
+    let sheet = crate::sheet::empty_sheet();
+    Desk {
+        lines: [line; BENCH_COUNT],
+        sheet,
+    }
+}

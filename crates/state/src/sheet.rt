@@ -1,0 +1,36 @@
+// The sheet: ten items and the count of accepted entries.
+ghost use mathlib.Core.Path.{_≡_};
+ghost use Rattle.state.specs.Sheets.{emptySheet};
+use cif::items::ITEM_COUNT;
+use cif::line::LINE_MOST;
+
+// A value as typed, of which the first len bytes count, its entry number and its bench. An empty item is zero.
+#[repr(C)]
+pub struct Item {
+    pub value: [u8; LINE_MOST],
+    pub len: usize,
+    pub entry: usize,
+    pub bench: u8,
+}
+
+#[repr(C)]
+pub struct Sheet {
+    pub items: [Item; ITEM_COUNT],
+    pub count: usize,
+}
+
+// A sheet with nothing on it.
+pub fn empty_sheet() -> Sheet
+    ensures { λ r. ⌜ r ≡ emptySheet ⌝ }
+{
+    let item = Item {
+        value: [0u8; LINE_MOST],
+        len: 0,
+        entry: 0,
+        bench: 0,
+    };
+    Sheet {
+        items: [item; ITEM_COUNT],
+        count: 0,
+    }
+}
