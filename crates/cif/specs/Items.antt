@@ -1,13 +1,14 @@
 -- The ten items, their names and kinds (document 01, "What the desk holds"), and which values an item takes.
 -- Assumes nothing.
-use Prim.Native.Nat.{ℕ, suc, _-_}
+use Prim.Native.Nat.{ℕ, suc, _-_, _≤_}
 use Prim.Native.String.{String}
+use mathlib.Core.Path.{_≡_}
 use mathlib.Core.Bool.{Bool, true, cond, _&&_, _||_}
-use mathlib.Core.List.{List, [], _∷_}
+use mathlib.Core.List.{List, [], _∷_, map}
 use lib.Dec.{leb}
 use lib.ListN.{length, getD}
 use Rattle.text.specs.Quote.{bytes}
-use Rattle.text.specs.Same.{exact, sameBy, sameFolded}
+use Rattle.text.specs.Same.{lower, exact, sameBy, sameFolded}
 use Rattle.decimal.specs.Reading.{isNumber}
 use Rattle.cif.specs.Value.{isUnassigned, textOf}
 use Rattle.cif.specs.declared.items.Kind.{Kind}
@@ -57,6 +58,12 @@ findFrom n (r ∷ rs) s = cond (sameFolded s (r .name)) (Item n) (findFrom (suc 
 -- the item of a name
 abbrev pub itemOf : List ℕ → Named
 itemOf s = findFrom 1 items s
+
+-- the text s is the name of item k, "without regard to the case of A to Z"
+pub record IsName (s : List ℕ) (k : ℕ) : Type 0 where
+  pub first : 1 ≤ k
+  pub last : k ≤ itemCount
+  pub same : map lower s ≡ map lower (rowOf k .name)
 
 -- "A category is FI, CI, FM, CM, FO or CO, bare or quoted, capitals only"
 unfoldable pub isCategory : List ℕ → Bool

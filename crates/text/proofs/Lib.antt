@@ -1,4 +1,5 @@
 pub mod Bools
+pub mod Copies
 pub mod Parts
 pub mod Runs
 pub mod Sames

@@ -8,7 +8,7 @@ use native.Mathlib.Numerals.{add-one}
 use native.Mathlib.Omega.{arith}
 use borrow.Author.Tests.{lt-ltb, ltb-true, eq-eqb, ne-eqb, eqb-true}
 use lib.Dec.{ltb, eqb, eqb·suc-suc, eqb·zero-suc}
-use lib.ListN.{length, getD, take, drop, drop-of-length-le, length-append}
+use lib.ListN.{length, getD, take, drop, replicate, drop-of-length-le, length-append, take-append-drop}
 use lib.Seq.{drop-cons, length-take-le, getD-append-seam}
 use Rattle.text.specs.Run.{runOf, all, hasAt}
 use Rattle.text.proofs.Bools.{and-both}
@@ -97,3 +97,28 @@ has-within s at b e = ltb-true _ _ (and-both (ltb at (length s)) _ e .0)
 pub has-byte : (s : List ℕ) (at b : ℕ) → hasAt s at b ≡ true → getD s at 0 ≡ b
 unfolding hasAt
 has-byte s at b e = eqb-true (getD s at 0) b (and-both (ltb at (length s)) _ e .1)
+
+-- `all`, of two texts together and of a text's parts
+pub all-append : (p : ℕ → Bool) (a b : List ℕ) → all p a ≡ true → all p b ≡ true → all p (a ++ b) ≡ true
+unfolding all
+all-append p [] b h k = k
+all-append p (x ∷ xs) b h k = let s = and-both (p x) (all p xs) h in rw (s .0) (all-append p xs b (s .1) k)
+
+pub all-both : (p : ℕ → Bool) (a b : List ℕ) → all p (a ++ b) ≡ true → (all p a ≡ true) × (all p b ≡ true)
+unfolding all
+all-both p [] b h = (refl, h)
+all-both p (x ∷ xs) b h =
+    let s = and-both (p x) (all p (xs ++ b)) h in
+    let r = all-both p xs b (s .1) in
+    (rw (s .0, r .0), r .1)
+
+pub all-take : (p : ℕ → Bool) (n : ℕ) (s : List ℕ) → all p s ≡ true → all p (take n s) ≡ true
+all-take p n s h = all-both p (take n s) (drop n s) (rw take-append-drop h) .0
+
+pub all-drop : (p : ℕ → Bool) (n : ℕ) (s : List ℕ) → all p s ≡ true → all p (drop n s) ≡ true
+all-drop p n s h = all-both p (take n s) (drop n s) (rw take-append-drop h) .1
+
+pub all-replicate : (p : ℕ → Bool) (n b : ℕ) → p b ≡ true → all p (replicate n b) ≡ true
+unfolding all
+all-replicate p zero b h = refl
+all-replicate p (suc n) b h = rw h (all-replicate p n b h)

@@ -1,3 +1,4 @@
 pub mod Quote
 pub mod Run
 pub mod Same
+pub mod Copy

@@ -1,8 +1,10 @@
 // Runs of bytes and comparison of texts. No rule of document 01 is here.
 // A client cites Run (runOf, all, between, other, hasAt) and Same (sameBy, sameFolded, beginsFolded).
 ghost use mathlib.Core.Path.{_≡_};
-ghost use Prim.Native.Nat.{_≤_};
+ghost use Prim.Native.Nat.{_+_, _≤_};
 ghost use lib.ListN.{length};
+ghost use lib.Seq.{paste};
+ghost use Rattle.text.specs.Copy.{copied};
 ghost use Rattle.text.specs.Run.{runOf, all, between, other, hasAt};
 ghost use Rattle.text.specs.Same.{lower, exact, sameBy, sameFolded, beginsFolded};
 
@@ -114,4 +116,28 @@ pub fn begins_folded(s: &[u8], p: &[u8]) -> bool
         return false;
     }
     same_folded(&s[..n], p)
+}
+
+fn copy_fitting(dst: &mut [u8], at: usize, src: &[u8])
+    requires { ⌜ at + length (now src) ≤ length (now dst) ⌝ }
+    ensures { λ _. ⌜ now (dst .exit) ≡ paste (now (dst .entry)) at (now (src .entry)) (length (now (src .entry))) ⌝ }
+{
+    let mut j = 0;
+    while j < src.len() {
+        dst[at + j] = src[j];
+        j += 1;
+    }
+}
+
+// Copies src into dst from a place on, where it fits; else nothing.
+pub fn copy_in(dst: &mut [u8], at: usize, src: &[u8])
+    ensures { λ _. ⌜ now (dst .exit) ≡ copied (now (dst .entry)) at (now (src .entry)) ⌝ }
+{
+    if dst.len() < at {
+        return;
+    }
+    if dst.len() - at < src.len() {
+        return;
+    }
+    copy_fitting(dst, at, src);
 }

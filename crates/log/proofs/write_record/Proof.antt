@@ -1,0 +1,73 @@
+-- `log::write_record` meets its contract: with room, the head and then the value; else nothing.
+-- Assumes nothing.
+use native.Mathlib.Omega.{arith}
+use mathlib.Core.Path.{_≡_, sym, _∙_, ap}
+use mathlib.Core.Bool.{true, false}
+use mathlib.Core.List.{List}
+use Prim.Native.Nat.{ℕ, _+_}
+use denote.Ref.{now}
+use lib.ListN.{length}
+use Rattle.text.specs.Copy.{copied}
+use Rattle.log.specs.Record.{hasRoom, writtenOf, freeAfter}
+use Rattle.log.proofs.Records.{record-written, has-room, too-long, too-little}
+use borrow.Author.Needs.{needs}
+use Rattle.log.proofs.write_record.Statement.{statement}
+use Rattle.log.proofs.write_record.Tie as tie
+
+sub-if1 : tie.Need-sub-if1
+sub-if1 c = search needs
+
+returns : tie.Need-returns
+unfolding writtenOf freeAfter
+returns c =
+    let a = c .before .before .before .args in
+    let no = too-long (now (a .free)) (now (a .value)) (omega arith) in
+    (simp no, simp no)
+
+add-if2 : tie.Need-add-if2
+add-if2 c = search needs
+
+returns-2 : tie.Need-returns-2
+unfolding writtenOf freeAfter
+returns-2 c =
+    let a = c .before .before .before .before .args in
+    let no = too-little (now (a .free)) (now (a .value)) (omega arith) in
+    (simp no, simp no)
+
+put-head-requires : tie.Need-put-head-requires
+put-head-requires c κs = search needs
+
+copy-in-requires : tie.Need-copy-in-requires
+copy-in-requires c κs = search needs
+
+add-t6 : tie.Need-add-t6
+add-t6 c = search needs
+
+same-length : tie.Need-same-length
+same-length c = search needs
+
+returns-3 : tie.Need-returns-3
+unfolding writtenOf freeAfter
+returns-3 c =
+    let p = c .before .before in
+    let h = p .before .before .before .before in
+    let a = h .before .before .before .before .before .before .args in
+    let yes = has-room (now (a .free)) (now (a .value)) (omega arith) (omega arith) in (
+      simp yes,
+      p .copy-in .ensures ∙ ap (λ (l : List ℕ). copied l 6 (now (a .value))) (h .put-head .ensures)
+          ∙ record-written (a .bench) (a .item) (now (a .value)) (now (a .free)) (omega arith) ∙ simp yes,
+    )
+
+pub write-record-spec : {M : Type 1} → statement M
+write-record-spec =
+    tie.close
+    (tie.spec
+    sub-if1
+    returns
+    add-if2
+    returns-2
+    put-head-requires
+    copy-in-requires
+    add-t6
+    same-length
+    returns-3)

@@ -1,0 +1,69 @@
+-- `text::copy_fitting` meets its contract. The loop's invariant: j bytes are copied, and the length stays.
+-- The measure is what is left of the source. Assumes nothing.
+use native.Mathlib.Omega.{arith}
+use mathlib.Core.Path.{_≡_, refl, sym, ap, _∙_}
+use Prim.Native.Nat.{_-_, _≤_, _+_}
+use native.Mathlib.Numerals.{add-one}
+use lib.ListN.{length, length-set}
+use lib.Seq.{paste, paste-zero, paste-suc}
+use denote.Ref.{now}
+use Rattle.text.proofs.copy_fitting.Statement.{statement}
+use Rattle.text.proofs.copy_fitting.Tie as tie
+
+abbrev Inv-loop : tie.InvT-loop
+Inv-loop dst₀ at src j₀ dst j = (dst ≡ paste dst₀ at src j) × (j ≤ length src) × (length dst ≡ length dst₀)
+
+abbrev μ-loop : tie.MeasureT-loop
+μ-loop dst₀ at src j₀ dst j = length src - j
+
+loop-holds : tie.Need-loop-holds Inv-loop μ-loop
+loop-holds c = (paste-zero (now (c .args .dst)) (c .args .at) (now (c .args .src)), omega arith, refl)
+
+shared-slice-read-dst : tie.Need-shared-slice-read-dst Inv-loop μ-loop
+shared-slice-read-dst c = omega arith
+
+add-dst : tie.Need-add-dst Inv-loop μ-loop
+add-dst c = omega arith
+
+slice-write-dst : tie.Need-slice-write-dst Inv-loop μ-loop
+slice-write-dst c = omega arith
+
+add-j : tie.Need-add-j Inv-loop μ-loop
+add-j c = omega arith
+
+loop-less : tie.Need-loop-less Inv-loop μ-loop
+loop-less c = omega arith
+
+loop-again : tie.Need-loop-again Inv-loop μ-loop
+loop-again c =
+    let l = c .before .before .loop in
+    let a = c .before .before .before .args in (
+      rw (l .inv .0, add-one) (paste-suc (now (a .dst)) (a .at) (now (a .src)) (l .j) 0 (omega arith) (c .before .loop-test .taken)),
+      omega arith,
+      simp length-set (l .inv .2),
+    )
+
+same-length : tie.Need-same-length Inv-loop μ-loop
+same-length c = omega arith
+
+returns : tie.Need-returns Inv-loop μ-loop
+returns c =
+    let a = c .before .before .args in
+    let e : length (now (a .src)) ≡ c .before .loop .j = omega arith in
+    rw e (c .before .loop .inv .0)
+
+pub copy-fitting-spec : {M : Type 1} → statement M
+copy-fitting-spec =
+    tie.close
+    (tie.spec
+    Inv-loop
+    μ-loop
+    loop-holds
+    shared-slice-read-dst
+    add-dst
+    slice-write-dst
+    add-j
+    loop-less
+    loop-again
+    same-length
+    returns)
