@@ -1,7 +1,7 @@
 -- Laws of records: the head and then the value, the length, and a tail of the log that was lent and came back.
 -- Assumes nothing.
 use mathlib.Core.Path.{_≡_, refl, sym, ap, _∙_}
-use mathlib.Core.Bool.{Bool, true, false, and-false}
+use mathlib.Core.Bool.{Bool, true, false, and-true, and-false}
 use mathlib.Core.List.{List, [], _∷_, _++_, append-assoc, append-nil}
 use Prim.Native.Nat.{ℕ, _+_, _-_, _≤_, _<_}
 use native.Mathlib.Omega.{arith}
@@ -11,8 +11,10 @@ use borrow.Rule.Slice.PartMut.{putMid, midOf}
 use lib.ListN.{length, take, drop, length-drop, drop-of-length-le}
 use lib.Seq.{take-all, drop-append-add, drop-drop}
 use Rattle.text.specs.Copy.{copied}
+use Rattle.text.proofs.Bools.{not-holds, cond-first}
 use Rattle.text.proofs.Copies.{copied-fits}
-use Rattle.log.specs.Record.{little, recordLength, recordOf, hasRoom}
+use Rattle.log.specs.Record.{little, recordLength, recordOf, hasRoom, writtenOf}
+use Rattle.log.specs.declared.Written.the-variants.{Bytes, NoRoom}
 
 -- the six bytes before a value of n bytes
 abbrev pub headOf : ℕ → ℕ → ℕ → List ℕ
@@ -51,3 +53,24 @@ tail-back used log r =
 -- the part from `used` on, as it is lent
 pub tail-lent : (used : ℕ) (log : List ℕ) → midOf used (length log - used) log ≡ drop used log
 tail-lent used log = take-all (length log - used) (drop used log) (simp length-drop (omega arith))
+
+-- what the answer tells of the room
+pub wrote-none : (free v : List ℕ) → writtenOf free v ≡ NoRoom → hasRoom free v ≡ false
+unfolding writtenOf
+wrote-none free v e = not-holds (hasRoom free v) (λ h. let q = simp h at e in let z : _≡_ {A = ℕ} 0 1 = cc in omega arith)
+
+no-bytes : (n : ℕ) → NoRoom ≡ Bytes n → ⊥
+no-bytes n e = let z : _≡_ {A = ℕ} 0 1 = cc in omega arith
+
+pub wrote-bytes : (free v : List ℕ) (n : ℕ) → writtenOf free v ≡ Bytes n → (hasRoom free v ≡ true) × (recordLength v ≡ n)
+unfolding writtenOf
+wrote-bytes free v n e =
+    let h = cond-first (hasRoom free v) (Bytes (recordLength v)) NoRoom (Bytes n) (no-bytes n) e in
+    let q = h .1 in
+    let l : recordLength v ≡ n = cc in
+    (h .0, l)
+
+-- the room for a short value, by the unused part of the log
+pub room-left : (used : ℕ) (log v : List ℕ) → recordLength v ≤ 65535 → hasRoom (drop used log) v ≡ leb (recordLength v) (length log - used)
+unfolding hasRoom
+room-left used log v s = simp (le-leb _ _ s, length-drop) (and-true (leb (recordLength v) (length log - used)))

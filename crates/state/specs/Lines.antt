@@ -1,8 +1,10 @@
 -- An unfinished line (document 01, "What the desk holds").
 -- Assumes nothing.
-use Prim.Native.Nat.{ℕ, _-_}
-use mathlib.Core.List.{List, [], _++_}
-use lib.ListN.{length, take, replicate}
+use Prim.Native.Nat.{ℕ, _+_, _-_}
+use mathlib.Core.Bool.{cond, _&&_}
+use mathlib.Core.List.{List, _++_}
+use lib.Dec.{ltb, leb}
+use lib.ListN.{length, take, set, replicate}
 use Rattle.cif.specs.Line.{lineMost}
 use Rattle.state.specs.declared.line.Line.{Line}
 
@@ -21,3 +23,11 @@ lineOf t = record { bytes = padded t; len = length t }
 -- the line on which nothing is typed
 abbrev pub emptyLine : Line
 emptyLine = record { bytes = replicate lineMost 0; len = 0 }
+
+-- "32 to 126 are appended": the line with one byte more; a full line as it is
+unfoldable pub appended : Line → ℕ → Line
+appended l b = cond (ltb (l .len) lineMost) (record { bytes = set (l .bytes) (l .len) b; len = l .len + 1 }) l
+
+-- "Erasing takes the last byte; on an empty line it .. changes nothing"; a line that is too long stays as it is
+unfoldable pub erased : Line → Line
+erased l = cond (leb 1 (l .len) && leb (l .len) lineMost) (record { bytes = set (l .bytes) (l .len - 1) 0; len = l .len - 1 }) l

@@ -1,6 +1,6 @@
 // The desk: four benches with a line each, and one sheet.
 ghost use mathlib.Core.Path.{_≡_};
-ghost use Rattle.state.specs.Desks.{freshDesk};
+ghost use Rattle.state.specs.Desks.{freshDesk, withLine};
 use crate::line::Line;
 use crate::sheet::Sheet;
 
@@ -22,4 +22,16 @@ pub fn fresh_desk() -> Desk
         lines: [line; BENCH_COUNT],
         sheet,
     }
+}
+
+// The desk with another line for a bench.
+pub fn with_line(d: Desk, bench: usize, l: Line) -> Desk
+    ensures { λ r. ⌜ r ≡ withLine d bench l ⌝ }
+{
+    if BENCH_COUNT <= bench {
+        return d;
+    }
+    let mut next = d;
+    next.lines[bench] = l;
+    next
 }

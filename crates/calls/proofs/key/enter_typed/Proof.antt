@@ -1,0 +1,96 @@
+-- `calls::key::enter_typed` meets its contract: each arm is a case of `enteredAs`.
+-- Assumes nothing.
+use native.Mathlib.Omega.{arith}
+use mathlib.Core.Path.{_≡_, sym, _∙_, ap}
+use mathlib.Core.List.{List}
+use Prim.Native.Nat.{ℕ, _≤_, _-_}
+use denote.Ref.{now}
+use lib.ListN.{length, drop, length-take, length-drop}
+use Rattle.text.proofs.Parts.{rest-part}
+use Rattle.cif.specs.Line.{classOf}
+use Rattle.cif.specs.declared.line.Class.{Class}
+use Rattle.cif.proofs.Entries.{IsEntry, entry-is}
+use Rattle.calls.specs.Key.{stored, enteredAs}
+use borrow.Author.Needs.{needs}
+use Rattle.calls.proofs.key.enter_typed.Statement.{statement}
+use Rattle.calls.proofs.key.enter_typed.Tie as tie
+
+by-class : (c : tie.After-classify) {q : Class} → c .classify .result ≡ q
+    → (let a = c .before .before .before .args in enteredAs (classOf (now (a .t))) (a .d) (a .used) (now (a .log)) (a .bench) (now (a .t)) ≡ enteredAs q (a .d) (a .used) (now (a .log)) (a .bench) (now (a .t)))
+by-class c e =
+    let a = c .before .before .before .args in
+    ap (λ (q : Class). enteredAs q (a .d) (a .used) (now (a .log)) (a .bench) (now (a .t))) (sym (c .classify .ensures) ∙ e)
+
+-- the line is an entry
+entry : (c : tie.After-class) → IsEntry (now (c .before .before .before .before .before .args .t)) (c .class .given .0 .0) (c .class .given .0 .1 .0)
+entry c = entry-is _ _ _ (sym (c .before .before .classify .ensures) ∙ c .class .given .1)
+
+classify-requires : tie.Need-classify-requires
+classify-requires c κs = search needs
+
+enum-told : tie.Need-enum-told
+enum-told c = search needs
+
+enum-told-2 : tie.Need-enum-told-2
+enum-told-2 c = search needs
+
+enum-told-3 : tie.Need-enum-told-3
+enum-told-3 c = search needs
+
+enum-known-class : tie.Need-enum-known-class
+enum-known-class c = search needs
+
+sub-store : tie.Need-sub-store
+sub-store c = entry (c .before .before) .within
+
+part-store-start : tie.Need-part-store-start
+part-store-start c = entry (c .before .before) .within
+
+part-store-end : tie.Need-part-store-end
+part-store-end c = search needs
+
+store-requires : tie.Need-store-requires
+store-requires c κs =
+    let e = entry (c .before .before .before) in
+    (omega arith, e .some, e .known, simp (length-take, length-drop) (omega arith), omega arith, omega arith)
+
+returns : tie.Need-returns
+returns c = sym (by-class (c .before .before) (c .enum-told .given .1))
+
+returns-2 : tie.Need-returns-2
+returns-2 c = sym (by-class (c .before .before) (c .enum-told2 .given .1))
+
+returns-3 : tie.Need-returns-3
+returns-3 c = sym (by-class (c .before .before) (c .enum-told3 .given .1))
+
+same-length : tie.Need-same-length
+same-length c = search needs
+
+returns-4 : tie.Need-returns-4
+returns-4 c =
+    let p = c .before .before .before .before .before .before in
+    let a = p .before .before .before .before .before .args in
+    let i = p .class .given .0 .0 in
+    let s = p .class .given .0 .1 .0 in
+    c .before .before .store .ensures
+    ∙ ap (λ (v : List ℕ). stored (a .d) (a .used) (now (a .log)) (a .bench) i v) (rest-part (now (a .t)) s)
+    ∙ sym (by-class (p .before .before) (p .class .given .1))
+
+pub enter-typed-spec : {M : Type 1} → statement M
+enter-typed-spec =
+    tie.close
+    (tie.spec
+    classify-requires
+    enum-told
+    enum-told-2
+    enum-told-3
+    enum-known-class
+    sub-store
+    part-store-start
+    part-store-end
+    store-requires
+    returns
+    returns-2
+    returns-3
+    same-length
+    returns-4)

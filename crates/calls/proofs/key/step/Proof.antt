@@ -1,0 +1,92 @@
+-- `calls::key::step` meets its contract: each arm of the match is a case of `keyStep`.
+-- Assumes nothing.
+use native.Mathlib.Omega.{arith}
+use mathlib.Core.Path.{_≡_, _∙_}
+use denote.Ref.{now}
+use borrow.Author.Tests.{le-leb, lt-leb, ne-eqb}
+use Rattle.text.specs.Run.{between}
+use Rattle.calls.specs.Key.{keyStep}
+use borrow.Author.Needs.{needs}
+use Rattle.calls.proofs.key.step.Statement.{statement}
+use Rattle.calls.proofs.key.step.Tie as tie
+
+mul-l : tie.Need-mul-l
+mul-l c = search needs
+
+element-copy-out-l : tie.Need-element-copy-out-l
+element-copy-out-l c = search needs
+
+erase-requires : tie.Need-erase-requires
+erase-requires c κs = search needs
+
+with-line-requires : tie.Need-with-line-requires
+with-line-requires c κs = search needs
+
+empty-line-requires : tie.Need-empty-line-requires
+empty-line-requires c κs = search needs
+
+with-line-requires-2 : tie.Need-with-line-requires-2
+with-line-requires-2 c κs = search needs
+
+enter-bench-requires : tie.Need-enter-bench-requires
+enter-bench-requires c κs = search needs
+
+append-byte-requires : tie.Need-append-byte-requires
+append-byte-requires c κs = search needs
+
+returns : tie.Need-returns
+unfolding keyStep between
+returns c = simp (c .with-line .ensures, c .before .erase .ensures, c .before .before .before .match .keys1)
+
+returns-2 : tie.Need-returns-2
+unfolding keyStep between
+returns-2 c = simp (c .with-line2 .ensures, c .before .empty-line .ensures, c .before .before .match .keys2)
+
+same-length : tie.Need-same-length
+same-length c = search needs
+
+returns-3 : tie.Need-returns-3
+unfolding keyStep between
+returns-3 c =
+    let k = c .before .before .before .before in
+    c .before .before .enter-bench .ensures ∙ simp (k .match .keys3)
+
+returns-4 : tie.Need-returns-4
+unfolding keyStep between
+returns-4 c =
+    let a = c .before .before .before .before .before .args in
+    c .append-byte .ensures (now (a .log)) ∙ simp (le-leb 32 (a .byte) (c .before .before .if1 .left), le-leb (a .byte) 126 (omega arith))
+
+returns-5 : tie.Need-returns-5
+unfolding keyStep between
+returns-5 c =
+    let r = c .before .match .rest in
+    simp (lt-leb 32 _ (c .if1 .taken), ne-eqb _ 8 (r .0 .0 .1), ne-eqb _ 24 (r .0 .1), ne-eqb _ 10 (r .1))
+
+returns-6 : tie.Need-returns-6
+unfolding keyStep between
+returns-6 c =
+    let m = c .before .before in
+    let r = m .match .rest in
+    let a = m .before .before .args in
+    simp (le-leb 32 (a .byte) (c .before .if1 .left), lt-leb (a .byte) 126 (omega arith), ne-eqb _ 8 (r .0 .0 .1), ne-eqb _ 24 (r .0 .1), ne-eqb _ 10 (r .1))
+
+pub step-spec : {M : Type 1} → statement M
+step-spec =
+    tie.close
+    (tie.spec
+    mul-l
+    element-copy-out-l
+    erase-requires
+    with-line-requires
+    empty-line-requires
+    with-line-requires-2
+    enter-bench-requires
+    append-byte-requires
+    returns
+    returns-2
+    same-length
+    returns-3
+    returns-4
+    returns-5
+    returns-6)

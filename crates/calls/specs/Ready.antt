@@ -1,0 +1,14 @@
+-- What a sound desk gives to the step of a key.
+-- Assumes nothing.
+use Prim.Native.Nat.{ℕ, _<_, _≤_}
+use mathlib.Core.List.{List}
+use lib.ListN.{length}
+use Rattle.cif.specs.Line.{lineMost}
+use Rattle.state.specs.Desks.{benchCount, lineAt}
+use Rattle.state.specs.declared.desk.Desk.{Desk}
+
+pub record Ready (d : Desk) (used : ℕ) (log : List ℕ) (bench : ℕ) : Type 0 where
+  pub bench-in : bench < benchCount
+  pub short : lineAt d bench .len ≤ lineMost
+  pub few : d .sheet .count < 65536
+  pub room : used ≤ length log

@@ -1,0 +1,212 @@
+// A key call: one key of a bench, on a desk and its log.
+ghost use mathlib.Core.Path.{_≡_};
+ghost use mathlib.Core.Bool.{true};
+ghost use Prim.Native.Nat.{ℕ, _+_, _<_, _≤_};
+ghost use mathlib.Core.List.{List};
+ghost use lib.ListN.{length};
+ghost use Rattle.cif.specs.Line.{lineMost, classOf};
+ghost use Rattle.cif.specs.Items.{itemCount};
+ghost use Rattle.state.specs.Lines.{typed};
+ghost use Rattle.state.specs.Desks.{benchCount, lineAt};
+ghost use Rattle.calls.specs.Key.{after, withEntry, entered, stored, enteredAs, enter, appendKey, keyStep, keyOf};
+ghost use Rattle.calls.specs.Ready.{Ready};
+use cif::line::Class;
+use cif::line::LINE_MOST;
+use log::Written;
+use state::answer::Answer;
+use state::desk::BENCH_COUNT;
+use state::desk::Desk;
+use state::line::Line;
+use state::sheet::Item;
+use state::sheet::Sheet;
+
+// What a key call leaves beside the log: the desk, the used number and the answer.
+pub struct Keyed {
+    pub desk: Desk,
+    pub used: usize,
+    pub answer: Answer,
+}
+
+// The sheet with one entry more.
+fn with_entry(s: Sheet, bench: usize, item: usize, value: &[u8]) -> Sheet
+    requires { ⌜ (bench < benchCount) × (1 ≤ item) × (item ≤ itemCount) × (length (now value) ≤ lineMost) × (s .count < 65536) ⌝ }
+    ensures { λ r. ⌜ r ≡ withEntry s bench item (now (value .entry)) ⌝ }
+{
+    let len = value.len();
+    let mut bytes = [0u8; LINE_MOST];
+    text::copy_in(&mut bytes, 0, value);
+    let entry = s.count + 1;
+    let filled = Item {
+        value: bytes,
+        len,
+        entry,
+        bench: bench as u8,
+    };
+    let mut next = s;
+    next.items[item - 1] = filled;
+    next.count = entry;
+    next
+}
+
+// The desk after an accepted Enter.
+fn entered_desk(d: Desk, bench: usize, item: usize, value: &[u8]) -> Desk
+    requires { ⌜ (bench < benchCount) × (1 ≤ item) × (item ≤ itemCount) × (length (now value) ≤ lineMost) × (d .sheet .count < 65536) ⌝ }
+    ensures { λ r. ⌜ r ≡ entered d bench item (now (value .entry)) ⌝ }
+{
+    let old = d.sheet;
+    let sheet = with_entry(old, bench, item, value);
+    let empty = state::line::empty_line();
+    let mut next = d;
+    next.lines[bench] = empty;
+    next.sheet = sheet;
+    next
+}
+
+// The value is stored and its record written, if the log has room.
+fn store(d: Desk, used: usize, log: &mut [u8], bench: usize, item: usize, value: &[u8]) -> Keyed
+    requires { ⌜ (bench < benchCount) × (1 ≤ item) × (item ≤ itemCount) × (length (now value) ≤ lineMost) × (d .sheet .count < 65536) × (used ≤ length (now log)) ⌝ }
+    ensures { λ r. ⌜ after r (now (log .exit)) ≡ stored d used (now (log .entry)) bench item (now (value .entry)) ⌝ }
+{
+    let Written::Bytes(n) = log::write_record(&mut log[used..], bench as u8, item as u8, value)
+    else {
+        return Keyed {
+            desk: d,
+            used,
+            answer: Answer::NoRoom,
+        };
+    };
+    let next = entered_desk(d, bench, item, value);
+    Keyed {
+        desk: next,
+        used: used + n,
+        answer: Answer::Accepted,
+    }
+}
+
+// Enter, with what is typed on the bench's line.
+fn enter_typed(d: Desk, used: usize, log: &mut [u8], bench: usize, t: &[u8]) -> Keyed
+    requires { ⌜ (bench < benchCount) × (length (now t) ≤ lineMost) × (d .sheet .count < 65536) × (used ≤ length (now log)) ⌝ }
+    ensures { λ r. ⌜ after r (now (log .exit)) ≡ enteredAs (classOf (now (t .entry))) d used (now (log .entry)) bench (now (t .entry)) ⌝ }
+{
+    let class = cif::line::classify(t);
+    match class {
+        Class::BadForm => Keyed {
+            desk: d,
+            used,
+            answer: Answer::BadForm,
+        },
+        Class::UnknownName => Keyed {
+            desk: d,
+            used,
+            answer: Answer::UnknownName,
+        },
+        Class::WrongKind => Keyed {
+            desk: d,
+            used,
+            answer: Answer::WrongKind,
+        },
+        Class::Entry(item, start) => store(d, used, log, bench, item, &t[start..]),
+    }
+}
+
+fn enter_line(d: Desk, used: usize, log: &mut [u8], bench: usize, l: Line) -> Keyed
+    requires { ⌜ (bench < benchCount) × (l .len ≤ lineMost) × (d .sheet .count < 65536) × (used ≤ length (now log)) ⌝ }
+    ensures { λ r. ⌜ after r (now (log .exit)) ≡ enteredAs (classOf (typed l)) d used (now (log .entry)) bench (typed l) ⌝ }
+{
+    let n = l.len;
+    let bytes = l.bytes;
+    enter_typed(d, used, log, bench, &bytes[..n])
+}
+
+fn enter_bench(d: Desk, used: usize, log: &mut [u8], bench: usize) -> Keyed
+    requires { ⌜ Ready d used (now log) bench ⌝ }
+    ensures { λ r. ⌜ after r (now (log .exit)) ≡ enter d used (now (log .entry)) bench ⌝ }
+{
+    let l = d.lines[bench];
+    enter_line(d, used, log, bench, l)
+}
+
+fn append_byte(d: Desk, used: usize, bench: usize, byte: u8) -> Keyed
+    requires { ⌜ bench < benchCount ⌝ }
+    ensures { λ r. ⌜ ((l : List ℕ) → after r l ≡ appendKey d used l bench byte) ⌝ }
+{
+    let l = d.lines[bench];
+    if l.len < LINE_MOST {
+        let next = state::line::append(l, byte);
+        let desk = state::desk::with_line(d, bench, next);
+        Keyed {
+            desk,
+            used,
+            answer: Answer::Accepted,
+        }
+    } else {
+        Keyed {
+            desk: d,
+            used,
+            answer: Answer::LineFull,
+        }
+    }
+}
+
+// The key byte decides the step.
+fn step(d: Desk, used: usize, log: &mut [u8], bench: usize, byte: u8) -> Keyed
+    requires { ⌜ Ready d used (now log) bench ⌝ }
+    ensures { λ r. ⌜ after r (now (log .exit)) ≡ keyStep d used (now (log .entry)) bench byte ⌝ }
+{
+    match byte {
+        32..=126 => append_byte(d, used, bench, byte),
+        8 => {
+            let l = d.lines[bench];
+            let next = state::line::erase(l);
+            let desk = state::desk::with_line(d, bench, next);
+            Keyed {
+                desk,
+                used,
+                answer: Answer::Accepted,
+            }
+        }
+        24 => {
+            let next = state::line::empty_line();
+            let desk = state::desk::with_line(d, bench, next);
+            Keyed {
+                desk,
+                used,
+                answer: Answer::Accepted,
+            }
+        }
+        10 => enter_bench(d, used, log, bench),
+        _ => Keyed {
+            desk: d,
+            used,
+            answer: Answer::NoKey,
+        },
+    }
+}
+
+// One key of a bench. The log is lent with the number of its used bytes; both and the desk come back.
+pub fn key(d: Desk, used: usize, log: &mut [u8], bench: u64, byte: u8) -> Keyed
+    ensures { λ r. ⌜ after r (now (log .exit)) ≡ keyOf d used (now (log .entry)) bench byte ⌝ }
+{
+    if BENCH_COUNT as u64 <= bench {
+        return Keyed {
+            desk: d,
+            used,
+            answer: Answer::NoBench,
+        };
+    }
+    if !state::sound::is_sound(d) {
+        return Keyed {
+            desk: d,
+            used,
+            answer: Answer::Unsound,
+        };
+    }
+    if !state::sound::is_sound_log(d, log.len(), used) {
+        return Keyed {
+            desk: d,
+            used,
+            answer: Answer::Unsound,
+        };
+    }
+    step(d, used, log, bench as usize, byte)
+}

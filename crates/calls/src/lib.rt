@@ -1,0 +1,2 @@
+// The calls of the desk. key: one key of a bench.
+pub mod key;
