@@ -1,2 +1,4 @@
 pub mod Key
 pub mod Ready
+pub mod Question
+pub mod Who
