@@ -1,5 +1,6 @@
 #!/usr/bin/env bash
 # Tests the C boundary: headers, client, trace and comparison.
+# What needs an archive that is not there is left out, or fails where REQUIRE_LIBS names the archive.
 # Needs the built harness and client (build/cargo/release/harness, build/wall_screen).
 # Prints one line for each check and at the end 'N passed, M failed'.
 set -u
@@ -64,21 +65,46 @@ compiles() {
     if words=$("$@" 2>&1) && [ -z "$words" ]; then ok "$name"; else fail "$name" "$(head -n 1 <<<"$words")"; fi
 }
 
+# there NAME: the harness is linked with that archive.
+there() {
+    "$harness" libraries 2>/dev/null | grep -qx "there: lib$1.a"
+}
+
+libraries() {
+    local all='wall probe rows keys' name
+    runs "libraries: an absent one is required" 1 $'REQUIRED libnothing.a\n' '' \
+        bash -c 'REQUIRE_LIBS="wall nothing" "$1" libraries | grep REQUIRED; exit "${PIPESTATUS[0]}"' - "$harness"
+    for name in ${REQUIRE_LIBS-wall probe}; do
+        if there "$name"; then ok "libraries: $name"; else fail "libraries: $name" "not there: lib$name.a"; fi
+    done
+    for name in $all; do
+        there "$name" || echo "not there: lib$name.a"
+    done
+}
+
 headers() {
     local source='#include "wall.h"
 #include "probe.h"
+#include "rows.h"
+#include "keys.h"
 #include "wall.h"
 #include "probe.h"
-uint8_t ask(const uint8_t *text);
-uint8_t ask(const uint8_t *text) { return (uint8_t)(wall_classify(text, 0) + probe_item(text, 0)); }'
+#include "rows.h"
+#include "keys.h"
+uint8_t ask(const uint8_t *text, probe_desk desk, uint8_t *log);
+uint8_t ask(const uint8_t *text, probe_desk desk, uint8_t *log)
+{
+    return (uint8_t)(wall_classify(text, 0) + probe_item(text, 0) + probe_rows(text, 0, text, 10).rows[11].level +
+                     probe_key(desk, log, 0, 0, 0, 10).answer);
+}'
     echo "$source" >"$work/headers.c"
     cp "$work/headers.c" "$work/headers.cc"
     compiles "headers as C" gcc -std=c11 "${warnings[@]}" -Iinclude -Iharness -c "$work/headers.c" -o "$work/headers.o"
     compiles "client without warnings" gcc -std=c11 -O2 "${warnings[@]}" -Iinclude -c client/wall_screen.c -o "$work/client.o"
     if command -v g++ >/dev/null; then
         compiles "headers as C++" g++ -std=c++17 "${warnings[@]}" -Iinclude -Iharness -c "$work/headers.cc" -o "$work/headers++.o"
-        nm -u "$work/headers++.o" | awk '{ print $2 }' | grep -E '^(wall|probe)_' >"$work/symbols"
-        printf 'probe_item\nwall_classify\n' >"$work/want"
+        nm -u "$work/headers++.o" | awk '{ print $2 }' | grep -E '^(wall|probe)_' | sort >"$work/symbols"
+        printf '%s\n' probe_item probe_key probe_rows wall_classify >"$work/want"
         same "C names from C++" "$work/want" "$work/symbols"
     else
         echo "skipped: headers as C++ (no g++)"
@@ -138,9 +164,9 @@ client_generated() {
     done
 }
 
-# trace_table NAME: 'COMMAND|ANSWER' lines from standard input, held against the proved library.
+# trace_table NAME [MODE]: 'COMMAND|ANSWER' lines from standard input, held against the proved library, or another mode.
 trace_table() {
-    tee "$work/table" | cut -d'|' -f1 | "$harness" trace >"$work/out"
+    tee "$work/table" | cut -d'|' -f1 | "$harness" "${2-trace}" >"$work/out"
     cut -d'|' -f2 "$work/table" >"$work/want"
     same "$1" "$work/want" "$work/out"
 }
@@ -155,7 +181,7 @@ in_hex() {
 }
 
 trace_examples() {
-    in_hex <<'END' | trace_table "trace: examples of document 01"
+    in_hex >"$work/examples" <<'END'
 grade 6|0.16|0 3
 grade 6|0.20|0 3
 grade 6|0.200001|0 4
@@ -181,6 +207,7 @@ line|_refine_ls_R_factor 0.16|6
 line|_refine_ls_R_factor_gt '?'|7
 line|_chemical_formula_weight 1234567890|7
 END
+    trace_table "trace: examples of document 01" <"$work/examples"
 }
 
 trace_malformed() {
@@ -199,10 +226,65 @@ grade 18446744073709551616 30|error: argument 1 '18446744073709551616': not a nu
 grade 18446744073709551615 30|6 0
 |none
 LINE -|none
-new 4096 1|none
-k 0 10|none
-dump|none
 END
+}
+
+# typed BENCH TEXT: a bench's keys, each accepted.
+typed() {
+    printf %s "$2" | od -An -v -tu1 -w1 | while read -r byte; do echo "k $1 $byte|0"; done
+}
+
+# The measured session of document 01, in a log with room for one record and two bytes.
+session() {
+    echo 'new 12 0|ok'
+    typed 0 '_refine_ls_R_factor_gt 0.16'
+    typed 1 '_refine_ls_wR_factor_obs 0.2'
+    echo 'k 0 10|0'
+    echo 'k 1 10|8'
+    echo 'k 4 10|1'
+    echo 'k 18446744073709551615 10|1'
+    echo 'k 2 10|5'
+    echo 'k 2 127|3'
+    echo 'k 3 8|0'
+    typed 2 "'"
+    echo "dump|lines=,5f726566696e655f6c735f77525f666163746f725f6f627320302e32,27, counts=1 items=0:4:0:1:0:302e3136 used=10 log=0a0001000004302e3136464d"
+    echo 'new 3 250|ok'
+    echo 'dump|lines=,,, counts=0 items= used=0 log=fa0108'
+    typed 3 "$(printf '%080d' 0)"
+    echo 'k 3 48|4'
+    echo 'new 65537 0|ok'
+    echo 'k 0 10|2'
+    echo 'new|error: argument 1 missing: LEN'
+    echo "new 16777217 0|error: argument 1 '16777217': not a number of 0 to 16777216"
+    echo "k 0 256|error: argument 2 '256': not a number of 0 to 255"
+    echo "k -1 10|error: argument 1 '-1': not a number of 0 to 18446744073709551615"
+    echo "dump 1|error: argument 1 '1': nothing may follow"
+}
+
+# The same with more room, and the two questions.
+questions() {
+    echo 'new 30 0|ok'
+    typed 0 '_refine_ls_R_factor_gt 0.16'
+    echo 'k 0 10|0'
+    typed 1 '_refine_ls_wR_factor_obs 0.2'
+    echo 'k 1 10|0'
+    echo 'report 0 0|0 2/1 2/1 1/1 2/1 0/1 3/0 0/0 0/0 1/0 2/1 0/0 2/1'
+    echo 'who 0 4|0 0 1'
+    echo 'who 0 7|0 1 2'
+    echo 'who 0 1|0 255 0'
+    echo 'who 0 11|6 255 0'
+    echo 'who 0 0|6 255 0'
+}
+
+trace_keys() {
+    trace_table "reference's trace: keys" reference-trace < <(session)
+    trace_table "reference's trace: questions" reference-trace < <(questions)
+    if there keys; then
+        trace_table "trace: keys" < <(session)
+    else
+        trace_table "trace: keys are not there" < <(printf '%s|none\n' 'new 4096 1' 'k 0 10' dump)
+    fi
+    trace_table "trace: questions are not there" < <(printf '%s|none\n' 'report 0 0' 'who 0 1')
 }
 
 trace_generated() {
@@ -234,9 +316,10 @@ summary() {
 comparison() {
     summary "self-check of the comparison" "$harness" self-check
     summary "comparison with the reference" "$harness" compare
-    grep -a 'new seed' "$work/out" | head -n 1
+    grep -a -e '^fixed seed' -e '^not there' "$work/out"
 }
 
+libraries
 headers
 layout
 runs "client: sample" 0 "$(cat client/sample.out)"$'\n' '' "$client" <client/sample.txt
@@ -245,6 +328,7 @@ client_streams
 client_generated
 trace_examples
 trace_malformed
+trace_keys
 trace_generated
 comparison
 echo "$passed passed, $failed failed"

@@ -1,48 +1,77 @@
 //! Speed: both programs over the same inputs in one run.
 
+use crate::desks::State;
 use crate::inputs::{Inputs, ROWS};
-use crate::program::{Program, Reference};
+use crate::program::{Library, Program, Reference, Values};
 use crate::proved::Proved;
+use crate::session::Session;
+use crate::sheets::Sheets;
 use std::hint::black_box;
 use std::time::Instant;
 
 const INPUTS: usize = 100_000;
 const ROUNDS: usize = 15;
 const SEED: u64 = 1;
+/// The log of a session of keys.
+const LOG: usize = 4096;
 
 pub fn run() {
-    let mut inputs = Inputs::new(SEED);
-    let lines: Vec<Vec<u8>> = (0..INPUTS).map(|_| inputs.line()).collect();
-    let values: Vec<Vec<u8>> = (0..INPUTS).map(|_| inputs.value()).collect();
     println!("{INPUTS} inputs a round, median of {ROUNDS} rounds");
-    report(
-        "lines classified",
-        &lines,
-        |line| Proved.classify(line).into(),
-        |line| Reference.classify(line).into(),
-    );
-    report(
-        "values graded",
-        &values,
-        |value| graded(&Proved, value),
-        |value| graded(&Reference, value),
-    );
+    if Proved.has(Library::Wall) {
+        let mut inputs = Inputs::new(SEED);
+        let lines: Vec<Vec<u8>> = (0..INPUTS).map(|_| inputs.line()).collect();
+        let values: Vec<Vec<u8>> = (0..INPUTS).map(|_| inputs.value()).collect();
+        report("lines classified", |program| {
+            lines.iter().map(|line| u64::from(program.classify(black_box(line)))).sum()
+        });
+        report("values graded", |program| {
+            values.iter().map(|value| graded(program, black_box(value))).sum()
+        });
+    }
+    if Proved.has(Library::Rows) {
+        let mut sheets = Sheets::new(SEED);
+        let sheets: Vec<Values> = (0..INPUTS).map(|_| sheets.sheet()).collect();
+        report("reports of twelve rows", |program| {
+            sheets.iter().map(|sheet| levels(program, black_box(sheet))).sum()
+        });
+    }
+    if Proved.has(Library::Keys) {
+        let calls = calls();
+        report("keys", |program| {
+            let mut state = State::fresh(LOG, SEED);
+            let answer = |&(bench, byte): &(u64, u8)| {
+                u64::from(state.key(program, black_box(bench), byte).answer)
+            };
+            calls.iter().map(answer).sum()
+        });
+    }
 }
 
 /// One value by a row that its length chooses.
-fn graded(program: &impl Program, value: &[u8]) -> u64 {
+fn graded(program: &dyn Program, value: &[u8]) -> u64 {
     let graded = program.grade(ROWS[value.len() % ROWS.len()], value);
     u64::from(graded.answer) + u64::from(graded.level)
 }
 
-fn report(
-    what: &str,
-    inputs: &[Vec<u8>],
-    proved: impl Fn(&[u8]) -> u64,
-    reference: impl Fn(&[u8]) -> u64,
-) {
+fn levels(program: &dyn Program, sheet: &Values) -> u64 {
+    program.rows(sheet).rows.iter().map(|row| u64::from(row.level)).sum()
+}
+
+/// One long session of four benches.
+fn calls() -> Vec<(u64, u8)> {
+    let (mut session, mut state) = (Session::new(SEED), State::fresh(LOG, SEED));
+    let call = |_| {
+        let (bench, byte) = session.call(&state.desk);
+        state.key(&Reference, bench, byte);
+        (bench, byte)
+    };
+    (0..INPUTS).map(call).collect()
+}
+
+/// Times a round of all inputs by each program in turn.
+fn report(what: &str, round: impl Fn(&dyn Program) -> u64) {
     let rounds: Vec<(f64, f64)> =
-        (0..ROUNDS).map(|_| (rate(inputs, &proved), rate(inputs, &reference))).collect();
+        (0..ROUNDS).map(|_| (rate(|| round(&Proved)), rate(|| round(&Reference)))).collect();
     let proved = median(rounds.iter().map(|round| round.0).collect());
     let reference = median(rounds.iter().map(|round| round.1).collect());
     let ratio = median(rounds.iter().map(|round| round.0 / round.1).collect());
@@ -50,11 +79,10 @@ fn report(
 }
 
 /// Inputs answered a second.
-fn rate(inputs: &[Vec<u8>], answer: impl Fn(&[u8]) -> u64) -> f64 {
+fn rate(round: impl Fn() -> u64) -> f64 {
     let start = Instant::now();
-    let sum: u64 = inputs.iter().map(|input| answer(black_box(input))).sum();
-    black_box(sum);
-    inputs.len() as f64 / start.elapsed().as_secs_f64()
+    black_box(round());
+    INPUTS as f64 / start.elapsed().as_secs_f64()
 }
 
 fn median(mut rates: Vec<f64>) -> f64 {

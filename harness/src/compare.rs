@@ -1,8 +1,12 @@
 //! The comparison: the same inputs to two programs, and every answer held equal.
 
+mod keys;
+mod sheets;
+
+use crate::boundary::{Graded, NumberResult};
 use crate::inputs::{Inputs, ROWS};
 use crate::lists;
-use crate::program::{Graded, NumberResult, Program};
+use crate::program::{Library, Program};
 use crate::tally::{Question, Tally};
 use std::fmt::Debug;
 
@@ -43,6 +47,13 @@ pub struct Plan {
     pub count: u64,
 }
 
+impl Plan {
+    /// One input for each so many lines: the half that comes from each seed, at least one.
+    fn half(&self, one_in: u64) -> u64 {
+        (self.count / one_in).div_ceil(2).max(1)
+    }
+}
+
 /// One named check and what it compared.
 pub struct Group {
     pub name: &'static str,
@@ -74,25 +85,41 @@ pub fn compare<'a>(
 ) -> Comparison<'a> {
     let mut run =
         Comparison { tested, expected, groups: vec![], tally: Tally::default(), examples: vec![] };
-    let half = plan.count.div_ceil(2);
-    run.generated_lines("lines, fixed seed", plan.fixed_seed, half);
-    run.generated_lines("lines, new seed", plan.new_seed, half);
-    run.generated_values("values, fixed seed", plan.fixed_seed, half);
-    run.generated_values("values, new seed", plan.new_seed, half);
-    run.values("short texts as values", lists::short_texts(lists::SHORT_VALUE));
-    run.lines("short texts in lines", lists::in_lines(lists::short_texts(lists::SHORT_IN_LINE)));
-    run.values("single bytes", lists::single_bytes());
-    run.values("reserved words as values", lists::reserved_words());
-    run.lines("reserved words in lines", lists::in_lines(lists::reserved_words()));
-    run.values("numbers at the limits", lists::numbers_at_limits());
-    run.values("numbers at the bounds", lists::numbers_at_bounds());
-    run.lines("items with values", lists::items_with_values());
-    run.lines("names one byte off", lists::names_one_byte_off());
-    run.lines("line lengths", lists::line_lengths());
+    if tested.has(Library::Wall) || tested.has(Library::Probe) {
+        run.readers(plan);
+    }
+    if tested.has(Library::Rows) {
+        run.all_sheets(plan);
+    }
+    if tested.has(Library::Keys) {
+        run.all_keys(plan);
+    }
     run
 }
 
 impl Comparison<'_> {
+    /// The readers of a line.
+    fn readers(&mut self, plan: &Plan) {
+        let half = plan.half(1);
+        self.generated_lines("lines, fixed seed", plan.fixed_seed, half);
+        self.generated_lines("lines, new seed", plan.new_seed, half);
+        self.generated_values("values, fixed seed", plan.fixed_seed, half);
+        self.generated_values("values, new seed", plan.new_seed, half);
+        self.values("short texts as values", lists::short_texts(lists::SHORT_VALUE));
+        self.lines(
+            "short texts in lines",
+            lists::in_lines(lists::short_texts(lists::SHORT_IN_LINE)),
+        );
+        self.values("single bytes", lists::single_bytes());
+        self.values("reserved words as values", lists::reserved_words());
+        self.lines("reserved words in lines", lists::in_lines(lists::reserved_words()));
+        self.values("numbers at the limits", lists::numbers_at_limits());
+        self.values("numbers at the bounds", lists::numbers_at_bounds());
+        self.lines("items with values", lists::items_with_values());
+        self.lines("names one byte off", lists::names_one_byte_off());
+        self.lines("line lengths", lists::line_lengths());
+    }
+
     pub fn differences(&self) -> u64 {
         self.groups.iter().map(|group| group.different).sum()
     }
@@ -104,13 +131,18 @@ impl Comparison<'_> {
             let Group { name, inputs, answers, different } = group;
             println!("{name:<26} {inputs:>9} {answers:>9} {different:>9}");
         }
-        self.tally.print();
-        let missing = self.tally.missing();
+        self.tally.print(|library| self.tested.has(library));
+        let missing = self.missing();
         missing.iter().for_each(|answer| println!("NEVER SEEN {answer}"));
         self.examples.iter().for_each(|example| println!("DIFFERENT {example}"));
         let groups = self.groups.iter().filter(|group| group.passed()).count();
         let passed = groups + usize::from(missing.is_empty());
         (passed, self.groups.len() + 1 - passed)
+    }
+
+    /// The possible answers never given.
+    pub fn missing(&self) -> Vec<String> {
+        self.tally.missing(|library| self.tested.has(library))
     }
 
     fn generated_lines(&mut self, name: &'static str, seed: u64, count: u64) {
@@ -149,38 +181,44 @@ impl Comparison<'_> {
 
     fn line(&mut self, line: &[u8]) {
         let (tested, expected) = (self.tested, self.expected);
-        let answer =
-            self.same(&"wall_classify", line, tested.classify(line), expected.classify(line));
-        self.tally.note(
-            Question::Line,
-            [0, 5, 6, 7].iter().position(|&known| known == answer).unwrap_or(usize::MAX),
-        );
+        if tested.has(Library::Wall) {
+            let answer =
+                self.same(&"wall_classify", line, tested.classify(line), expected.classify(line));
+            self.tally.note(
+                Question::Line,
+                [0, 5, 6, 7].iter().position(|&known| known == answer).unwrap_or(usize::MAX),
+            );
+        }
+        if tested.has(Library::Probe) {
+            let form = self.same(&"probe_line", line, tested.line(line), expected.line(line));
+            self.tally.note(Question::Form, form.found as usize);
 
-        let form = self.same(&"probe_line", line, tested.line(line), expected.line(line));
-        self.tally.note(Question::Form, form.found as usize);
-
-        let name = line.split(|&byte| byte == b' ').next().unwrap_or(line);
-        let item = self.same(&"probe_item", name, tested.item(name), expected.item(name));
-        self.tally.note(Question::Item, item as usize);
+            let name = line.split(|&byte| byte == b' ').next().unwrap_or(line);
+            let item = self.same(&"probe_item", name, tested.item(name), expected.item(name));
+            self.tally.note(Question::Item, item as usize);
+        }
     }
 
     fn value(&mut self, value: &[u8], other_row: u64) {
         let (tested, expected) = (self.tested, self.expected);
-        let number =
-            self.same(&"probe_number", value, tested.number(value), expected.number(value));
-        self.tally.note(Question::Number, number_place(number));
+        if tested.has(Library::Probe) {
+            let number =
+                self.same(&"probe_number", value, tested.number(value), expected.number(value));
+            self.tally.note(Question::Number, number_place(number));
 
-        let form = self.same(&"probe_value", value, tested.value(value), expected.value(value));
-        self.tally.note(Question::Value, form as usize);
-
-        for (row, question) in
-            ROWS.into_iter().zip([Question::Row6, Question::Row8, Question::Row10])
-        {
-            let graded = self.grade(row, value);
-            self.tally.note(question, grade_place(graded));
+            let form = self.same(&"probe_value", value, tested.value(value), expected.value(value));
+            self.tally.note(Question::Value, form as usize);
         }
-        let graded = self.grade(other_row, value);
-        self.tally.note(Question::OtherRow, if graded == (6, 0).into() { 0 } else { usize::MAX });
+        if tested.has(Library::Wall) {
+            let questions = [Question::Row6, Question::Row8, Question::Row10];
+            for (row, question) in ROWS.into_iter().zip(questions) {
+                let graded = self.grade(row, value);
+                self.tally.note(question, grade_place(graded));
+            }
+            let graded = self.grade(other_row, value);
+            let place = if graded == (6, 0).into() { 0 } else { usize::MAX };
+            self.tally.note(Question::OtherRow, place);
+        }
     }
 
     fn grade(&mut self, row: u64, value: &[u8]) -> Graded {
@@ -203,14 +241,20 @@ impl Comparison<'_> {
     ) -> T {
         self.group().answers += 1;
         if tested != expected {
-            self.group().different += 1;
-            if self.examples.len() < SHOWN {
+            self.different(|| {
                 let input = hex(input);
-                self.examples
-                    .push(format!("{question}, input {input}: {tested:?}, reference {expected:?}"));
-            }
+                format!("{question}, input {input}: {tested:?}, reference {expected:?}")
+            });
         }
         tested
+    }
+
+    /// Counts one difference; the first ones are shown.
+    fn different(&mut self, example: impl FnOnce() -> String) {
+        self.group().different += 1;
+        if self.examples.len() < SHOWN {
+            self.examples.push(example());
+        }
     }
 }
 

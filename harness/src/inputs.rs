@@ -56,7 +56,7 @@ impl Inputs {
         self.random.pick(&ROWS)
     }
 
-    fn good_line(&mut self) -> Vec<u8> {
+    pub fn good_line(&mut self) -> Vec<u8> {
         let (name, kind) = self.random.pick(&ITEMS);
         let mut line = self.recased(name);
         let spaces = self.random.pick(&[1, 1, 1, 2, 3, 9]);
@@ -113,13 +113,16 @@ impl Inputs {
         let other = self.random.pick(&[Kind::Number, Kind::Category, Kind::Text]);
         match if self.random.once_in(6) { other } else { kind } {
             Kind::Number if self.random.once_in(2) => self.number_near_limits(),
-            Kind::Number => self.number_near_bound(),
+            Kind::Number => {
+                let row = self.random.pick(&ROWS);
+                self.number_near_bound(row)
+            }
             Kind::Category => self.category(),
             Kind::Text => self.text(),
         }
     }
 
-    fn category(&mut self) -> Vec<u8> {
+    pub fn category(&mut self) -> Vec<u8> {
         let name = self.random.pick(&CATEGORIES);
         match self.random.below(5) {
             0 => self.recased(name),
@@ -146,13 +149,13 @@ impl Inputs {
         }
     }
 
-    fn quoted(&mut self, text: &[u8]) -> Vec<u8> {
+    pub fn quoted(&mut self, text: &[u8]) -> Vec<u8> {
         let mark = self.random.pick(b"'\"");
         [&[mark], text, &[mark]].concat()
     }
 
     /// A number with few digits, or as many as are allowed, or one more.
-    fn number_near_limits(&mut self) -> Vec<u8> {
+    pub fn number_near_limits(&mut self) -> Vec<u8> {
         let total = self.random.pick(&[1, 2, 3, DIGITS - 1, DIGITS, DIGITS + 1]);
         let places = self.random.pick(&[0, 0, 1, 2, PLACES - 1, PLACES, PLACES + 1]);
         let point = places > 0 || self.random.once_in(20);
@@ -165,8 +168,7 @@ impl Inputs {
     }
 
     /// A bound of a row, or one unit in the last place beside it.
-    fn number_near_bound(&mut self) -> Vec<u8> {
-        let row = self.random.pick(&ROWS);
+    pub fn number_near_bound(&mut self, row: u64) -> Vec<u8> {
         let bound = self.random.pick(&bounds(row).expect("each row has bounds"));
         let places = 1 + self.random.below(PLACES);
         let unit = 10_i64.pow((PLACES - places) as u32);
@@ -186,7 +188,7 @@ impl Inputs {
         (0..count).map(|_| self.random.pick(from)).collect()
     }
 
-    fn uncertainty(&mut self) -> Vec<u8> {
+    pub fn uncertainty(&mut self) -> Vec<u8> {
         if !self.random.once_in(3) {
             return vec![];
         }
@@ -227,7 +229,7 @@ impl Inputs {
     }
 
     /// One byte changed, inserted, removed or doubled.
-    fn damage(&mut self, text: &mut Vec<u8>) {
+    pub fn damage(&mut self, text: &mut Vec<u8>) {
         let byte = self.other_byte();
         if text.is_empty() {
             return text.push(byte);
@@ -257,5 +259,11 @@ pub fn decimal(millionths: i64, places: usize) -> String {
     let (size, scale) = (millionths.abs(), 10_i64.pow(PLACES as u32));
     let mut text = format!("{}.{:0width$}", size / scale, size % scale, width = PLACES);
     text.truncate(text.len() - PLACES + places);
-    text
+    text.trim_end_matches('.').into()
+}
+
+/// A number as many units in the last of so many places away from the given one.
+pub fn near(millionths: i64, places: usize, units: i64) -> i64 {
+    let unit = 10_i64.pow((PLACES - places) as u32);
+    millionths.div_euclid(unit) * unit + units * unit
 }

@@ -1,31 +1,39 @@
 //! Compares the proved library with the reference program.
 
 mod bench;
+mod boundary;
+mod broken;
 mod client;
 mod compare;
+mod desks;
 mod inputs;
 mod lists;
 mod program;
 mod proved;
 mod random;
 mod self_check;
+mod session;
+mod sheet_lists;
+mod sheets;
 mod tally;
 mod trace;
 
 use compare::Plan;
 use inputs::Inputs;
-use program::{Graded, LineResult, NumberResult, Reference};
+use program::{Library, Program, Reference};
 use proved::Proved;
 use std::io::{stdin, stdout, BufWriter, Write};
-use std::mem::{offset_of, size_of};
 use std::process::ExitCode;
 
 const USAGE: &str = "usage: harness MODE
   compare [--seed N] [--count N]  compare both programs on N lines and N values (default 1000000),
-                                  half from a fixed seed and half from a new one or the one given
+                                  half from a fixed seed and half from a new one or the one given,
+                                  and on sheets and key calls in proportion; an archive that is not
+                                  there is left out, or a failure where REQUIRE_LIBS names it
   self-check                      show that the comparison finds faulty programs
   trace, reference-trace          answer trace commands by the proved library, by the reference
   bench                           speed of both programs
+  libraries                       which proved archives are there; fails as compare does
   layout                          sizes and offsets of the boundary's structs
   trace-commands SEED COUNT       write generated trace commands
   client-lines SEED COUNT         write generated lines
@@ -64,12 +72,16 @@ fn run(words: &[&str]) -> Outcome {
             bench::run();
             DONE
         }
+        ["libraries"] => {
+            there().for_each(|library| println!("there: lib{}.a", library.name()));
+            Ok((0, absent()))
+        }
         ["layout"] => {
-            layout();
+            boundary::print();
             DONE
         }
         ["trace-commands", seed, count] => {
-            write(trace::commands(number(2, seed)?, number(3, count)?), output)
+            write(trace::commands(&Proved, number(2, seed)?, number(3, count)?), output)
         }
         ["client-lines", seed, count] => {
             let mut inputs = Inputs::new(number(2, seed)?);
@@ -130,7 +142,24 @@ fn compare(plan: Plan) -> Outcome {
         "fixed seed {}, new seed {} (repeat with --seed {})",
         plan.fixed_seed, plan.new_seed, plan.new_seed
     );
-    Ok(counted(compare::compare(&Proved, &Reference, &plan).print()))
+    let (passed, failed) = compare::compare(&Proved, &Reference, &plan).print();
+    Ok(counted((passed, failed + absent())))
+}
+
+fn there() -> impl Iterator<Item = Library> {
+    Library::ALL.into_iter().filter(|&library| Proved.has(library))
+}
+
+/// Prints which archives are not there; answers how many of them are required.
+fn absent() -> usize {
+    let required = std::env::var("REQUIRE_LIBS").unwrap_or_else(|_| env!("REQUIRED").into());
+    let is_there = |name: &str| there().any(|library| library.name() == name);
+    let known = Library::ALL.map(Library::name);
+    for name in known.into_iter().filter(|name| !is_there(name)) {
+        println!("not there: lib{name}.a");
+    }
+    let missing = required.split_whitespace().filter(|name| !is_there(name));
+    missing.inspect(|name| println!("REQUIRED lib{name}.a")).count()
 }
 
 fn write(texts: impl Iterator<Item = Vec<u8>>, mut output: impl Write) -> Outcome {
@@ -142,26 +171,4 @@ fn write(texts: impl Iterator<Item = Vec<u8>>, mut output: impl Write) -> Outcom
         output.flush()
     };
     done(all())
-}
-
-fn layout() {
-    println!(
-        "wall_graded {} answer {} level {}",
-        size_of::<Graded>(),
-        offset_of!(Graded, answer),
-        offset_of!(Graded, level)
-    );
-    println!(
-        "probe_number_result {} millionths {} found {}",
-        size_of::<NumberResult>(),
-        offset_of!(NumberResult, millionths),
-        offset_of!(NumberResult, found)
-    );
-    println!(
-        "probe_line_result {} found {} name_end {} value_start {}",
-        size_of::<LineResult>(),
-        offset_of!(LineResult, found),
-        offset_of!(LineResult, name_end),
-        offset_of!(LineResult, value_start)
-    );
 }

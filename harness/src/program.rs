@@ -1,46 +1,57 @@
 //! The questions that both programs answer, in the form of the C boundary.
 
-use reference::{grade, line, names, number, value};
+use crate::boundary::{Desk, Graded, KeyResult, LineResult, NumberResult, RowsResult};
+use reference::names::ITEMS;
+use reference::{desk, grade, line, names, number, rows, value};
 
-/// `wall_graded` of wall.h.
-#[repr(C)]
-#[derive(Clone, Copy, Debug, PartialEq, Eq)]
-pub struct Graded {
-    pub answer: u8,
-    pub level: u8,
+/// The archives that the proved library comes in.
+#[derive(Clone, Copy, PartialEq, Eq)]
+pub enum Library {
+    Wall,
+    Probe,
+    Rows,
+    Keys,
 }
 
-/// `probe_number_result` of probe.h.
-#[repr(C)]
-#[derive(Clone, Copy, Debug, PartialEq, Eq)]
-pub struct NumberResult {
-    pub millionths: i64,
-    pub found: u64,
-}
+impl Library {
+    pub const ALL: [Library; 4] = [Library::Wall, Library::Probe, Library::Rows, Library::Keys];
 
-/// `probe_line_result` of probe.h.
-#[repr(C)]
-#[derive(Clone, Copy, Debug, PartialEq, Eq)]
-pub struct LineResult {
-    pub found: u64,
-    pub name_end: u64,
-    pub value_start: u64,
-}
-
-impl From<(u8, u8)> for Graded {
-    fn from((answer, level): (u8, u8)) -> Self {
-        Graded { answer, level }
+    pub fn name(self) -> &'static str {
+        ["wall", "probe", "rows", "keys"][self as usize]
     }
 }
 
-impl From<Option<i64>> for NumberResult {
-    fn from(number: Option<i64>) -> Self {
-        NumberResult { millionths: number.unwrap_or(0), found: number.is_some().into() }
+/// The ten values of a sheet as `probe_rows` takes them: one after the other, and their lengths.
+pub struct Values {
+    pub texts: Vec<u8>,
+    pub lens: [u8; ITEMS.len()],
+}
+
+impl Values {
+    /// Values of at most 80 bytes.
+    pub fn new<T: AsRef<[u8]>>(values: &[T; ITEMS.len()]) -> Self {
+        let lens = std::array::from_fn(|place| values[place].as_ref().len() as u8);
+        Values { texts: values.iter().flat_map(|value| value.as_ref()).copied().collect(), lens }
+    }
+
+    /// The values one by one.
+    pub fn parts(&self) -> rows::Values<'_> {
+        let mut rest = &self.texts[..];
+        self.lens.map(|length| {
+            let (value, after) = rest.split_at(length.into());
+            rest = after;
+            value
+        })
     }
 }
 
 /// A program under comparison. What it does not say itself the reference answers.
 pub trait Program {
+    /// Whether the program answers the questions of an archive.
+    fn has(&self, _library: Library) -> bool {
+        true
+    }
+
     fn classify(&self, line: &[u8]) -> u8 {
         line::classify(line)
     }
@@ -72,6 +83,27 @@ pub trait Program {
 
     fn item(&self, name: &[u8]) -> u64 {
         names::item(name).unwrap_or(0) as u64
+    }
+
+    fn rows(&self, values: &Values) -> RowsResult {
+        rows::rows(&values.parts()).into()
+    }
+
+    fn key(&self, desk: &Desk, log: &mut [u8], mut used: u64, bench: u64, byte: u8) -> KeyResult {
+        let mut desk = desk.into();
+        let answer = desk::key(&mut desk, log, &mut used, bench, byte);
+        KeyResult { desk: (&desk).into(), used, answer }
+    }
+
+    /// The question *Report*; none where the program does not answer it yet.
+    fn report(&self, desk: &Desk) -> Option<(u8, RowsResult)> {
+        let (answer, rows) = desk::report(&desk.into());
+        Some((answer, rows.into()))
+    }
+
+    /// The question *Who*: answer, bench and entry; none where the program does not answer it yet.
+    fn who(&self, desk: &Desk, item: u64) -> Option<(u8, u8, u64)> {
+        Some(desk::who(&desk.into(), item))
     }
 }
 

@@ -1,14 +1,50 @@
-//! The proved library through its C boundary.
+//! The proved library through its C boundary: the archives that are there.
 
-use crate::program::{Graded, LineResult, NumberResult, Program};
+#[cfg(proved = "wall")]
+use crate::boundary::Graded;
+#[cfg(proved = "keys")]
+use crate::boundary::KeyResult;
+use crate::boundary::{Desk, RowsResult};
+#[cfg(proved = "probe")]
+use crate::boundary::{LineResult, NumberResult};
+#[cfg(proved = "rows")]
+use crate::program::Values;
+use crate::program::{Library, Program};
 
+#[cfg(proved = "wall")]
 extern "C" {
     fn wall_classify(line: *const u8, length: usize) -> u8;
     fn wall_grade(row: u64, value: *const u8, length: usize) -> Graded;
+}
+
+#[cfg(proved = "probe")]
+extern "C" {
     fn probe_number(text: *const u8, length: usize) -> NumberResult;
     fn probe_value(text: *const u8, length: usize) -> u64;
     fn probe_line(text: *const u8, length: usize) -> LineResult;
     fn probe_item(name: *const u8, length: usize) -> u64;
+}
+
+#[cfg(proved = "rows")]
+extern "C" {
+    fn probe_rows(
+        texts: *const u8,
+        texts_len: usize,
+        lens: *const u8,
+        lens_len: usize,
+    ) -> RowsResult;
+}
+
+#[cfg(proved = "keys")]
+extern "C" {
+    fn probe_key(
+        desk: Desk,
+        log: *mut u8,
+        log_len: usize,
+        used: u64,
+        bench: u64,
+        byte: u8,
+    ) -> KeyResult;
 }
 
 /// The proved library.
@@ -16,27 +52,61 @@ pub struct Proved;
 
 // Every call below lends a live slice for the call; a slice's pointer is never null.
 impl Program for Proved {
+    fn has(&self, library: Library) -> bool {
+        match library {
+            Library::Wall => cfg!(proved = "wall"),
+            Library::Probe => cfg!(proved = "probe"),
+            Library::Rows => cfg!(proved = "rows"),
+            Library::Keys => cfg!(proved = "keys"),
+        }
+    }
+
+    #[cfg(proved = "wall")]
     fn classify(&self, line: &[u8]) -> u8 {
         unsafe { wall_classify(line.as_ptr(), line.len()) }
     }
 
+    #[cfg(proved = "wall")]
     fn grade(&self, row: u64, value: &[u8]) -> Graded {
         unsafe { wall_grade(row, value.as_ptr(), value.len()) }
     }
 
+    #[cfg(proved = "probe")]
     fn number(&self, text: &[u8]) -> NumberResult {
         unsafe { probe_number(text.as_ptr(), text.len()) }
     }
 
+    #[cfg(proved = "probe")]
     fn value(&self, text: &[u8]) -> u64 {
         unsafe { probe_value(text.as_ptr(), text.len()) }
     }
 
+    #[cfg(proved = "probe")]
     fn line(&self, text: &[u8]) -> LineResult {
         unsafe { probe_line(text.as_ptr(), text.len()) }
     }
 
+    #[cfg(proved = "probe")]
     fn item(&self, name: &[u8]) -> u64 {
         unsafe { probe_item(name.as_ptr(), name.len()) }
+    }
+
+    #[cfg(proved = "rows")]
+    fn rows(&self, values: &Values) -> RowsResult {
+        let Values { texts, lens } = values;
+        unsafe { probe_rows(texts.as_ptr(), texts.len(), lens.as_ptr(), lens.len()) }
+    }
+
+    #[cfg(proved = "keys")]
+    fn key(&self, desk: &Desk, log: &mut [u8], used: u64, bench: u64, byte: u8) -> KeyResult {
+        unsafe { probe_key(*desk, log.as_mut_ptr(), log.len(), used, bench, byte) }
+    }
+
+    fn report(&self, _desk: &Desk) -> Option<(u8, RowsResult)> {
+        None
+    }
+
+    fn who(&self, _desk: &Desk, _item: u64) -> Option<(u8, u8, u64)> {
+        None
     }
 }

@@ -1,7 +1,11 @@
 //! Shows that the comparison can fail: programs with one known fault each must be found different.
 
+mod keys;
+mod rows;
+
+use crate::boundary::{Desk, Graded, KeyResult, LineResult, NumberResult, RowsResult};
 use crate::compare::{compare, Plan};
-use crate::program::{Graded, LineResult, NumberResult, Program, Reference};
+use crate::program::{Library, Program, Reference, Values};
 use crate::tally::Tally;
 use reference::line::{ACCEPTED, LIMIT, NOT_A_LINE, NO_SUCH_NAME, WRONG_KIND};
 use reference::names::{item, passes, ITEMS};
@@ -18,9 +22,20 @@ enum Wrong {
     Value(fn(&[u8]) -> u64),
     LineEnds(fn(u64, u64) -> (u64, u64)),
     Item(fn(&[u8]) -> u64),
+    Rows(fn(&Values) -> RowsResult),
+    Key(fn(&Desk, &mut [u8], u64, u64, u8) -> KeyResult),
 }
 
 impl Program for Wrong {
+    /// Only the archive with the fault is compared.
+    fn has(&self, library: Library) -> bool {
+        match self {
+            Wrong::Rows(_) => library == Library::Rows,
+            Wrong::Key(_) => library == Library::Keys,
+            _ => [Library::Wall, Library::Probe].contains(&library),
+        }
+    }
+
     fn classify(&self, line: &[u8]) -> u8 {
         if let Wrong::Classify(wrong) = self {
             wrong(line)
@@ -66,6 +81,22 @@ impl Program for Wrong {
             wrong(name)
         } else {
             Reference.item(name)
+        }
+    }
+
+    fn rows(&self, values: &Values) -> RowsResult {
+        if let Wrong::Rows(wrong) = self {
+            wrong(values)
+        } else {
+            Reference.rows(values)
+        }
+    }
+
+    fn key(&self, desk: &Desk, log: &mut [u8], used: u64, bench: u64, byte: u8) -> KeyResult {
+        if let Wrong::Key(wrong) = self {
+            wrong(desk, log, used, bench, byte)
+        } else {
+            Reference.key(desk, log, used, bench, byte)
         }
     }
 }
@@ -132,14 +163,15 @@ const FAULTS: [(&str, Wrong); 29] = [
 
 /// Prints one line for each fault; answers how many were found and how many not.
 pub fn run() -> (usize, usize) {
-    let mut results: Vec<(String, bool)> =
-        FAULTS.iter().map(|(name, wrong)| found(name, wrong)).collect();
+    let faults = FAULTS.iter().chain(&rows::FAULTS).chain(&keys::FAULTS);
+    let mut results: Vec<(String, bool)> = faults.map(|(name, wrong)| found(name, wrong)).collect();
     let none = compare(&Reference, &Reference, &PLAN);
     results.push((
         "the reference equals itself".into(),
-        none.differences() == 0 && none.tally.missing().is_empty(),
+        none.differences() == 0 && none.missing().is_empty(),
     ));
-    results.push(("answers never seen are told".into(), !Tally::default().missing().is_empty()));
+    let untold = Library::ALL.map(|library| Tally::default().missing(|asked| asked == library));
+    results.push(("answers never seen are told".into(), !untold.iter().any(Vec::is_empty)));
     for (name, passed) in &results {
         println!("{} {name}", if *passed { "ok" } else { "FAIL" });
     }

@@ -1,19 +1,31 @@
 //! How often each possible answer was given.
 
+use crate::boundary::RowsResult;
+use crate::broken::WAYS;
+use crate::program::Library;
+use reference::names::ITEMS;
+use reference::rows::{NAMES, ROWS};
+
 const GRADES: &[&str] = &["0 0", "0 2", "0 3", "0 4", "7 0"];
 
-/// Each question with its possible answers.
-const QUESTIONS: [(&str, &[&str]); 9] = [
-    ("line", &["0", "5", "6", "7"]),
-    ("row 6", GRADES),
-    ("row 8", GRADES),
-    ("row 10", GRADES),
-    ("another row", &["6 0"]),
-    ("number", &["none", "below 0", "0", "above 0"]),
-    ("value", &["none", "unassigned", "bare", "quoted"]),
-    ("line's form", &["no", "yes"]),
-    ("item", &["none", "1", "2", "3", "4", "5", "6", "7", "8", "9", "10"]),
+/// Each question with its archive and its possible answers.
+const QUESTIONS: [(Library, &str, &[&str]); 13] = [
+    (Library::Wall, "line", &["0", "5", "6", "7"]),
+    (Library::Wall, "row 6", GRADES),
+    (Library::Wall, "row 8", GRADES),
+    (Library::Wall, "row 10", GRADES),
+    (Library::Wall, "another row", &["6 0"]),
+    (Library::Probe, "number", &["none", "below 0", "0", "above 0"]),
+    (Library::Probe, "value", &["none", "unassigned", "bare", "quoted"]),
+    (Library::Probe, "line's form", &["no", "yes"]),
+    (Library::Probe, "item", &["none", "1", "2", "3", "4", "5", "6", "7", "8", "9", "10"]),
+    (Library::Keys, "key", &["0", "1", "2", "3", "4", "5", "6", "7", "8"]),
+    (Library::Keys, "key accepted", &["append", "erase", "erase nothing", "empty", "Enter"]),
+    (Library::Keys, "entry's bench", &["0", "1", "2", "3"]),
+    (Library::Keys, "entry's item", &["1", "2", "3", "4", "5", "6", "7", "8", "9", "10"]),
 ];
+/// The most answers of a question.
+const MOST: usize = ITEMS.len() + 1;
 
 #[derive(Clone, Copy)]
 pub enum Question {
@@ -26,11 +38,48 @@ pub enum Question {
     Value,
     Form,
     Item,
+    Key,
+    KeyAccepted,
+    EntryBench,
+    EntryItem,
 }
 
-#[derive(Default)]
+const GRADED: &[(u8, u8)] = &[(0, 0), (2, 0), (3, 0), (4, 0), (2, 1)];
+const OLD_NAME: &[(u8, u8)] = &[(0, 0), (1, 0)];
+
+/// The levels and reasons that each row can have.
+const POSSIBLE: [&[(u8, u8)]; ROWS] = [
+    &[(0, 0), (4, 0), (2, 1)],
+    &[(0, 0), (3, 0), (2, 1)],
+    &[(0, 0), (1, 0), (1, 1), (1, 2)],
+    &[(0, 0), (2, 0), (3, 0), (4, 0), (2, 1), (2, 2)],
+    &[(0, 0), (2, 0), (0, 1), (0, 2)],
+    GRADED,
+    OLD_NAME,
+    GRADED,
+    OLD_NAME,
+    GRADED,
+    OLD_NAME,
+    &[(0, 0), (2, 0), (3, 0), (4, 0), (2, 1), (2, 2)],
+];
+
+/// One question: its archive, its name, and each possible answer with its count.
+type Counted = (Library, String, Vec<(String, u64)>);
+
 pub struct Tally {
-    counts: [[u64; 11]; QUESTIONS.len()],
+    counts: [[u64; MOST]; QUESTIONS.len()],
+    rows: [[u64; MOST]; ROWS],
+    ways: [u64; WAYS.len()],
+}
+
+impl Default for Tally {
+    fn default() -> Self {
+        Tally {
+            counts: [[0; MOST]; QUESTIONS.len()],
+            rows: [[0; MOST]; ROWS],
+            ways: [0; WAYS.len()],
+        }
+    }
 }
 
 impl Tally {
@@ -42,32 +91,53 @@ impl Tally {
         }
     }
 
-    /// The possible answers never given.
-    pub fn missing(&self) -> Vec<String> {
-        let unseen =
-            |(question, answer, count)| (count == 0).then(|| format!("{question}: {answer}"));
-        self.rows()
-            .flat_map(|(question, row)| {
-                row.into_iter().map(move |(answer, count)| (question, answer, count))
-            })
-            .filter_map(unseen)
-            .collect()
-    }
-
-    pub fn print(&self) {
-        println!("answers seen");
-        for (question, row) in self.rows() {
-            let row: Vec<String> =
-                row.into_iter().map(|(answer, count)| format!("{answer}: {count}")).collect();
-            println!("  {question:<12} {}", row.join(", "));
+    /// Counts each row of a report.
+    pub fn note_rows(&mut self, result: &RowsResult) {
+        for ((row, possible), counts) in result.rows.iter().zip(POSSIBLE).zip(&mut self.rows) {
+            if let Some(at) = possible.iter().position(|&pair| pair == (row.level, row.reason)) {
+                counts[at] += 1;
+            }
         }
     }
 
-    fn rows(&self) -> impl Iterator<Item = (&'static str, Vec<(&'static str, u64)>)> + '_ {
-        let pair =
-            |((question, answers), counts): (&(&'static str, &[&'static str]), &[u64; 11])| {
-                (*question, answers.iter().copied().zip(counts.iter().copied()).collect())
-            };
-        QUESTIONS.iter().zip(&self.counts).map(pair)
+    /// Counts a call that found a desk broken in one way not sound.
+    pub fn note_unsound(&mut self, way: usize) {
+        self.ways[way] += 1;
+    }
+
+    /// The possible answers to the asked archives' questions that were never given.
+    pub fn missing(&self, asked: impl Fn(Library) -> bool) -> Vec<String> {
+        let counted = self.counted().into_iter().filter(|(library, ..)| asked(*library));
+        counted
+            .flat_map(|(_, question, row)| {
+                let unseen = row.into_iter().filter(|(_, count)| *count == 0);
+                unseen.map(move |(answer, _)| format!("{question}: {answer}")).collect::<Vec<_>>()
+            })
+            .collect()
+    }
+
+    pub fn print(&self, asked: impl Fn(Library) -> bool) {
+        println!("answers seen");
+        for (_, question, row) in self.counted().into_iter().filter(|(library, ..)| asked(*library))
+        {
+            let row: Vec<String> =
+                row.into_iter().map(|(answer, count)| format!("{answer}: {count}")).collect();
+            let parts: Vec<String> = row.chunks(MOST).map(|part| part.join(", ")).collect();
+            println!("  {question:<13} {}", parts.join(&format!(",\n{:16}", "")));
+        }
+    }
+
+    fn counted(&self) -> Vec<Counted> {
+        let questions = QUESTIONS.iter().zip(&self.counts).map(|((library, name, all), counts)| {
+            let row = all.iter().map(|answer| answer.to_string()).zip(*counts).collect();
+            (*library, name.to_string(), row)
+        });
+        let rows = (1..).zip(NAMES).zip(POSSIBLE).zip(&self.rows);
+        let rows = rows.map(|(((number, name), possible), counts)| {
+            let pairs = possible.iter().map(|(level, reason)| format!("{level}/{reason}"));
+            (Library::Rows, format!("{number:02} {name}"), pairs.zip(*counts).collect())
+        });
+        let ways = WAYS.iter().map(|(name, _)| name.to_string()).zip(self.ways).collect();
+        questions.chain(rows).chain([(Library::Keys, "not sound".into(), ways)]).collect()
     }
 }

@@ -1,12 +1,17 @@
-//! The readers of document 01, written from its text alone and not proved.
+//! The rules of document 01, written from its text alone and not proved: the readers of a line,
+//! the twelve rows and the whole desk.
 //! The comparison holds the proved library to this program.
 //!
-//! Every function is pure. Quoted sentences are document 01's.
+//! Every function but the key call is pure. Quoted sentences are document 01's.
 
+pub mod desk;
+pub mod formula;
 pub mod grade;
 pub mod line;
 pub mod names;
 pub mod number;
+pub mod program;
+pub mod rows;
 pub mod value;
 
 /// The text before the first `mark` and the text after it; none without a mark.

@@ -1,0 +1,175 @@
+//! Ways to break a sound desk, each in one place.
+
+use crate::boundary::{ItemState, TextLine};
+use crate::desks::{item_state, longest_value, Desks, State};
+use crate::random::Random;
+use reference::desk::{BENCHES, LOG_LIMIT, RECORD_HEAD};
+use reference::line::LIMIT;
+use reference::names::ITEMS;
+
+/// Bytes that neither a line nor a value may hold.
+const BAD_BYTES: [u8; 8] = [0, 1, 9, 10, 31, 127, 128, 255];
+/// Lengths beyond the limit, and what a cut-off number would turn into one within it.
+const BAD_LENGTHS: [u64; 7] = [LIMIT as u64 + 1, 100, 200, 256, (1 << 32) + 1, 1 << 63, u64::MAX];
+/// Values that have no form, of bytes that a value may hold.
+const NO_VALUES: [&str; 9] = ["a b", "'", "'a'b'", "_a", "#1", "loop_", "DATA_x", " 1", "1 "];
+
+type Break = fn(&mut State, &mut Random);
+
+/// Each way by name.
+pub const WAYS: [(&str, Break); 36] = [
+    ("line longer than the limit", |state, random| {
+        line(state, random).len = random.pick(&BAD_LENGTHS);
+    }),
+    ("line of the limit with zeros", |state, random| filled_line(state, random).len = LIMIT as u64),
+    ("line one byte longer", |state, random| filled_line(state, random).len += 1),
+    ("line one byte shorter", |state, random| filled_line(state, random).len -= 1),
+    ("line's first byte out of range", |state, random| {
+        filled_line(state, random).bytes[0] = random.pick(&BAD_BYTES);
+    }),
+    ("line's last byte out of range", |state, random| {
+        let line = filled_line(state, random);
+        line.bytes[line.len as usize - 1] = random.pick(&BAD_BYTES);
+    }),
+    ("line's first unused byte", |state, random| {
+        let line = filled_line(state, random);
+        line.bytes[line.len as usize] = 1 + random.byte() % 255;
+    }),
+    ("line's last unused byte", |state, random| {
+        filled_line(state, random).bytes[LIMIT - 1] = 1 + random.byte() % 255;
+    }),
+    ("item's bench one too high", |state, random| {
+        filled_item(state, random).bench = BENCHES as u8;
+    }),
+    ("item's bench 255", |state, random| filled_item(state, random).bench = 255),
+    ("item's entry 0", |state, random| filled_item(state, random).entry = 0),
+    ("item's entry one above the count", |state, random| {
+        let count = state.desk.sheet.count;
+        filled_item(state, random).entry = count + 1;
+    }),
+    ("item's entry largest", |state, random| filled_item(state, random).entry = u64::MAX),
+    ("item's entry beyond 32 bits", |state, random| filled_item(state, random).entry += 1 << 32),
+    ("item without form", |state, random| {
+        let item = 1 + random.below(ITEMS.len());
+        let value = random.pick(&NO_VALUES);
+        set(state, random, item, value.as_bytes());
+    }),
+    ("number item without a number", |state, random| {
+        let item = random.pick(&[2, 4, 5, 6, 7, 8, 9]);
+        let value = random.pick(&["x", "'1'", "1.", "1234567890"]);
+        set(state, random, item, value.as_bytes());
+    }),
+    ("category item without a category", |state, random| {
+        let value = random.pick(&["FX", "fo", "1", "''"]);
+        set(state, random, 3, value.as_bytes());
+    }),
+    ("item of another kind", |state, random| {
+        let (item, value) = random.pick(&[(3, "0.1"), (2, "FO"), (9, "'C H'"), (3, "C")]);
+        set(state, random, item, value.as_bytes());
+    }),
+    ("item one byte too long for its name", |state, random| {
+        let item = random.pick(&[1, 10]);
+        set(state, random, item, &vec![b'x'; longest_value(item) + 1]);
+    }),
+    ("item as long as the limit", |state, random| {
+        let item = random.pick(&[1, 10]);
+        set(state, random, item, &[b'x'; LIMIT]);
+    }),
+    ("item longer than the limit", |state, random| {
+        filled_item(state, random).len = random.pick(&BAD_LENGTHS);
+    }),
+    ("item one byte longer", |state, random| filled_item(state, random).len += 1),
+    ("item with length 0", |state, random| filled_item(state, random).len = 0),
+    ("item's byte out of range", |state, random| {
+        filled_item(state, random).value[0] = random.pick(&BAD_BYTES);
+    }),
+    ("text item's byte out of range", |state, random| {
+        let item = random.pick(&[1, 10]);
+        let value = [b'\'', random.pick(&BAD_BYTES), b'\''];
+        set(state, random, item, &value);
+    }),
+    ("item's first unused byte", |state, random| {
+        let item = filled_item(state, random);
+        item.value[item.len as usize] = 1 + random.byte() % 255;
+    }),
+    ("item's last unused byte", |state, random| {
+        filled_item(state, random).value[LIMIT - 1] = 1 + random.byte() % 255;
+    }),
+    ("empty item's bench", |state, random| empty_item(state, random).bench = 1),
+    ("empty item's entry", |state, random| empty_item(state, random).entry = 1),
+    ("empty item's byte", |state, random| {
+        empty_item(state, random).value[random.below(LIMIT)] = b'?';
+    }),
+    ("empty item's length", |state, random| empty_item(state, random).len = 1),
+    ("count above a sixth of used", |state, random| {
+        let count = state.used / RECORD_HEAD as u64 + 1;
+        state.desk.sheet.count =
+            random.pick(&[count, count, u64::MAX, u64::MAX.div_ceil(RECORD_HEAD as u64), 1 << 63]);
+    }),
+    ("used below six times the count", |state, random| {
+        state.used = match random.below(2) {
+            0 => 0,
+            _ => RECORD_HEAD as u64 * state.desk.sheet.count - 1,
+        };
+    }),
+    ("count below an entry", |state, random| {
+        let entry = state.desk.sheet.count;
+        filled_item(state, random).entry = entry;
+        state.desk.sheet.count -= 1;
+    }),
+    ("used above the log's length", |state, random| {
+        let length = state.log.len() as u64;
+        state.used = random.pick(&[length + 1, length + (1 << 32), 1 << 63, u64::MAX]);
+    }),
+    ("log longer than the limit", |state, random| {
+        state.log.resize(LOG_LIMIT + random.pick(&[1, 2, 4464]), 0x5a);
+    }),
+];
+
+/// A sound desk with something in it to break: a line that is neither empty nor full, a filled and
+/// an empty item, entries counted.
+pub fn breakable(desks: &mut Desks) -> State {
+    loop {
+        let state = desks.sound();
+        let mut items = state.desk.sheet.items.iter();
+        if state.desk.lines.iter().any(is_partly_filled)
+            && items.any(|item| item.len > 0)
+            && state.desk.sheet.items.iter().any(|item| item.len == 0)
+        {
+            return state;
+        }
+    }
+}
+
+fn is_partly_filled(line: &TextLine) -> bool {
+    (1..LIMIT as u64).contains(&line.len)
+}
+
+fn line<'a>(state: &'a mut State, random: &mut Random) -> &'a mut TextLine {
+    &mut state.desk.lines[random.below(BENCHES)]
+}
+
+fn filled_line<'a>(state: &'a mut State, random: &mut Random) -> &'a mut TextLine {
+    some(&mut state.desk.lines, random, is_partly_filled)
+}
+
+fn filled_item<'a>(state: &'a mut State, random: &mut Random) -> &'a mut ItemState {
+    some(&mut state.desk.sheet.items, random, |item| item.len > 0)
+}
+
+fn empty_item<'a>(state: &'a mut State, random: &mut Random) -> &'a mut ItemState {
+    some(&mut state.desk.sheet.items, random, |item| item.len == 0)
+}
+
+/// One of those that are so; there is one.
+fn some<'a, T>(from: &'a mut [T], random: &mut Random, is_so: fn(&T) -> bool) -> &'a mut T {
+    let mut so: Vec<&mut T> = from.iter_mut().filter(|part| is_so(part)).collect();
+    let at = random.below(so.len());
+    so.swap_remove(at)
+}
+
+/// Fills an item with a value that may be wrong for it.
+fn set(state: &mut State, random: &mut Random, item: usize, value: &[u8]) {
+    let bench = random.below(BENCHES) as u8;
+    state.desk.sheet.items[item - 1] = item_state(value, bench, state.desk.sheet.count);
+}

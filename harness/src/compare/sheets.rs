@@ -1,0 +1,66 @@
+//! The comparison of the twelve rows.
+
+use super::{hex, Comparison, Plan};
+use crate::boundary::{Row, RowsResult};
+use crate::program::Values;
+use crate::sheet_lists;
+use crate::sheets::Sheets;
+use reference::rows::NAMES;
+
+/// One sheet for each two lines.
+const ONE_IN: u64 = 2;
+
+impl Comparison<'_> {
+    pub(super) fn all_sheets(&mut self, plan: &Plan) {
+        let half = plan.half(ONE_IN);
+        self.generated_sheets("sheets, fixed seed", plan.fixed_seed, half);
+        self.generated_sheets("sheets, new seed", plan.new_seed, half);
+        self.sheets("measured examples", sheet_lists::measured_examples());
+        self.sheets("mixtures of missing items", sheet_lists::missing_mixtures());
+        self.sheets("symbols", sheet_lists::symbols());
+        self.sheets("symbols with categories", sheet_lists::classes());
+        self.sheets("symbols in pairs", sheet_lists::pairs());
+        self.sheets("counts", sheet_lists::counts());
+        self.sheets("weights at the bounds", sheet_lists::weights_at_bounds());
+        self.sheets("numbers on sheets", sheet_lists::numbers());
+        self.sheets("thresholds at the bounds", sheet_lists::thresholds_at_bounds());
+        self.sheets("texts one byte off", sheet_lists::texts_one_byte_off());
+    }
+
+    fn generated_sheets(&mut self, name: &'static str, seed: u64, count: u64) {
+        let mut sheets = Sheets::new(seed);
+        self.sheets(name, (0..count).map(|_| sheets.sheet()));
+    }
+
+    fn sheets(&mut self, name: &'static str, sheets: impl IntoIterator<Item = Values>) {
+        self.begin(name);
+        for values in sheets {
+            self.group().inputs += 1;
+            self.sheet(&values);
+        }
+    }
+
+    fn sheet(&mut self, values: &Values) {
+        let (tested, expected) = (self.tested.rows(values), self.expected.rows(values));
+        self.group().answers += expected.rows.len() as u64;
+        self.tally.note_rows(&tested);
+        if tested != expected {
+            self.different(|| sheet_example(values, &tested, &expected));
+        }
+    }
+}
+
+/// The values, and the rows that differ.
+fn sheet_example(values: &Values, tested: &RowsResult, expected: &RowsResult) -> String {
+    let values = values.parts().map(hex).join(",");
+    let told = |row: &Row| format!("{}/{}", row.level, row.reason);
+    let rows: Vec<String> = NAMES
+        .iter()
+        .zip(tested.rows.iter().zip(&expected.rows))
+        .filter(|(_, (tested, expected))| tested != expected)
+        .map(|(name, (tested, expected))| {
+            format!("{name} {}, reference {}", told(tested), told(expected))
+        })
+        .collect();
+    format!("probe_rows, values {values}: {}", rows.join("; "))
+}

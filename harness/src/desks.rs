@@ -1,0 +1,120 @@
+//! Desks with their logs: fresh, and generated sound ones.
+
+use crate::boundary::{Desk, ItemState, KeyResult, TextLine};
+use crate::inputs::Inputs;
+use crate::program::Program;
+use crate::random::Random;
+use crate::sheets::Sheets;
+use reference::desk::{BENCHES, FRESH, LOG_LIMIT, RECORD_HEAD};
+use reference::line::{split, BYTES, LIMIT};
+use reference::names::ITEMS;
+
+/// A desk, its log and the used number, as one program holds them.
+#[derive(Clone, PartialEq, Eq)]
+pub struct State {
+    pub desk: Desk,
+    pub log: Vec<u8>,
+    pub used: u64,
+}
+
+impl State {
+    /// A fresh desk and a log whose byte i is (seed + 7 * i) mod 256, none used.
+    pub fn fresh(length: usize, seed: u64) -> Self {
+        let byte = |at: u64| seed.wrapping_add(at.wrapping_mul(7)) as u8;
+        State { desk: (&FRESH).into(), log: (0..length as u64).map(byte).collect(), used: 0 }
+    }
+
+    /// A key call by one program; its result is the new state.
+    pub fn key(&mut self, program: &dyn Program, bench: u64, byte: u8) -> KeyResult {
+        let result = program.key(&self.desk, &mut self.log, self.used, bench, byte);
+        (self.desk, self.used) = (result.desk, result.used);
+        result
+    }
+}
+
+/// The text with zeros after it.
+pub fn padded(text: &[u8]) -> [u8; LIMIT] {
+    let mut bytes = [0; LIMIT];
+    bytes[..text.len()].copy_from_slice(text);
+    bytes
+}
+
+pub fn text_line(text: &[u8]) -> TextLine {
+    TextLine { bytes: padded(text), len: text.len() as u64 }
+}
+
+pub fn item_state(value: &[u8], bench: u8, entry: u64) -> ItemState {
+    ItemState { value: padded(value), len: value.len() as u64, entry, bench }
+}
+
+/// The longest value that an item takes: with its name and one space a line at the limit.
+pub fn longest_value(item: usize) -> usize {
+    LIMIT - ITEMS[item - 1].0.len() - 1
+}
+
+pub struct Desks {
+    random: Random,
+    inputs: Inputs,
+    sheets: Sheets,
+}
+
+impl Desks {
+    pub fn new(seed: u64) -> Self {
+        let sheets = Sheets::new(seed.rotate_left(16));
+        Desks { random: Random::new(seed), inputs: Inputs::new(!seed), sheets }
+    }
+
+    /// A line that Enter often accepts.
+    pub fn line(&mut self) -> Vec<u8> {
+        if self.random.once_in(4) {
+            return self.inputs.line();
+        }
+        if self.random.once_in(3) {
+            return self.inputs.good_line();
+        }
+        let item = 1 + self.random.below(ITEMS.len());
+        let name = ITEMS[item - 1].0.as_bytes();
+        let spaces = vec![b' '; self.random.pick(&[1, 1, 1, 1, 2, 5])];
+        [name, &spaces, &self.sheets.value(item)].concat()
+    }
+
+    /// The same, of bytes that a line may hold and at most as long.
+    fn typed_line(&mut self) -> Vec<u8> {
+        let mut line = self.line();
+        line.retain(|byte| BYTES.contains(byte));
+        if self.random.once_in(16) {
+            line.resize(LIMIT, b'x');
+        }
+        line.truncate(LIMIT);
+        line
+    }
+
+    /// A sound desk, not always one that keys can reach, and a sound log. The room left is often
+    /// just what the record of one bench's line takes, or a byte less.
+    pub fn sound(&mut self) -> State {
+        let mut desk = Desk::from(&FRESH);
+        desk.sheet.count = self.random.pick(&[0, 1, 1, 2, 3, 10, 10, 40, 600]);
+        let filled = self.random.pick(&[0, 1, 2, 2]);
+        for (place, value) in self.sheets.values().into_iter().enumerate() {
+            let short = (1..=longest_value(place + 1)).contains(&value.len());
+            if short && desk.sheet.count > 0 && self.random.below(3) <= filled {
+                let bench = self.random.below(BENCHES) as u8;
+                let entry = 1 + self.random.next() % desk.sheet.count;
+                desk.sheet.items[place] = item_state(&value, bench, entry);
+            }
+        }
+        let lines: [Vec<u8>; BENCHES] = std::array::from_fn(|_| match self.random.below(4) {
+            0 => vec![],
+            _ => self.typed_line(),
+        });
+        desk.lines = std::array::from_fn(|bench| text_line(&lines[bench]));
+        let extra = self.random.pick(&[0, 0, 1, 7, 90]);
+        let used = RECORD_HEAD * desk.sheet.count as usize + extra;
+        let line = &lines[self.random.below(BENCHES)];
+        let record = RECORD_HEAD + split(line).map_or(0, |(_, value)| value.len());
+        let room = self.random.pick(&[record - 1, record, record, record + 1, 100, 100, 1000]);
+        let length = if self.random.once_in(200) { LOG_LIMIT } else { used + room };
+        let log = State::fresh(length, self.random.next()).log;
+        State { desk, log, used: used as u64 }
+    }
+}

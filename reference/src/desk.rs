@@ -1,0 +1,434 @@
+//! The whole desk: document 01, "What the desk holds", "Keys and their refusals" and "The log".
+
+use crate::line::{classify, split, ACCEPTED, BYTES, LIMIT};
+use crate::names::{item, passes, ITEMS};
+use crate::rows::{rows, Row, Values, ROWS};
+
+/// "Four benches, 0 to 3"
+pub const BENCHES: usize = 4;
+/// "bytes lent by the caller, at most 65,536"
+pub const LOG_LIMIT: usize = 65_536;
+/// "Length is 6 plus the value's."
+pub const RECORD_HEAD: usize = 6;
+/// "kind 1"
+pub const RECORD_KIND: u16 = 1;
+
+/// "8 erases"
+pub const ERASE: u8 = 8;
+/// "10 is Enter"
+pub const ENTER: u8 = 10;
+/// "24 empties the line"
+pub const EMPTY: u8 = 24;
+
+/// "the bench is not 0 to 3"
+pub const NO_SUCH_BENCH: u8 = 1;
+/// "the desk is not sound"
+pub const NOT_SOUND: u8 = 2;
+/// "the byte is none of those above"
+pub const NO_SUCH_KEY: u8 = 3;
+/// "a byte to append meets a line of 80"
+pub const LINE_FULL: u8 = 4;
+/// *Who*: "6 if not 1 to 10"
+pub const NO_SUCH_ITEM: u8 = 6;
+/// "the record is longer than the unused part of the log"
+pub const LOG_FULL: u8 = 8;
+/// *Who*: "For an empty item, and with any refusal, bench is 255 and entry 0."
+pub const NO_BENCH: u8 = 255;
+
+/// One bench's unfinished line.
+#[derive(Clone, Copy, Debug, PartialEq, Eq)]
+pub struct Line {
+    pub bytes: [u8; LIMIT],
+    pub len: u64,
+}
+
+/// One item of the sheet; empty where its length is 0.
+#[derive(Clone, Copy, Debug, PartialEq, Eq)]
+pub struct Item {
+    pub value: [u8; LIMIT],
+    pub len: u64,
+    pub bench: u8,
+    pub entry: u64,
+}
+
+/// The desk without its log. Any values may stand in the fields, those of an unsound desk too.
+#[derive(Clone, Copy, Debug, PartialEq, Eq)]
+pub struct Desk {
+    pub lines: [Line; BENCHES],
+    pub items: [Item; ITEMS.len()],
+    pub count: u64,
+}
+
+const EMPTY_LINE: Line = Line { bytes: [0; LIMIT], len: 0 };
+const EMPTY_ITEM: Item = Item { value: [0; LIMIT], len: 0, bench: 0, entry: 0 };
+
+/// "A fresh desk has all of this empty."
+pub const FRESH: Desk =
+    Desk { lines: [EMPTY_LINE; BENCHES], items: [EMPTY_ITEM; ITEMS.len()], count: 0 };
+
+/// The used bytes, where there are so many and the unused ones are zero.
+fn used_bytes(bytes: &[u8; LIMIT], len: u64) -> Option<&[u8]> {
+    let (used, unused) = bytes.split_at_checked(usize::try_from(len).ok()?)?;
+    unused.iter().all(|&byte| byte == 0).then_some(used)
+}
+
+fn printable(text: &[u8]) -> bool {
+    text.iter().all(|byte| BYTES.contains(byte))
+}
+
+/// The text with zeros after it.
+fn padded(text: &[u8]) -> [u8; LIMIT] {
+    let mut bytes = [0; LIMIT];
+    bytes[..text.len()].copy_from_slice(text);
+    bytes
+}
+
+/// "each line is at most 80 bytes, all 32 to 126"
+fn line_is_sound(line: &Line) -> bool {
+    used_bytes(&line.bytes, line.len).is_some_and(printable)
+}
+
+/// "each filled item has bench 0 to 3, an entry number from 1 to the count and a value of the form
+/// below, bytes 32 to 126, that passes its kind and makes, after its name and one space, a line of
+/// at most 80 bytes; empty items are zero"
+fn item_is_sound(number: usize, item: &Item, count: u64) -> bool {
+    if item.len == 0 {
+        return *item == EMPTY_ITEM;
+    }
+    let Some(value) = used_bytes(&item.value, item.len) else {
+        return false;
+    };
+    usize::from(item.bench) < BENCHES
+        && (1..=count).contains(&item.entry)
+        && printable(value)
+        && passes(number, value)
+        && ITEMS[number - 1].0.len() + 1 + value.len() <= LIMIT
+}
+
+/// Soundness without the log's part.
+pub fn is_sound(desk: &Desk) -> bool {
+    desk.lines.iter().all(line_is_sound)
+        && (1..).zip(&desk.items).all(|(number, item)| item_is_sound(number, item, desk.count))
+}
+
+/// "the log is at most 65,536 bytes long, used is not more than its length, and six times the
+/// count is not more than used"
+pub fn log_is_sound(count: u64, log: &[u8], used: u64) -> bool {
+    let (length, used, count) = (log.len() as u128, u128::from(used), u128::from(count));
+    log.len() <= LOG_LIMIT && used <= length && RECORD_HEAD as u128 * count <= used
+}
+
+/// A key call. The first answer that applies; a refused call changes nothing.
+pub fn key(desk: &mut Desk, log: &mut [u8], used: &mut u64, bench: u64, byte: u8) -> u8 {
+    if bench >= BENCHES as u64 {
+        return NO_SUCH_BENCH;
+    }
+    if !is_sound(desk) || !log_is_sound(desk.count, log, *used) {
+        return NOT_SOUND;
+    }
+    let line = &mut desk.lines[bench as usize];
+    let len = line.len as usize;
+    match byte {
+        ENTER => return enter(desk, log, used, bench as u8),
+        EMPTY => *line = EMPTY_LINE,
+        ERASE if len == 0 => {}
+        ERASE => *line = Line { bytes: padded(&line.bytes[..len - 1]), len: line.len - 1 },
+        _ if !BYTES.contains(&byte) => return NO_SUCH_KEY,
+        _ if len == LIMIT => return LINE_FULL,
+        _ => {
+            line.bytes[len] = byte;
+            line.len += 1;
+        }
+    }
+    ACCEPTED
+}
+
+/// "An accepted Enter stores the value, writes the log record and empties that line."
+fn enter(desk: &mut Desk, log: &mut [u8], used: &mut u64, bench: u8) -> u8 {
+    let Line { bytes, len } = desk.lines[usize::from(bench)];
+    let typed = &bytes[..len as usize];
+    let refusal = classify(typed);
+    let (ACCEPTED, Some((name, value))) = (refusal, split(typed)) else {
+        return refusal;
+    };
+    let number = item(name).expect("an accepted line names an item");
+    let record = record(bench, number as u8, value);
+    let free = &mut log[*used as usize..];
+    if record.len() > free.len() {
+        return LOG_FULL;
+    }
+    free[..record.len()].copy_from_slice(&record);
+    *used += record.len() as u64;
+    desk.count += 1;
+    desk.items[number - 1] =
+        Item { value: padded(value), len: value.len() as u64, bench, entry: desk.count };
+    desk.lines[usize::from(bench)] = EMPTY_LINE;
+    ACCEPTED
+}
+
+/// "length of the whole record (two bytes), kind 1 (two bytes), bench, item, the value as typed;
+/// numbers little-endian"
+pub fn record(bench: u8, item: u8, value: &[u8]) -> Vec<u8> {
+    let length = (RECORD_HEAD + value.len()) as u16;
+    [&length.to_le_bytes(), &RECORD_KIND.to_le_bytes(), &[bench, item][..], value].concat()
+}
+
+/// The question *Report*: "on an unsound desk it gives 2 and rows all level 0, reason 0".
+pub fn report(desk: &Desk) -> (u8, [Row; ROWS]) {
+    if !is_sound(desk) {
+        return (NOT_SOUND, [Row::default(); ROWS]);
+    }
+    let values: Values = std::array::from_fn(|place| {
+        let item = &desk.items[place];
+        &item.value[..item.len as usize]
+    });
+    (ACCEPTED, rows(&values))
+}
+
+/// The question *Who*: answer, bench and entry number.
+pub fn who(desk: &Desk, item: u64) -> (u8, u8, u64) {
+    if !is_sound(desk) {
+        return (NOT_SOUND, NO_BENCH, 0);
+    }
+    if !(1..=ITEMS.len() as u64).contains(&item) {
+        return (NO_SUCH_ITEM, NO_BENCH, 0);
+    }
+    match desk.items[item as usize - 1] {
+        EMPTY_ITEM => (ACCEPTED, NO_BENCH, 0),
+        Item { bench, entry, .. } => (ACCEPTED, bench, entry),
+    }
+}
+
+#[cfg(test)]
+mod tests {
+    use super::*;
+
+    /// A desk with its log, and every call's answer checked for changing nothing when refused.
+    struct Run {
+        desk: Desk,
+        log: Vec<u8>,
+        used: u64,
+    }
+
+    impl Run {
+        fn new(length: usize) -> Self {
+            Run { desk: FRESH, log: vec![0xee; length], used: 0 }
+        }
+
+        fn key(&mut self, bench: u64, byte: u8) -> u8 {
+            let before = (self.desk, self.log.clone(), self.used);
+            let answer = key(&mut self.desk, &mut self.log, &mut self.used, bench, byte);
+            if answer != ACCEPTED {
+                assert_eq!(before, (self.desk, self.log.clone(), self.used));
+            }
+            answer
+        }
+
+        fn text(&mut self, bench: u64, text: &str) {
+            for byte in text.bytes() {
+                assert_eq!(self.key(bench, byte), ACCEPTED);
+            }
+        }
+
+        fn enter(&mut self, bench: u64, text: &str) -> u8 {
+            self.text(bench, text);
+            self.key(bench, ENTER)
+        }
+
+        fn typed(&self, bench: usize) -> &[u8] {
+            let line = &self.desk.lines[bench];
+            &line.bytes[..line.len as usize]
+        }
+    }
+
+    const ENTRY: &str = "_refine_ls_R_factor_gt 0.16";
+    const RECORD: [u8; 10] = [0x0a, 0, 1, 0, 0, 4, 0x30, 0x2e, 0x31, 0x36];
+
+    #[test]
+    fn the_record_of_the_measured_examples() {
+        let mut run = Run::new(4096);
+        assert_eq!(run.enter(0, ENTRY), ACCEPTED);
+        assert_eq!((run.used, &run.log[..10]), (10, &RECORD[..]));
+        assert!(run.log[10..].iter().all(|&byte| byte == 0xee));
+        assert_eq!(run.desk.lines[0], EMPTY_LINE);
+        assert_eq!(run.desk.count, 1);
+        assert_eq!(who(&run.desk, 4), (0, 0, 1));
+    }
+
+    #[test]
+    fn exact_room_and_one_byte_less() {
+        let mut run = Run::new(10);
+        assert_eq!((run.enter(0, ENTRY), run.used), (ACCEPTED, 10));
+        assert_eq!(run.log, RECORD);
+        let mut run = Run::new(9);
+        assert_eq!((run.enter(0, ENTRY), run.used), (LOG_FULL, 0));
+        assert_eq!(run.typed(0), ENTRY.as_bytes());
+    }
+
+    #[test]
+    fn key_80_and_key_81() {
+        let mut run = Run::new(0);
+        run.text(2, &"x".repeat(LIMIT));
+        assert_eq!(run.key(2, b'x'), LINE_FULL);
+        assert_eq!(run.key(2, 3), NO_SUCH_KEY);
+        assert_eq!(run.key(1, b'x'), ACCEPTED);
+        assert_eq!(run.key(2, ERASE), ACCEPTED);
+        assert_eq!(run.key(2, b'y'), ACCEPTED);
+        assert_eq!(run.typed(2), [&[b'x'; LIMIT - 1][..], b"y"].concat());
+    }
+
+    #[test]
+    fn refusals_of_enter_keep_the_line() {
+        let mut run = Run::new(100);
+        for (text, answer) in [("", 5), ("_a 1", 6), ("_chemical_formula_weight x", 7)] {
+            assert_eq!(run.enter(3, text), answer);
+            assert_eq!(run.typed(3), text.as_bytes());
+            assert_eq!(run.key(3, EMPTY), ACCEPTED);
+            assert_eq!(run.typed(3), b"");
+        }
+        assert_eq!(run.enter(3, "_chemical_formula_weight 1x"), 7);
+        assert_eq!(run.key(3, ERASE), ACCEPTED);
+        assert_eq!(run.key(3, ENTER), ACCEPTED);
+        assert_eq!(run.log[..7], [7, 0, 1, 0, 3, 2, b'1']);
+    }
+
+    #[test]
+    fn erasing_nothing_is_accepted() {
+        let mut run = Run::new(0);
+        assert_eq!(run.key(0, ERASE), ACCEPTED);
+        assert_eq!(run.key(0, EMPTY), ACCEPTED);
+        assert_eq!(run.desk, FRESH);
+    }
+
+    #[test]
+    fn every_byte() {
+        for byte in 0..=u8::MAX {
+            let expected = match byte {
+                8 | 24 | 32..=126 => ACCEPTED,
+                10 => 5,
+                _ => NO_SUCH_KEY,
+            };
+            assert_eq!(Run::new(0).key(1, byte), expected, "{byte}");
+        }
+    }
+
+    #[test]
+    fn no_such_bench_stands_first() {
+        let mut run = Run::new(LOG_LIMIT + 1);
+        for bench in [4, 5, 255, 256, 1 << 32, (1 << 32) + 1, 1 << 63, u64::MAX] {
+            for byte in [0, ENTER, b'a'] {
+                assert_eq!(run.key(bench, byte), NO_SUCH_BENCH);
+            }
+        }
+        assert_eq!(run.key(0, 0), NOT_SOUND);
+        assert_eq!(Run::new(LOG_LIMIT).key(0, 0), NO_SUCH_KEY);
+    }
+
+    #[test]
+    fn entries_replace_and_count() {
+        let mut run = Run::new(4096);
+        assert_eq!(run.enter(0, "_chemical_formula_sum 'C10 H20'"), ACCEPTED);
+        assert_eq!(run.enter(3, "_CHEMICAL_formula_SUM    ?"), ACCEPTED);
+        assert_eq!(run.enter(2, "_refine_ls_shift/su_max -0.06(1)"), ACCEPTED);
+        assert_eq!(who(&run.desk, 1), (0, 3, 2));
+        assert_eq!(who(&run.desk, 8), (0, 2, 3));
+        assert_eq!(run.desk.items[0].value, padded(b"?"));
+        let records =
+            [record(0, 1, b"'C10 H20'"), record(3, 1, b"?"), record(2, 8, b"-0.06(1)")].concat();
+        assert_eq!(run.log[..run.used as usize], records);
+        let (answer, rows) = report(&run.desk);
+        assert_eq!((answer, rows[0].reason, rows[9].level), (0, 1, 2));
+    }
+
+    #[test]
+    fn who_answers() {
+        for item in [0, 11, 12, 256, 257, u64::MAX] {
+            assert_eq!(who(&FRESH, item), (NO_SUCH_ITEM, NO_BENCH, 0));
+        }
+        for item in 1..=10 {
+            assert_eq!(who(&FRESH, item), (ACCEPTED, NO_BENCH, 0));
+        }
+    }
+
+    #[test]
+    fn unsound_desks() {
+        let mut run = Run::new(100);
+        assert_eq!(run.enter(1, ENTRY), ACCEPTED);
+        run.text(0, "_a");
+        let grown = run.desk;
+        let changes: [fn(&mut Desk); 24] = [
+            |desk| desk.lines[0].len = 81,
+            |desk| desk.lines[0].len = 3,
+            |desk| desk.lines[0].len = 1,
+            |desk| desk.lines[3].len = u64::MAX,
+            |desk| desk.lines[0].bytes[0] = 31,
+            |desk| desk.lines[0].bytes[1] = 127,
+            |desk| desk.lines[1].bytes[79] = 1,
+            |desk| desk.items[3].bench = 4,
+            |desk| desk.items[3].entry = 0,
+            |desk| desk.items[3].entry = 2,
+            |desk| desk.items[3].len = 5,
+            |desk| desk.items[3].len = 200,
+            |desk| desk.items[3].len = 3 + (1 << 32),
+            |desk| desk.items[3].len = 0,
+            |desk| desk.items[3].value[0] = b'x',
+            |desk| desk.items[3].value[4] = 255,
+            |desk| desk.items[3].value[79] = b' ',
+            |desk| desk.items[2] = desk.items[3],
+            |desk| desk.items[9].bench = 1,
+            |desk| desk.items[9].entry = 1,
+            |desk| desk.items[9].value[0] = b'?',
+            |desk| desk.items[9].len = 1,
+            |desk| desk.count = 0,
+            |desk| desk.items[0] = Item { value: padded(b"a b"), len: 3, ..desk.items[3] },
+        ];
+        for (place, change) in changes.into_iter().enumerate() {
+            run.desk = grown;
+            change(&mut run.desk);
+            for byte in [0, ERASE, ENTER, b'a'] {
+                assert_eq!(run.key(0, byte), NOT_SOUND, "change {place}");
+            }
+            assert_eq!(run.key(4, ENTER), NO_SUCH_BENCH, "change {place}");
+            assert_eq!(report(&run.desk), (NOT_SOUND, [Row::default(); ROWS]), "change {place}");
+            assert_eq!(who(&run.desk, 11), (NOT_SOUND, NO_BENCH, 0), "change {place}");
+        }
+    }
+
+    #[test]
+    fn a_value_as_long_as_its_line_allows() {
+        for (name, length) in [("_chemical_formula_sum", 58), ("_reflns_threshold_expression", 51)]
+        {
+            let number = item(name.as_bytes()).expect("a known name");
+            let filled = |length: usize| {
+                let mut desk = Desk { count: 1, ..FRESH };
+                let value = padded("x".repeat(length).as_bytes());
+                desk.items[number - 1] = Item { value, len: length as u64, bench: 3, entry: 1 };
+                desk
+            };
+            assert!(is_sound(&filled(length)));
+            assert!(!is_sound(&filled(length + 1)));
+        }
+    }
+
+    #[test]
+    fn the_log_s_part_of_soundness() {
+        for (count, length, used, sound) in [
+            (0, 0, 0, true),
+            (0, LOG_LIMIT, LOG_LIMIT as u64, true),
+            (0, LOG_LIMIT + 1, 0, false),
+            (0, 10, 11, false),
+            (0, 10, u64::MAX, false),
+            (1, 10, 6, true),
+            (1, 10, 5, false),
+            (u64::MAX, 10, 10, false),
+            (u64::MAX.div_ceil(6), 10, 10, false),
+        ] {
+            assert_eq!(log_is_sound(count, &vec![0; length], used), sound, "{count} {length}");
+            let mut desk = Desk { count, ..FRESH };
+            let answer = key(&mut desk, &mut vec![0; length], &mut { used }, 0, ERASE);
+            assert_eq!(answer, if sound { ACCEPTED } else { NOT_SOUND });
+            // "Questions test soundness without the log's part."
+            assert_eq!(report(&desk).0, ACCEPTED);
+        }
+    }
+}
