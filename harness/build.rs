@@ -4,7 +4,7 @@
 
 use std::path::PathBuf;
 
-const LIBRARIES: [&str; 4] = ["wall", "probe", "rows", "keys"];
+const LIBRARIES: [&str; 4] = ["wall", "probe", "probe_rows", "probe_keys"];
 const REQUIRED: &str = "wall probe";
 
 fn main() {

@@ -1,7 +1,7 @@
 /*
  * The twelve rows of a sheet, exported for the comparison only.
  *
- * Link with librows.a. As in wall.h a pointer may not be NULL, not even where the length is 0,
+ * Link with libprobe_rows.a. As in wall.h a pointer may not be NULL, not even where the length is 0,
  * and the function is pure.
  */
 #ifndef ROWS_H

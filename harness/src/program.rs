@@ -17,7 +17,7 @@ impl Library {
     pub const ALL: [Library; 4] = [Library::Wall, Library::Probe, Library::Rows, Library::Keys];
 
     pub fn name(self) -> &'static str {
-        ["wall", "probe", "rows", "keys"][self as usize]
+        ["wall", "probe", "probe_rows", "probe_keys"][self as usize]
     }
 }
 

@@ -2,12 +2,12 @@
 
 #[cfg(proved = "wall")]
 use crate::boundary::Graded;
-#[cfg(proved = "keys")]
+#[cfg(proved = "probe_keys")]
 use crate::boundary::KeyResult;
 use crate::boundary::{Desk, RowsResult};
 #[cfg(proved = "probe")]
 use crate::boundary::{LineResult, NumberResult};
-#[cfg(proved = "rows")]
+#[cfg(proved = "probe_rows")]
 use crate::program::Values;
 use crate::program::{Library, Program};
 
@@ -25,7 +25,7 @@ extern "C" {
     fn probe_item(name: *const u8, length: usize) -> u64;
 }
 
-#[cfg(proved = "rows")]
+#[cfg(proved = "probe_rows")]
 extern "C" {
     fn probe_rows(
         texts: *const u8,
@@ -35,7 +35,7 @@ extern "C" {
     ) -> RowsResult;
 }
 
-#[cfg(proved = "keys")]
+#[cfg(proved = "probe_keys")]
 extern "C" {
     fn probe_key(
         desk: Desk,
@@ -56,8 +56,8 @@ impl Program for Proved {
         match library {
             Library::Wall => cfg!(proved = "wall"),
             Library::Probe => cfg!(proved = "probe"),
-            Library::Rows => cfg!(proved = "rows"),
-            Library::Keys => cfg!(proved = "keys"),
+            Library::Rows => cfg!(proved = "probe_rows"),
+            Library::Keys => cfg!(proved = "probe_keys"),
         }
     }
 
@@ -91,13 +91,13 @@ impl Program for Proved {
         unsafe { probe_item(name.as_ptr(), name.len()) }
     }
 
-    #[cfg(proved = "rows")]
+    #[cfg(proved = "probe_rows")]
     fn rows(&self, values: &Values) -> RowsResult {
         let Values { texts, lens } = values;
         unsafe { probe_rows(texts.as_ptr(), texts.len(), lens.as_ptr(), lens.len()) }
     }
 
-    #[cfg(proved = "keys")]
+    #[cfg(proved = "probe_keys")]
     fn key(&self, desk: &Desk, log: &mut [u8], used: u64, bench: u64, byte: u8) -> KeyResult {
         unsafe { probe_key(*desk, log.as_mut_ptr(), log.len(), used, bench, byte) }
     }
