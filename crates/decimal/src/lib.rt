@@ -2,6 +2,7 @@
 // A client cites Reading (readingOf, isNumber). That this reading is the document's wording (Grammar) is the theorem `agree` of proofs/Agree.antt.
 ghost use mathlib.Core.Path.{_≡_};
 ghost use Prim.Native.Nat.{_-_, _≤_, _<_};
+ghost use lib.IntN.{natAbs};
 ghost use lib.ListN.{length};
 ghost use Rattle.text.specs.Run.{runOf};
 ghost use Rattle.decimal.specs.Digits.{mostDigits, mostPlaces, isDigit, valueOf, scaleOf};
@@ -176,4 +177,15 @@ pub fn is_number(s: &[u8]) -> bool
         return false;
     };
     true
+}
+
+// The absolute value of a number.
+pub fn magnitude(v: i64) -> u64
+    ensures { λ r. ⌜ r ≡ natAbs v ⌝ }
+{
+    if v < 0 {
+        let less = v + 1;
+        return (-less) as u64 + 1;
+    }
+    v as u64
 }

@@ -58,7 +58,7 @@ fn place_of(row: u64) -> Place
 }
 
 // The highest level whose bound is broken, or 0: 4 for a, 3 for b, 2 for c.
-fn level(a: bool, b: bool, c: bool) -> u8
+pub fn level(a: bool, b: bool, c: bool) -> u8
     ensures { λ r. ⌜ r ≡ levelOf a b c ⌝ }
 {
     if a {

@@ -13,7 +13,13 @@ pub struct ProbeKeyed {
 
 // One key of a bench.
 #[no_mangle]
-pub extern "C" fn probe_key(d: Desk, log: &mut [u8], used: usize, bench: u64, byte: u8) -> ProbeKeyed
+pub extern "C" fn probe_key(
+    d: Desk,
+    log: &mut [u8],
+    used: usize,
+    bench: u64,
+    byte: u8,
+) -> ProbeKeyed
     ensures { λ r. ⌜ told r (now (log .exit)) ≡ numbered (keyOf d used (now (log .entry)) bench byte) ⌝ }
 {
     let k = calls::key::key(d, used, log, bench, byte);

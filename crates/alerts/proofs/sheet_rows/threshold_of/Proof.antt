@@ -1,0 +1,42 @@
+-- `alerts::sheet_rows::threshold_of` meets its contract: the value is the item's first bytes.
+-- Assumes nothing.
+use native.Mathlib.Omega.{arith}
+use mathlib.Core.Path.{_≡_, _∙_, ap}
+use Prim.Native.Nat.{ℕ}
+use lib.ListN.{length, take, length-take}
+use Rattle.alerts.specs.Threshold.{row12}
+use Rattle.alerts.proofs.Judged.{clamped}
+use borrow.Author.Needs.{needs}
+use Rattle.alerts.proofs.sheet_rows.threshold_of.Statement.{statement}
+use Rattle.alerts.proofs.sheet_rows.threshold_of.Tie as tie
+
+long : (c : tie.Start) → length (c .args .t .value) ≡ 80
+long c = search needs
+
+value-length-requires : tie.Need-value-length-requires
+value-length-requires c κs = search needs
+
+array-share-prefix-v : tie.Need-array-share-prefix-v
+array-share-prefix-v c = omega (arith, long (c .before .before))
+
+slice-aggregate-threshold-row : tie.Need-slice-aggregate-threshold-row
+slice-aggregate-threshold-row c = simp length-take (omega (arith, long (c .before .before .before)))
+
+threshold-row-requires : tie.Need-threshold-row-requires
+threshold-row-requires c κs = search needs
+
+returns : tie.Need-returns
+returns c =
+    let l = c .before .before .before in
+    let t = l .before .args .t in
+    c .threshold-row .ensures ∙ ap row12 (ap (λ (k : ℕ). take k (t .value)) (l .value-length .ensures .0) ∙ clamped (t .value) (t .len) (long (l .before)))
+
+pub threshold-of-spec : {M : Type 1} → statement M
+threshold-of-spec =
+    tie.close
+    (tie.spec
+    value-length-requires
+    array-share-prefix-v
+    slice-aggregate-threshold-row
+    threshold-row-requires
+    returns)

@@ -1,0 +1,41 @@
+-- All twelve rows of a sheet (document 01, "The twelve rows").
+-- Assumes nothing.
+use Prim.Native.Nat.{ℕ}
+use mathlib.Core.List.{List, [], _∷_}
+use lib.ListN.{replicate}
+use Rattle.state.specs.Sheets.{itemAt, valueIn}
+use Rattle.state.specs.declared.sheet.Sheet.{Sheet}
+use Rattle.alerts.specs.Rows.{noAlert}
+use Rattle.alerts.specs.FormulaRows.{row1, row2, row3, row4, row5}
+use Rattle.alerts.specs.GradedRows.{gradedRow, oldNameRow}
+use Rattle.alerts.specs.Threshold.{row12}
+use Rattle.alerts.specs.declared.row.Rows.{Rows}
+
+abbrev pub rowCount : ℕ
+rowCount = 12
+
+-- the value of an item of the sheet, as typed
+abbrev pub value : Sheet → ℕ → List ℕ
+value s k = valueIn (itemAt s k)
+
+-- the twelve rows, in order
+abbrev pub rowsOf : Sheet → Rows
+rowsOf s = record {
+  rows =
+      row1 (value s 1) ∷
+      row2 (value s 1) ∷
+      row3 (value s 1) (value s 3) ∷
+      row4 (value s 1) (value s 2) ∷
+      row5 (value s 1) (value s 2) (value s 3) ∷
+      gradedRow 6 (value s 4) (value s 5) ∷
+      oldNameRow (value s 5) ∷
+      gradedRow 8 (value s 6) (value s 7) ∷
+      oldNameRow (value s 7) ∷
+      gradedRow 10 (value s 8) (value s 9) ∷
+      oldNameRow (value s 9) ∷
+      row12 (value s 10) ∷ [];
+}
+
+-- "rows all level 0, reason 0"
+abbrev pub noRows : Rows
+noRows = record { rows = replicate rowCount noAlert }

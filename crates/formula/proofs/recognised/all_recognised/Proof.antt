@@ -1,0 +1,72 @@
+-- `formula::recognised::all_recognised` meets its contract. The loop's invariant: the terms passed are recognised, so the rest decides.
+-- The measure is what is left of the text. Assumes nothing.
+use borrow.Author.Needs.{needs}
+use mathlib.Core.Path.{_≡_, sym, ap, _∙_}
+use mathlib.Core.Bool.{true, false}
+use Prim.Native.Nat.{_+_, _-_}
+use borrow.Author.Tests.{not-true, not-false}
+use lib.ListN.{length}
+use Rattle.formula.specs.Terms.{every}
+use Rattle.formula.specs.Recognised.{isRecognised, allRecognised}
+use Rattle.formula.proofs.Steps.{termsFrom, from-start, Stepped, step-next, step-end, falls, every-next, every-end}
+use Rattle.formula.proofs.recognised.all_recognised.Statement.{statement}
+use Rattle.formula.proofs.recognised.all_recognised.Tie as tie
+
+abbrev Inv-loop : tie.InvT-loop
+Inv-loop s from₀ from = allRecognised s ≡ every isRecognised (termsFrom s from)
+
+abbrev μ-loop : tie.MeasureT-loop
+μ-loop s from₀ from = length s + 1 - from
+
+stepped : (c : tie.After-term Inv-loop μ-loop) → Stepped (c .before .before .before .before .before .args .s .now) (c .before .before .before .loop .from) (c .term .given .0 .0) (c .term .given .0 .1 .0)
+stepped c = step-next _ _ _ _ (sym (c .before .before .step-at .ensures) ∙ c .term .given .1)
+
+loop-holds : tie.Need-loop-holds Inv-loop μ-loop
+unfolding allRecognised
+loop-holds c = ap (every isRecognised) (from-start _)
+
+step-at-requires : tie.Need-step-at-requires Inv-loop μ-loop
+step-at-requires c κs = search needs
+
+enum-known-term : tie.Need-enum-known-term Inv-loop μ-loop
+enum-known-term c = search needs
+
+enum-told : tie.Need-enum-told Inv-loop μ-loop
+enum-told c = search needs
+
+returns : tie.Need-returns Inv-loop μ-loop
+returns c =
+    let f = c .before .before in
+    sym (f .before .loop .inv ∙ every-end isRecognised (step-end _ _ (sym (f .step-at .ensures) ∙ c .enum-told .given .1)))
+
+is-recognised-requires : tie.Need-is-recognised-requires Inv-loop μ-loop
+is-recognised-requires c κs = search needs
+
+returns-2 : tie.Need-returns-2 Inv-loop μ-loop
+returns-2 c =
+    let k = c .before .before .before in
+    sym (k .before .before .before .loop .inv ∙ every-next (stepped k) isRecognised false (sym (c .before .is-recognised .ensures) ∙ not-true _ (c .if1 .taken)))
+
+loop-less : tie.Need-loop-less Inv-loop μ-loop
+loop-less c = falls (stepped (c .before .before .before))
+
+loop-again : tie.Need-loop-again Inv-loop μ-loop
+loop-again c =
+    let k = c .before .before .before in
+    k .before .before .before .loop .inv ∙ every-next (stepped k) isRecognised true (sym (c .before .is-recognised .ensures) ∙ not-false _ (c .if1 .left))
+
+pub all-recognised-spec : {M : Type 1} → statement M
+all-recognised-spec =
+    tie.close
+    (tie.spec
+    Inv-loop
+    μ-loop
+    loop-holds
+    step-at-requires
+    enum-known-term
+    enum-told
+    returns
+    is-recognised-requires
+    returns-2
+    loop-less
+    loop-again)
