@@ -1,14 +1,15 @@
 /*
  * The twelve rows of a sheet, exported for the comparison only.
  *
- * Link with libprobe_rows.a. As in wall.h a pointer may not be NULL, not even where the length is 0,
- * and the function is pure.
+ * Link with libprobe_rows.a. The function is pure.
  */
 #ifndef ROWS_H
 #define ROWS_H
 
 #include <stddef.h>
 #include <stdint.h>
+
+#include "keys.h"
 
 #ifdef __cplusplus
 extern "C" {
@@ -25,13 +26,10 @@ typedef struct {
 } probe_rows_result;
 
 /*
- * The rows of a sheet that holds ten values as typed. They stand one after the other in texts,
- * items 1 to 10, nothing between them; lens holds their ten lengths, 0 to 80 each, 0 for an empty
- * item. So lens_len is 10 and texts_len the sum of the lengths. Each value that is not empty has
- * the form of a value and passes its item's kind.
+ * The rows of a sheet. Each value that is not empty has the form of a value and passes its item's
+ * kind; benches, entry numbers and the count are not looked at.
  */
-probe_rows_result probe_rows(const uint8_t *texts, size_t texts_len, const uint8_t *lens,
-                             size_t lens_len);
+probe_rows_result probe_rows(probe_sheet sheet);
 
 #ifdef __cplusplus
 }

@@ -1,5 +1,6 @@
 //! The structs of the C boundary, and their sizes and offsets.
 
+use crate::program::Values;
 use reference::desk::{self, BENCHES};
 use reference::line::LIMIT;
 use reference::names::ITEMS;
@@ -104,6 +105,19 @@ impl From<Option<i64>> for NumberResult {
 impl From<[reference::rows::Row; ROWS]> for RowsResult {
     fn from(rows: [reference::rows::Row; ROWS]) -> Self {
         RowsResult { rows: rows.map(|row| Row { level: row.level, reason: row.reason }) }
+    }
+}
+
+/// A sheet that holds these values as typed. Its benches and entry numbers are zero: the rows do not look at them.
+impl From<&Values> for Sheet {
+    fn from(values: &Values) -> Self {
+        let parts = values.parts();
+        let items = std::array::from_fn(|place| {
+            let mut value = [0; LIMIT];
+            value[..parts[place].len()].copy_from_slice(parts[place]);
+            ItemState { value, len: parts[place].len() as u64, entry: 0, bench: 0 }
+        });
+        Sheet { items, count: 0 }
     }
 }
 

@@ -8,6 +8,8 @@ use crate::boundary::{Desk, RowsResult};
 #[cfg(proved = "probe")]
 use crate::boundary::{LineResult, NumberResult};
 #[cfg(proved = "probe_rows")]
+use crate::boundary::Sheet;
+#[cfg(proved = "probe_rows")]
 use crate::program::Values;
 use crate::program::{Library, Program};
 
@@ -27,12 +29,7 @@ extern "C" {
 
 #[cfg(proved = "probe_rows")]
 extern "C" {
-    fn probe_rows(
-        texts: *const u8,
-        texts_len: usize,
-        lens: *const u8,
-        lens_len: usize,
-    ) -> RowsResult;
+    fn probe_rows(sheet: Sheet) -> RowsResult;
 }
 
 #[cfg(proved = "probe_keys")]
@@ -93,8 +90,7 @@ impl Program for Proved {
 
     #[cfg(proved = "probe_rows")]
     fn rows(&self, values: &Values) -> RowsResult {
-        let Values { texts, lens } = values;
-        unsafe { probe_rows(texts.as_ptr(), texts.len(), lens.as_ptr(), lens.len()) }
+        unsafe { probe_rows(Sheet::from(values)) }
     }
 
     #[cfg(proved = "probe_keys")]
