@@ -1,0 +1,32 @@
+-- Demand 3 of the desk itself: its report has the twelve rows of document 01, and the calls are the functions' own definitions.
+-- Assumes nothing.
+use mathlib.Core.Path.{_≡_, refl, ap}
+use mathlib.Core.Bool.{Bool, true, false, cond}
+use mathlib.Core.List.{List}
+use Prim.Native.Nat.{ℕ}
+use Rattle.state.specs.Sound.{soundDesk}
+use Rattle.state.specs.declared.desk.Desk.{Desk}
+use Rattle.alerts.specs.Sheet.{rowsOf, noRows}
+use Rattle.alerts.specs.declared.row.Rows.{Rows}
+use Rattle.calls.specs.Report.{reportedAs, reportedOf}
+use Rattle.calls.specs.declared.question.Asked.the-variants.{Answered, Unsound}
+use Rattle.calls.specs.declared.report.Reported.{Reported}
+use Rattle.sequence.specs.Calls.{Call, Reply, reported, reportOf}
+use Rattle.sequence.specs.Sequences.{Sequences}
+use Rattle.sequence.proofs.Demand3.{demand-3}
+
+-- for every log and every sequence of calls
+pub desk-sequences : (log : List ℕ) (cs : List Call) → Sequences rowsOf noRows log cs
+desk-sequences = demand-3 rowsOf noRows
+
+-- the report of the sequence is what the function `calls::report::report` gives
+abbrev replyOf : Reported → Reply Rows
+replyOf r = reported (r .answer) (r .rows)
+
+report-by : (t : Bool) (d : Desk) → cond t (reported Answered (rowsOf (d .sheet))) (reported Unsound noRows) ≡ replyOf (cond t (reportedAs Answered (rowsOf (d .sheet))) (reportedAs Unsound noRows))
+report-by true d = refl
+report-by false d = refl
+
+pub report-is : (d : Desk) → reportOf rowsOf noRows d ≡ replyOf (reportedOf d)
+unfolding reportOf reportedOf
+report-is d = report-by (soundDesk d) d

@@ -1,0 +1,87 @@
+-- An accepted Enter's line in document 01's words: a name of the item, spaces, and the value.
+-- Assumes nothing.
+use mathlib.Core.Path.{_≡_, refl}
+use mathlib.Core.Bool.{true, cond, _&&_}
+use mathlib.Core.List.{List}
+use Prim.Native.Nat.{ℕ, _-_}
+use native.Mathlib.Omega.{arith}
+use lib.Dec.{ltb, leb}
+use lib.ListN.{length, take, drop}
+use Rattle.text.specs.Run.{all, between}
+use Rattle.text.proofs.Bools.{cond-first}
+use Rattle.cif.specs.Items.{itemOf, passes, IsName}
+use Rattle.cif.specs.Line.{lineMost, isTyped, splitOf, namedClass, splitClass, classOf}
+use Rattle.cif.specs.Wording.{IsLine}
+use Rattle.cif.specs.declared.items.Named.{Named}
+use Rattle.cif.specs.declared.items.Named.the-variants.{Item, Unknown}
+use Rattle.cif.specs.declared.line.Split.{Split}
+use Rattle.cif.specs.declared.line.Split.the-variants.{Parts, Malformed}
+use Rattle.cif.specs.declared.line.Class.{Class}
+use Rattle.cif.specs.declared.line.Class.the-variants as class
+use Rattle.cif.proofs.Names.{name-found}
+use Rattle.cif.proofs.Wording.{line-is}
+use Rattle.state.specs.Desks.{benchCount}
+use Rattle.state.specs.Sound.{logMost}
+use Rattle.state.specs.declared.answer.Answer.{Answer}
+use Rattle.state.specs.declared.answer.Answer.the-variants as answer
+use Rattle.sequence.specs.Work.{enterAnswer, tableAnswer, accepts}
+
+-- the line t, with its name and its value, for item k
+pub record Worded (t : List ℕ) (k v : ℕ) : Type 0 where
+  pub name : List ℕ
+  pub parts : IsLine t name (drop v t)
+  pub item : IsName name k
+
+module _ (t : List ℕ) (k v : ℕ) where
+  named-worded : (n w : ℕ) (x : Named) → splitOf t ≡ Parts n w → itemOf (take n t) ≡ x → namedClass t w x ≡ class.Entry k v → Worded t k v
+  named-worded n w Unknown s i e = let z : _≡_ {A = ℕ} 0 1 = cc in absurd (omega arith)
+  named-worded n w (Item j) s i e =
+      let not-it : class.WrongKind ≡ class.Entry k v → ⊥ = λ q. let z : _≡_ {A = ℕ} 0 1 = cc in omega arith in
+      let same = cond-first (passes j (drop w t)) (class.Entry j w) class.WrongKind (class.Entry k v) not-it e .1 in
+      let s′ : splitOf t ≡ Parts n v = cc in
+      let i′ : itemOf (take n t) ≡ Item k = cc in
+      record { name = take n t; parts = line-is t n v s′; item = name-found (take n t) k i′ }
+
+  split-worded : (x : Split) → splitOf t ≡ x → splitClass t x ≡ class.Entry k v → Worded t k v
+  split-worded Malformed s e = let z : _≡_ {A = ℕ} 0 1 = cc in absurd (omega arith)
+  split-worded (Parts n w) s e = named-worded n w (itemOf (take n t)) s refl e
+
+  pub entry-worded : classOf t ≡ class.Entry k v → Worded t k v
+  unfolding classOf
+  entry-worded e =
+      let not-it : class.BadForm ≡ class.Entry k v → ⊥ = λ q. let z : _≡_ {A = ℕ} 0 1 = cc in omega arith in
+      split-worded (splitOf t) refl (cond-first (leb (length t) lineMost && all isTyped t) (splitClass t (splitOf t)) class.BadForm (class.Entry k v) not-it e .1)
+
+-- an Enter that the table accepts has the line of an entry
+pub record Accepts (t : List ℕ) : Type 0 where
+  pub item : ℕ
+  pub start : ℕ
+  pub class-is : classOf t ≡ class.Entry item start
+
+class-accepts : (t : List ℕ) (free : ℕ) (c : Class) → classOf t ≡ c → enterAnswer c t free ≡ answer.Accepted → Accepts t
+class-accepts t free class.BadForm e h = let z : _≡_ {A = ℕ} 0 1 = cc in absurd (omega arith)
+class-accepts t free class.UnknownName e h = let z : _≡_ {A = ℕ} 0 1 = cc in absurd (omega arith)
+class-accepts t free class.WrongKind e h = let z : _≡_ {A = ℕ} 0 1 = cc in absurd (omega arith)
+class-accepts t free (class.Entry item start) e h = record { item = item; start = start; class-is = e }
+
+pub enter-accepts : (len used : ℕ) (t : List ℕ) (bench : ℕ) → tableAnswer len used t bench 10 ≡ answer.Accepted → Accepts t
+unfolding tableAnswer between
+enter-accepts len used t bench h =
+    let a = enterAnswer (classOf t) t (len - used) in
+    let no-bench : answer.NoBench ≡ answer.Accepted → ⊥ = λ q. let z : _≡_ {A = ℕ} 0 1 = cc in omega arith in
+    let not-sound : answer.Unsound ≡ answer.Accepted → ⊥ = λ q. let z : _≡_ {A = ℕ} 0 1 = cc in omega arith in
+    let h1 = cond-first (ltb bench benchCount) (cond (leb len logMost) a answer.Unsound) answer.NoBench answer.Accepted no-bench h .1 in
+    let h2 = cond-first (leb len logMost) a answer.Unsound answer.Accepted not-sound h1 .1 in
+    class-accepts t (len - used) (classOf t) refl h2
+
+-- the answer with number 0
+pub accepted-only : (a : Answer) → accepts a ≡ true → a ≡ answer.Accepted
+accepted-only answer.Accepted e = refl
+accepted-only answer.NoBench e = absurd (let z : _≡_ {A = ℕ} 0 1 = cc in omega arith)
+accepted-only answer.Unsound e = absurd (let z : _≡_ {A = ℕ} 0 1 = cc in omega arith)
+accepted-only answer.NoKey e = absurd (let z : _≡_ {A = ℕ} 0 1 = cc in omega arith)
+accepted-only answer.LineFull e = absurd (let z : _≡_ {A = ℕ} 0 1 = cc in omega arith)
+accepted-only answer.BadForm e = absurd (let z : _≡_ {A = ℕ} 0 1 = cc in omega arith)
+accepted-only answer.UnknownName e = absurd (let z : _≡_ {A = ℕ} 0 1 = cc in omega arith)
+accepted-only answer.WrongKind e = absurd (let z : _≡_ {A = ℕ} 0 1 = cc in omega arith)
+accepted-only answer.NoRoom e = absurd (let z : _≡_ {A = ℕ} 0 1 = cc in omega arith)

@@ -1,0 +1,14 @@
+pub mod Choices
+pub mod Lists
+pub mod LineLaws
+pub mod ItemLaws
+pub mod Kept
+pub mod Simulation
+pub mod Gathering
+pub mod GatherChecks
+pub mod WorkLaws
+pub mod DeskFollows
+pub mod EntryWords
+pub mod Enters
+pub mod Demand3
+pub mod Desk

@@ -1,0 +1,70 @@
+-- Calls, what each is answered and what it leaves (document 01, "Sequences of calls"): "key calls, with any bench number and byte, and Report and
+-- Who, whatever they are given".
+-- Assumes nothing.
+use Prim.Native.Nat.{ℕ}
+use mathlib.Core.Bool.{cond}
+use mathlib.Core.List.{List, [], _∷_}
+use Rattle.state.specs.Desks.{freshDesk}
+use Rattle.state.specs.Sound.{soundDesk}
+use Rattle.state.specs.declared.sheet.Sheet.{Sheet}
+use Rattle.state.specs.declared.desk.Desk.{Desk}
+use Rattle.state.specs.declared.answer.Answer.{Answer}
+use Rattle.calls.specs.Key.{After, keyOf}
+use Rattle.calls.specs.Who.{whoOf}
+use Rattle.calls.specs.declared.question.Asked.{Asked}
+use Rattle.calls.specs.declared.question.Asked.the-variants.{Answered, Unsound}
+use Rattle.calls.specs.declared.who.Told.{Told}
+
+-- "Two questions": Report, and Who with an item number
+pub data Question : Type 0 where
+  report : Question
+  who : ℕ → Question
+
+-- a call: a key (bench, byte) or a question; the numbers are any numbers
+pub data Call : Type 0 where
+  key : ℕ → ℕ → Call
+  ask : Question → Call
+
+-- "each call's whole answer": a key's answer, a report's answer and rows, what Who tells
+pub data Reply (Rows : Type 0) : Type 0 where
+  keyed : Answer → Reply Rows
+  reported : Asked → Rows → Reply Rows
+  told : Told → Reply Rows
+
+-- "the whole desk, the used number and every byte of the log"
+pub record State : Type 0 where
+  pub desk : Desk
+  pub used : ℕ
+  pub log : List ℕ
+
+-- "It starts from a fresh desk and a log of any length and content, none used"
+abbrev pub freshState : List ℕ → State
+freshState log = record { desk = freshDesk; used = 0; log = log }
+
+-- what a key call leaves to the next call
+abbrev pub left : After → State
+left a = record { desk = a .desk; used = a .used; log = a .log }
+
+-- the twelve rows of a sheet, and the rows that go with a refusal, are defined with Report: here they may be any
+module _ {Rows : Type 0} (rowsOf : Sheet → Rows) (noRows : Rows) where
+  -- "on an unsound desk it gives 2 and rows all level 0, reason 0"
+  unfoldable pub reportOf : Desk → Reply Rows
+  reportOf d = cond (soundDesk d) (reported Answered (rowsOf (d .sheet))) (reported Unsound noRows)
+
+  -- a call: its answer, and what it leaves; questions leave everything as it is
+  abbrev pub step : Call → State → Reply Rows × State
+  step (key bench byte) s = let a = keyOf (s .desk) (s .used) (s .log) bench byte in (keyed (a .answer), left a)
+  step (ask report) s = (reportOf (s .desk), s)
+  step (ask (who item)) s = (told (whoOf (s .desk) item), s)
+
+-- a sequence of calls: "Each call gets the desk and log as the last one left them"
+module _ {S A : Type 0} (step : Call → S → A × S) where
+  -- each call with its answer
+  abbrev pub answered : S → List Call → List (Call × A)
+  answered s [] = []
+  answered s (c ∷ cs) = (c, step c s .0) ∷ answered (step c s .1) cs
+
+  -- what the calls leave
+  abbrev pub final : S → List Call → S
+  final s [] = s
+  final s (c ∷ cs) = final (step c s .1) cs

@@ -1,0 +1,5 @@
+pub mod Calls
+pub mod Gather
+pub mod Work
+pub mod Shaped
+pub mod Sequences

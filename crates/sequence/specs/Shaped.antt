@@ -1,0 +1,16 @@
+-- The shape that the types of document 01's desk give it: four lines and ten items, each with all its bytes.
+-- Assumes nothing.
+use Prim.Native.Nat.{ℕ, _<_}
+use mathlib.Core.Path.{_≡_}
+use lib.ListN.{length, getD}
+use Rattle.cif.specs.Line.{lineMost}
+use Rattle.cif.specs.Items.{itemCount}
+use Rattle.state.specs.Sheets.{noItem}
+use Rattle.state.specs.Desks.{benchCount, lineAt}
+use Rattle.state.specs.declared.desk.Desk.{Desk}
+
+pub record Shaped (d : Desk) : Type 0 where
+  pub lines : length (d .lines) ≡ benchCount
+  pub line-bytes : (b : ℕ) → b < benchCount → length (lineAt d b .bytes) ≡ lineMost
+  pub items : length (d .sheet .items) ≡ itemCount
+  pub item-bytes : (i : ℕ) → i < itemCount → length (getD (d .sheet .items) i noItem .value) ≡ lineMost
