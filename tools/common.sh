@@ -32,3 +32,8 @@ build_client() {
     gcc -std=c11 -O2 -Wall -Wextra -Werror -pedantic -Iinclude client/wall_screen.c \
         "${PROVED_LIBS:-target/staticlib}/libwall.a" -o build/wall_screen
 }
+
+# The program desk, proved, in target/bin.
+build_desk() {
+    if stale target/bin/desk; then rt check desk || return 1; fi
+}

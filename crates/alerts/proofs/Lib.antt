@@ -1,2 +1,3 @@
 pub mod RowCases
 pub mod Judged
+pub mod Demand2

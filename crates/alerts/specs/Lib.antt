@@ -4,3 +4,4 @@ pub mod GradedRows
 pub mod Threshold
 pub mod Sheet
 pub mod Groups
+pub mod Judged

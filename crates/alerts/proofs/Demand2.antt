@@ -1,0 +1,54 @@
+-- Demand 2 for every row with bounds: the level is the highest whose bound is broken, and none when none is. One law, of three tests, serves them all.
+-- Assumes nothing.
+use Prim.Native.Nat.{ℕ}
+use mathlib.Core.Path.{_≡_, refl, sym, ap, subst, _∙_}
+use mathlib.Core.Bool.{Bool, true, false, _&&_}
+use mathlib.Core.List.{List}
+use lib.IntN.{ℤ}
+use Rattle.decimal.specs.Reading.{readingOf}
+use Rattle.decimal.specs.declared.Reading.{Reading}
+use Rattle.decimal.specs.declared.Reading.the-variants.{Number}
+use Rattle.cif.specs.Value.{textOf}
+use Rattle.formula.specs.Sum.{sumOf}
+use Rattle.formula.specs.declared.elements.Weight.{Weight}
+use Rattle.formula.specs.declared.elements.Weight.the-variants.{Thousandths}
+use Rattle.levels.specs.Level.{Highest}
+use Rattle.levels.specs.Bounds.{gradeOf, readGrade, placedGrade, gradedOf}
+use Rattle.levels.specs.declared.Place.{Place}
+use Rattle.levels.proofs.Levels.{level-highest, grade-highest}
+use Rattle.alerts.specs.Rows.{rowOf, missing}
+use Rattle.alerts.specs.FormulaRows.{millionths, ratioLevel, ratioRow}
+use Rattle.alerts.specs.GradedRows.{judgedValue, gradeRow, gradedRow}
+use Rattle.alerts.specs.Threshold.{thresholdLevel, thresholdRow, row12}
+use Rattle.alerts.specs.Judged as judged
+use Rattle.alerts.specs.Judged.{Judged}
+use Rattle.alerts.specs.declared.row.Row.{Row}
+use Rattle.alerts.proofs.RowCases.{ratio-judged}
+
+-- a row is judged at a level
+JudgedAt : Bool → Bool → Bool → Row → Type 0
+JudgedAt a b c r = Highest a b c (r .level) × (r .reason ≡ 0)
+
+at-level : {a b c : Bool} {r : Row} (l : ℕ) → r ≡ rowOf l 0 → Highest a b c l → JudgedAt a b c r
+unfolding JudgedAt
+at-level {a} {b} {c} l e h = subst (λ (x : Row). Highest a b c (x .level) × (x .reason ≡ 0)) (sym e) (h, refl)
+
+graded-is : (row : ℕ) (new old : List ℕ) → (missing new && missing old) ≡ false → gradedRow row new old ≡ gradeRow (gradedOf row (judgedValue new old))
+unfolding gradedRow
+graded-is row new old m = simp m
+
+threshold-is : (t : List ℕ) → missing t ≡ false → row12 t ≡ thresholdRow (textOf t)
+unfolding row12
+threshold-is t m = simp m
+
+pub highest-broken : {a b c : Bool} {r : Row} → Judged a b c r → Highest a b c (r .level) × (r .reason ≡ 0)
+unfolding JudgedAt ratioLevel gradedOf thresholdLevel
+highest-broken (judged.ratio f w given s p q k e g) =
+    at-level (ratioLevel given (millionths s))
+    (ratio-judged f w p q k ∙ ap (λ (x : Reading). ratioRow x (sumOf (textOf f))) e ∙ ap (ratioRow (Number given)) g)
+    (level-highest _ _ _)
+highest-broken (judged.graded row place new old z p m e) =
+    at-level (gradeOf place z)
+    (graded-is row new old m ∙ ap gradeRow (ap (λ (x : Place). placedGrade x (judgedValue new old)) p ∙ ap (readGrade place) e))
+    (grade-highest place z)
+highest-broken (judged.threshold t step x m e) = at-level (thresholdLevel step x) (threshold-is t m ∙ e) (level-highest _ _ _)

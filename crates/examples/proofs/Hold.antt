@@ -1,0 +1,31 @@
+-- The examples of document 01 marked with [P] hold: antt computes each from the definitions.
+-- Assumes nothing.
+use mathlib.Core.Path.{_≡_, refl}
+use mathlib.Core.List.{List, map}
+use Prim.Native.Nat.{ℕ}
+use Rattle.text.specs.Run.{between, other, runOf, all, hasAt}
+use Rattle.text.specs.Same.{lower, sameBy, beginsFolded}
+use Rattle.decimal.specs.Digits.{valueFrom}
+use Rattle.decimal.specs.Reading.{closes, isTail, sizeOf, pointedOf, unsignedOf, readingOf, isNumber}
+use Rattle.cif.specs.Value.{mayBegin, isReserved, isBare, isQuotedBy, isQuoted, isValue, isUnassigned, textOf}
+use Rattle.cif.specs.Items.{items, findFrom, isCategory, passes}
+use Rattle.cif.specs.Line.{splitOf, classOf}
+use Rattle.formula.specs.Term.{kindAt, isCount, countOf, termOf}
+use Rattle.formula.specs.Terms.{cut, every, some}
+use Rattle.formula.specs.Elements.{sameSymbol, placeOf, symbols, elementOf, isElement, notMetals, isMetal, weights, weightIn, weightOf}
+use Rattle.formula.specs.Recognised.{allRecognised}
+use Rattle.formula.specs.Order.{rank, key, rising, inOrder}
+use Rattle.formula.specs.Class.{hasSymbol, hasMetal, classOf as formulaClass}
+use Rattle.formula.specs.Sum.{total, sumOf}
+use Rattle.levels.specs.Bounds.{bounds, judgedOf, gradeOf, gradedOf}
+use Rattle.state.specs.Lines.{appended, erased}
+use Rattle.alerts.specs.Rows.{missing}
+use Rattle.alerts.specs.FormulaRows.{row1, row2, row3, ratioLevel, row4, farApart, isWeighedCategory, row5}
+use Rattle.alerts.specs.GradedRows.{gradedRow, oldNameRow}
+use Rattle.alerts.specs.Threshold.{hasShape, multiplierOf, thresholdLevel, thresholdRow, row12}
+use Rattle.calls.specs.Key.{stored, keyStep}
+use Rattle.examples.specs.Table.{Example, sheetWith, answerOf, examples}
+
+pub examples-hold : map (λ (e : Example). answerOf (e .asked)) examples ≡ map (λ (e : Example). e .answer) examples
+unfolding sheetWith answerOf examples between other runOf all hasAt lower sameBy beginsFolded valueFrom closes isTail sizeOf pointedOf unsignedOf readingOf isNumber mayBegin isReserved isBare isQuotedBy isQuoted isValue isUnassigned textOf items findFrom isCategory passes splitOf classOf kindAt isCount countOf termOf cut every some sameSymbol placeOf symbols elementOf isElement notMetals isMetal weights weightIn weightOf allRecognised rank key rising inOrder hasSymbol hasMetal formulaClass total sumOf bounds judgedOf gradeOf gradedOf appended erased missing row1 row2 row3 ratioLevel row4 farApart isWeighedCategory row5 gradedRow oldNameRow hasShape multiplierOf thresholdLevel thresholdRow row12 stored keyStep
+examples-hold = refl
