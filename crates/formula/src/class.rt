@@ -22,7 +22,7 @@ fn is_symbol(t: Term, a: u8, b: u8) -> bool
 }
 
 // Whether a term of a text has the symbol a b.
-pub fn has_symbol(s: &[u8], a: u8, b: u8) -> bool
+pub(crate) fn has_symbol(s: &[u8], a: u8, b: u8) -> bool
     ensures { λ r. ⌜ r ≡ hasSymbol a b (now (s .entry)) ⌝ }
 {
     let mut from = 0;
@@ -48,7 +48,7 @@ fn is_metal_term(t: Term) -> bool
 }
 
 // Whether a term of a text has the symbol of a metal.
-pub fn has_metal(s: &[u8]) -> bool
+pub(crate) fn has_metal(s: &[u8]) -> bool
     ensures { λ r. ⌜ r ≡ hasMetal (now (s .entry)) ⌝ }
 {
     let mut from = 0;

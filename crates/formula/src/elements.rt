@@ -80,7 +80,7 @@ fn find(table: &[u8], a: u8, b: u8) -> Place
 }
 
 // The element of a symbol, counted from 0 in the order of the periodic table.
-pub fn find_element(a: u8, b: u8) -> Place
+pub(crate) fn find_element(a: u8, b: u8) -> Place
     ensures { λ r. ⌜ r ≡ elementOf a b ⌝ }
 {
     find(&SYMBOLS, a, b)

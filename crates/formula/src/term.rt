@@ -33,7 +33,7 @@ fn between_at(s: &[u8], at: usize, lo: u8, hi: u8) -> bool
 }
 
 // The count that s writes; no text means 1.
-pub fn read_count(s: &[u8]) -> Count
+pub(crate) fn read_count(s: &[u8]) -> Count
     ensures { λ r. ⌜ r ≡ countOf (now (s .entry)) ⌝ }
 {
     if s.len() == 0 {

@@ -10,7 +10,7 @@ pub enum Step {
 }
 
 // The term that begins at a place. The first begins at 0.
-pub fn step_at(s: &[u8], from: usize) -> Step
+pub(crate) fn step_at(s: &[u8], from: usize) -> Step
     ensures { λ r. ⌜ r ≡ stepOf (now (s .entry)) from ⌝ }
 {
     if s.len() < from {
