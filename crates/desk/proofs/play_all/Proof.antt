@@ -1,0 +1,68 @@
+-- `desk::play_all` meets its contract. The loop's invariant: the parts so far are whole pairs, and what they leave is held; the log keeps its
+-- length. The measure is the number of turns left. Assumes nothing.
+use borrow.Author.Needs.{needs}
+use native.Mathlib.Omega.{arith}
+use mathlib.Core.Path.{_≡_}
+use borrow.Author.Tests.{not-false}
+use lib.ListN.{length}
+use Rattle.session.specs.Play.{standsAfter}
+use Rattle.desk.proofs.Parts.{Reached, reached-none, reached-next, reached-end, reached-all}
+use Rattle.desk.proofs.play_all.Statement.{statement}
+use Rattle.desk.proofs.play_all.Tie as tie
+
+abbrev Inv-loop : tie.InvT-loop
+Inv-loop log₀ played₀ turns₀ log played turns = Reached log₀ (standsAfter played log) × (length log ≡ length log₀)
+
+abbrev μ-loop : tie.MeasureT-loop
+μ-loop log₀ played₀ turns₀ log played turns = turns
+
+fresh-desk-requires : tie.Need-fresh-desk-requires Inv-loop μ-loop
+fresh-desk-requires c κs = search needs
+
+loop-holds : tie.Need-loop-holds Inv-loop μ-loop
+loop-holds c = (reached-none _ _ (c .fresh-desk .ensures), omega arith)
+
+play-part-requires : tie.Need-play-part-requires Inv-loop μ-loop
+play-part-requires c κs = search needs
+
+same-length : tie.Need-same-length Inv-loop μ-loop
+same-length c = omega arith
+
+returns : tie.Need-returns Inv-loop μ-loop
+returns c =
+    let p = c .before .before .before .before .before .before in
+    reached-end (p .before .before .before .loop .inv .0) (p .play-part .ensures)
+
+sub-turns : tie.Need-sub-turns Inv-loop μ-loop
+sub-turns c = omega arith
+
+loop-less : tie.Need-loop-less Inv-loop μ-loop
+loop-less c = omega arith
+
+loop-again : tie.Need-loop-again Inv-loop μ-loop
+loop-again c =
+    let p = c .before .before .before .before .before in
+    (reached-next (p .before .before .before .loop .inv .0) (p .play-part .ensures) (not-false _ (c .if1 .left)), omega arith)
+
+same-length-2 : tie.Need-same-length-2 Inv-loop μ-loop
+same-length-2 c = omega arith
+
+returns-2 : tie.Need-returns-2 Inv-loop μ-loop
+returns-2 c = reached-all (c .before .before .loop .inv .0)
+
+pub play-all-spec : {M : Type 1} → statement M
+play-all-spec =
+    tie.close
+    (tie.spec
+    Inv-loop
+    μ-loop
+    fresh-desk-requires
+    loop-holds
+    play-part-requires
+    same-length
+    returns
+    sub-turns
+    loop-less
+    loop-again
+    same-length-2
+    returns-2)

@@ -1,0 +1,26 @@
+-- What a run of the program leaves. No contract can say what is read: so it is some input.
+-- Assumes nothing.
+use Prim.Native.Nat.{ℕ}
+use mathlib.Core.Path.{_≡_}
+use mathlib.Core.Bool.{true}
+use mathlib.Core.List.{List}
+use lib.ListN.{length}
+use Rattle.state.specs.declared.desk.Desk.{Desk}
+use Rattle.sequence.specs.Calls.{State, freshState}
+use Rattle.session.specs.Play.{standsAfter, played}
+use Rattle.desk.specs.declared.Turn.{Turn}
+
+-- the bytes of a part that is full
+abbrev pub partLength : ℕ
+partLength = 4096
+
+-- one part is played from the state s, and the log is then `log`
+pub record PlaysPart (s : State) (r : Turn) (log : List ℕ) : Type 0 where
+  pub part : List ℕ
+  pub plays : standsAfter (r .played) log ≡ played s part
+  pub full : r .more ≡ true → length part ≡ partLength
+
+-- the desk d is what an input leaves on a fresh desk with that log
+pub record PlaysAll (log : List ℕ) (d : Desk) : Type 0 where
+  pub input : List ℕ
+  pub plays : d ≡ played (freshState log) input .desk

@@ -1,0 +1,84 @@
+-- `play::play_calls` meets its contract: the first refusal that applies, else the run.
+-- Assumes nothing.
+use native.Mathlib.Omega.{arith}
+use mathlib.Core.Path.{_≡_, sym, _∙_}
+use borrow.Author.Tests.{eq-eqb, ne-eqb, le-leb, lt-leb, not-true, not-false}
+use denote.Ref.{now}
+use lib.ListN.{length}
+use Rattle.play.specs.CallBytes.{callCount}
+use Rattle.play.specs.Written.{writtenLength}
+use Rattle.play.specs.Play.{playOf}
+use Rattle.play.proofs.Fills.{ran-is}
+use borrow.Author.Needs.{needs}
+use Rattle.play.proofs.play_calls.Statement.{statement}
+use Rattle.play.proofs.play_calls.Tie as tie
+
+returns : tie.Need-returns
+unfolding playOf
+returns c = simp (ne-eqb _ 0 (c .if1 .taken))
+
+are-kinds-requires : tie.Need-are-kinds-requires
+are-kinds-requires c κs = search needs
+
+returns-2 : tie.Need-returns-2
+unfolding playOf
+returns-2 c =
+    let k = c .before in
+    simp (eq-eqb _ 0 (k .before .if1 .left), sym (k .are-kinds .ensures) ∙ not-true _ (c .if2 .taken))
+
+returns-3 : tie.Need-returns-3
+unfolding playOf
+returns-3 c =
+    let k = c .before .before in
+    let a = k .before .before .before .before .before .args in
+    simp (eq-eqb _ 0 (k .before .if1 .left), sym (k .are-kinds .ensures) ∙ not-false _ (c .before .if2 .left), lt-leb (writtenLength (callCount (now (a .calls)))) (length (now (a .out))) (omega arith))
+
+returns-4 : tie.Need-returns-4
+unfolding playOf
+returns-4 c =
+    let k = c .before .before .before in
+    let a = k .before .before .before .before .before .args in
+    simp (eq-eqb _ 0 (k .before .if1 .left), sym (k .are-kinds .ensures) ∙ not-false _ (c .before .before .if2 .left), lt-leb (writtenLength (callCount (now (a .calls)))) (length (now (a .out))) (omega arith))
+
+play-fitting-requires : tie.Need-play-fitting-requires
+play-fitting-requires c κs = search needs
+
+mul-t7 : tie.Need-mul-t7
+mul-t7 c = search needs
+
+add-t10 : tie.Need-add-t10
+add-t10 c = search needs
+
+same-length : tie.Need-same-length
+same-length c = search needs
+
+same-length-2 : tie.Need-same-length-2
+same-length-2 c = search needs
+
+returns-5 : tie.Need-returns-5
+unfolding playOf
+returns-5 c =
+    let p = c .before .before .before .before in
+    let e4 = p .before .before .before in
+    let e2 = e4 .before .before in
+    let k = e2 .before in
+    let a = k .before .before .before .before .before .args in
+    let n = callCount (now (a .calls)) in
+    simp (eq-eqb _ 0 (k .before .if1 .left), sym (k .are-kinds .ensures) ∙ not-false _ (e2 .if2 .left), le-leb (writtenLength n) (length (now (a .out))) (omega arith))
+    (ran-is n (now (a .calls)) (now (a .log)) (now (a .out)) (p .play-fitting .ensures))
+
+pub play-calls-spec : {M : Type 1} → statement M
+play-calls-spec =
+    tie.close
+    (tie.spec
+    returns
+    are-kinds-requires
+    returns-2
+    returns-3
+    returns-4
+    play-fitting-requires
+    mul-t7
+    add-t10
+    same-length
+    same-length-2
+    returns-5)

@@ -1,0 +1,43 @@
+-- `play::play_fitting` meets its contract: the answers, and after them the desk.
+-- Assumes nothing.
+use native.Mathlib.Omega.{arith}
+use denote.Ref.{now}
+use Rattle.play.specs.CallBytes.{callsIn}
+use Rattle.play.proofs.Fills.{filled}
+use borrow.Author.Needs.{needs}
+use Rattle.play.proofs.play_fitting.Statement.{statement}
+use Rattle.play.proofs.play_fitting.Tie as tie
+
+answer-calls-requires : tie.Need-answer-calls-requires
+answer-calls-requires c κs = search needs
+
+mul-put-desk : tie.Need-mul-put-desk
+mul-put-desk c = search needs
+
+put-desk-requires : tie.Need-put-desk-requires
+put-desk-requires c κs = search needs
+
+same-length : tie.Need-same-length
+same-length c = search needs
+
+same-length-2 : tie.Need-same-length-2
+same-length-2 c = search needs
+
+returns : tie.Need-returns
+returns c =
+    let p = c .before .before in
+    let q = p .before .before .before .before .before .before .before in
+    let a = q .before .before .before .before .before .before .args in
+    let r = q .answer-calls .result in
+    filled (now (a .log)) (now (a .out)) (callsIn (a .n) (now (a .calls))) (a .n) (r .desk) (r .used) (q .answer-calls .ensures) (p .put-desk .ensures .0) (p .put-desk .ensures .1) (omega arith)
+
+pub play-fitting-spec : {M : Type 1} → statement M
+play-fitting-spec =
+    tie.close
+    (tie.spec
+    answer-calls-requires
+    mul-put-desk
+    put-desk-requires
+    same-length
+    same-length-2
+    returns)

@@ -1,0 +1,74 @@
+-- What it is to play a sequence of calls, given in bytes, on a fresh desk and a log of any length and content, none used.
+-- Assumes nothing.
+use Prim.Native.Nat.{ℕ, _%_}
+use mathlib.Core.Bool.{cond}
+use mathlib.Core.List.{List, _++_}
+use lib.Dec.{leb, eqb}
+use lib.ListN.{length, drop}
+use Rattle.alerts.specs.Sheet.{rowsOf, noRows}
+use Rattle.sequence.specs.Sequences.{stateAfter}
+use Rattle.play.specs.CallBytes.{callLength, callsIn, kindsHold, callCount}
+use Rattle.play.specs.Written.{writtenBytes, writtenLength}
+use Rattle.play.specs.declared.Played.{Played}
+use Rattle.play.specs.declared.Played.the-variants.{Done, CutShort, NoSuchCall, NoRoom}
+use Rattle.play.specs.declared.PlayResult.{PlayResult}
+
+-- everything that playing leaves
+pub record After : Type 0 where
+  pub answer : Played
+  pub log : List ℕ
+  pub out : List ℕ
+
+-- the function's result and what log and out then hold
+abbrev pub after : Played → List ℕ → List ℕ → After
+after r log out = record { answer = r; log = log; out = out }
+
+-- with a refusal log and out come back equal
+abbrev pub refused : Played → List ℕ → List ℕ → After
+refused r log out = record { answer = r; log = log; out = out }
+
+-- n calls played: what is written stands at the start of out, and the other bytes stay
+abbrev pub ran : ℕ → List ℕ → List ℕ → List ℕ → After
+ran n calls log out = record {
+  answer = Done (writtenLength n);
+  log = stateAfter rowsOf noRows log (callsIn n calls) .log;
+  out = writtenBytes log (callsIn n calls) ++ drop (writtenLength n) out;
+}
+
+-- the first refusal that applies, else the run
+unfoldable pub playOf : List ℕ → List ℕ → List ℕ → After
+playOf calls log out =
+    cond (eqb (length calls % callLength) 0)
+    (cond (kindsHold (callCount calls) calls)
+    (cond (leb (writtenLength (callCount calls)) (length out)) (ran (callCount calls) calls log out) (refused NoRoom log out))
+    (refused NoSuchCall log out))
+    (refused CutShort log out)
+
+-- the numbers of the answers
+abbrev pub playedNumber : Played → ℕ
+playedNumber (Done n) = 0
+playedNumber CutShort = 1
+playedNumber NoSuchCall = 2
+playedNumber NoRoom = 3
+
+-- how many bytes were written: none with a refusal
+abbrev pub playedLength : Played → ℕ
+playedLength (Done n) = n
+playedLength CutShort = 0
+playedLength NoSuchCall = 0
+playedLength NoRoom = 0
+
+-- the same for a program in C
+pub record Told : Type 0 where
+  pub result : PlayResult
+  pub log : List ℕ
+  pub out : List ℕ
+
+abbrev pub told : PlayResult → List ℕ → List ℕ → Told
+told r log out = record { result = r; log = log; out = out }
+
+abbrev pub resultOf : Played → PlayResult
+resultOf p = record { written = playedLength p; answer = playedNumber p }
+
+abbrev pub numbered : After → Told
+numbered a = record { result = resultOf (a .answer); log = a .log; out = a .out }

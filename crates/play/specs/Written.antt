@@ -1,0 +1,43 @@
+-- What is written of a sequence of calls from a fresh desk: the answers, and the desk that they leave.
+-- The calls, their answers and what they leave are those of crates/sequence: `deskAnswers` and `stateAfter`, of which `desk-sequences` speaks.
+-- Assumes nothing.
+use Prim.Native.Nat.{ℕ, _+_, _*_}
+use mathlib.Core.Path.{_≡_}
+use mathlib.Core.List.{List, _++_, flatMap}
+use lib.ListN.{length, drop}
+use Rattle.text.specs.Copy.{copied}
+use Rattle.state.specs.declared.desk.Desk.{Desk}
+use Rattle.alerts.specs.Sheet.{rowsOf, noRows}
+use Rattle.alerts.specs.declared.row.Rows.{Rows}
+use Rattle.sequence.specs.Calls.{Call, Reply, State}
+use Rattle.sequence.specs.Sequences.{deskAnswers, stateAfter}
+use Rattle.play.specs.ReplyBytes.{replyLength, replyBytes}
+use Rattle.play.specs.DeskBytes.{deskLength, deskBytes}
+use Rattle.play.specs.OneCall.{stateOf}
+
+-- the answers of calls in bytes, in their order
+abbrev pub answersBytes : List (Call × Reply Rows) → List ℕ
+answersBytes ps = flatMap (λ (p : Call × Reply Rows). replyBytes (p .1)) ps
+
+-- the desk and the used number of a state in bytes
+abbrev pub stateBytes : State → List ℕ
+stateBytes s = deskBytes (s .desk) (s .used)
+
+-- all that is written of the calls cs over a log
+abbrev pub writtenBytes : List ℕ → List Call → List ℕ
+writtenBytes log cs = answersBytes (deskAnswers rowsOf noRows log cs) ++ stateBytes (stateAfter rowsOf noRows log cs)
+
+-- its length for n calls
+abbrev pub writtenLength : ℕ → ℕ
+writtenLength n = replyLength * n + deskLength
+
+-- n calls cs are played: their answers stand at the start of out, and d, used and log are what they leave
+pub record AnswersWritten (log₀ out₀ : List ℕ) (cs : List Call) (n : ℕ) (d : Desk) (used : ℕ) (log out : List ℕ) : Type 0 where
+  pub bytes : out ≡ copied out₀ 0 (answersBytes (deskAnswers rowsOf noRows log₀ cs))
+  pub long : length (answersBytes (deskAnswers rowsOf noRows log₀ cs)) ≡ replyLength * n
+  pub state : stateOf d used log ≡ stateAfter rowsOf noRows log₀ cs
+
+-- and the desk stands after the answers
+pub record AllWritten (log₀ out₀ : List ℕ) (cs : List Call) (n : ℕ) (log out : List ℕ) : Type 0 where
+  pub bytes : out ≡ writtenBytes log₀ cs ++ drop (writtenLength n) out₀
+  pub log-is : log ≡ stateAfter rowsOf noRows log₀ cs .log

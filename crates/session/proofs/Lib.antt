@@ -1,0 +1,6 @@
+pub mod Pairs
+pub mod Pages
+pub mod Digits
+pub mod RowNames
+pub mod Prints
+pub mod Samples

@@ -1,0 +1,32 @@
+-- The pairs of a session, and what they leave (document 01, "Measured examples", the program `desk`).
+-- Assumes nothing.
+use Prim.Native.Nat.{ℕ, _-_}
+use mathlib.Core.Bool.{cond}
+use mathlib.Core.List.{List, [], _∷_}
+use Rattle.text.specs.Run.{between}
+use Rattle.state.specs.declared.desk.Desk.{Desk}
+use Rattle.alerts.specs.Sheet.{rowsOf, noRows}
+use Rattle.sequence.specs.Calls.{Call, key, State, step, final}
+use Rattle.session.specs.declared.play.Played.{Played}
+
+-- "a bench digit": `0` to `3`; "Any other first byte goes in as bench 255"
+unfoldable pub benchOf : ℕ → ℕ
+benchOf first = cond (between 48 51 first) (first - 48) 255
+
+-- "pairs .., a bench digit and a key byte", each a key call; "a last odd byte" is passed over
+abbrev pub pairsOf : List ℕ → List Call
+pairsOf [] = []
+pairsOf (first ∷ []) = []
+pairsOf (first ∷ byte ∷ rest) = key (benchOf first) byte ∷ pairsOf rest
+
+-- a desk, a used number and a log, as a sequence of calls has them
+abbrev pub stands : Desk → ℕ → List ℕ → State
+stands d used log = record { desk = d; used = used; log = log }
+
+-- the function's result and what the log then holds
+abbrev pub standsAfter : Played → List ℕ → State
+standsAfter r log = stands (r .desk) (r .used) log
+
+-- what the pairs of an input leave; a refused call leaves everything, so that "refusals are passed over"
+abbrev pub played : State → List ℕ → State
+played s input = final (step rowsOf noRows) s (pairsOf input)

@@ -1,0 +1,46 @@
+// A session: pairs of a bench digit and a key byte, each one key call.
+ghost use mathlib.Core.Path.{_≡_};
+ghost use Rattle.session.specs.Play.{benchOf, stands, standsAfter, played};
+use state::desk::Desk;
+
+// What a session leaves beside the log: the desk and the used number.
+pub struct Played {
+    pub desk: Desk,
+    pub used: usize,
+}
+
+// The bench that stands for none.
+const NO_BENCH: u64 = 255;
+
+// The bench of a pair's first byte.
+pub fn bench_of(first: u8) -> u64
+    ensures { λ r. ⌜ r ≡ benchOf first ⌝ }
+{
+    if first < b'0' {
+        return NO_BENCH;
+    }
+    if b'3' < first {
+        return NO_BENCH;
+    }
+    (first - b'0') as u64
+}
+
+// Plays every whole pair of the input. Refusals are passed over, and so is a last odd byte.
+pub fn play_pairs(d: Desk, used: usize, log: &mut [u8], input: &[u8]) -> Played
+    ensures { λ r. ⌜ standsAfter r (now (log .exit)) ≡ played (stands d used (now (log .entry))) (now (input .entry)) ⌝ }
+{
+    let pairs = input.len() / 2;
+    let mut desk = d;
+    let mut at = used;
+    let mut i = 0;
+    while i < pairs {
+        let bench = bench_of(input[2 * i]);
+        let byte = input[2 * i + 1];
+        let keyed = calls::key::key(desk, at, log, bench, byte);
+        let next = keyed.desk;
+        desk = next;
+        at = keyed.used;
+        i += 1;
+    }
+    Played { desk, used: at }
+}
