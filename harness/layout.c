@@ -2,6 +2,7 @@
 #include <stdio.h>
 
 #include "keys.h"
+#include "play.h"
 #include "probe.h"
 #include "rows.h"
 #include "wall.h"
@@ -31,5 +32,7 @@ int main(void)
     printf("probe_key_result %zu desk %zu used %zu answer %zu\n", sizeof(probe_key_result),
            offsetof(probe_key_result, desk), offsetof(probe_key_result, used),
            offsetof(probe_key_result, answer));
+    printf("play_result %zu written %zu answer %zu\n", sizeof(play_result),
+           offsetof(play_result, written), offsetof(play_result, answer));
     return 0;
 }

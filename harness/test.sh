@@ -1,6 +1,6 @@
 #!/usr/bin/env bash
-# Tests the C boundary: headers, client, trace and comparison.
-# What needs an archive that is not there is left out, or fails where REQUIRE_LIBS names the archive.
+# Tests the C boundary, headers, client, trace and comparison, and the program desk.
+# What needs an archive, or the program desk, that is not there is left out, or fails where REQUIRE_LIBS names it.
 # Needs the built harness and client (build/cargo/release/harness, build/wall_screen).
 # Prints one line for each check and at the end 'N passed, M failed'.
 set -u
@@ -8,6 +8,7 @@ cd "$(dirname "$0")/.." || exit 2
 
 harness=$PWD/build/cargo/release/harness
 client=$PWD/build/wall_screen
+desk=$PWD/target/bin/desk
 warnings=(-Wall -Wextra -Werror -pedantic)
 for program in "$harness" "$client"; do
     [ -x "$program" ] || { echo "$program is missing: build it first" >&2; exit 2; }
@@ -65,20 +66,20 @@ compiles() {
     if words=$("$@" 2>&1) && [ -z "$words" ]; then ok "$name"; else fail "$name" "$(head -n 1 <<<"$words")"; fi
 }
 
-# there NAME: the harness is linked with that archive.
+# there NAME: the harness is linked with that archive; the program desk is there.
 there() {
-    "$harness" libraries 2>/dev/null | grep -qx "there: lib$1.a"
+    if [ "$1" = desk ]; then [ -x "$desk" ]; else "$harness" libraries 2>/dev/null | grep -qx "there: lib$1.a"; fi
 }
 
 libraries() {
-    local all='wall probe rows keys' name
+    local all='wall probe probe_rows probe_keys play desk' name
     runs "libraries: an absent one is required" 1 $'REQUIRED libnothing.a\n' '' \
         bash -c 'REQUIRE_LIBS="wall nothing" "$1" libraries | grep REQUIRED; exit "${PIPESTATUS[0]}"' - "$harness"
     for name in ${REQUIRE_LIBS-wall probe}; do
-        if there "$name"; then ok "libraries: $name"; else fail "libraries: $name" "not there: lib$name.a"; fi
+        if there "$name"; then ok "libraries: $name"; else fail "libraries: $name" "not there"; fi
     done
     for name in $all; do
-        there "$name" || echo "not there: lib$name.a"
+        there "$name" || echo "not there: $name"
     done
 }
 
@@ -87,15 +88,17 @@ headers() {
 #include "probe.h"
 #include "rows.h"
 #include "keys.h"
+#include "play.h"
 #include "wall.h"
 #include "probe.h"
 #include "rows.h"
 #include "keys.h"
-uint8_t ask(const uint8_t *text, probe_desk desk, uint8_t *log);
-uint8_t ask(const uint8_t *text, probe_desk desk, uint8_t *log)
+#include "play.h"
+uint8_t ask(const uint8_t *text, probe_desk desk, uint8_t *log, uint8_t *out);
+uint8_t ask(const uint8_t *text, probe_desk desk, uint8_t *log, uint8_t *out)
 {
-    return (uint8_t)(wall_classify(text, 0) + probe_item(text, 0) + probe_rows(text, 0, text, 10).rows[11].level +
-                     probe_key(desk, log, 0, 0, 0, 10).answer);
+    return (uint8_t)(wall_classify(text, 0) + probe_item(text, 0) + probe_rows(desk.sheet).rows[11].level +
+                     probe_key(desk, log, 0, 0, 0, 10).answer + play_sequence(text, 0, log, 0, out, 1338).answer);
 }'
     echo "$source" >"$work/headers.c"
     cp "$work/headers.c" "$work/headers.cc"
@@ -103,8 +106,8 @@ uint8_t ask(const uint8_t *text, probe_desk desk, uint8_t *log)
     compiles "client without warnings" gcc -std=c11 -O2 "${warnings[@]}" -Iinclude -c client/wall_screen.c -o "$work/client.o"
     if command -v g++ >/dev/null; then
         compiles "headers as C++" g++ -std=c++17 "${warnings[@]}" -Iinclude -Iharness -c "$work/headers.cc" -o "$work/headers++.o"
-        nm -u "$work/headers++.o" | awk '{ print $2 }' | grep -E '^(wall|probe)_' | sort >"$work/symbols"
-        printf '%s\n' probe_item probe_key probe_rows wall_classify >"$work/want"
+        nm -u "$work/headers++.o" | awk '{ print $2 }' | grep -E '^(wall|probe|play)_' | sort >"$work/symbols"
+        printf '%s\n' play_sequence probe_item probe_key probe_rows wall_classify >"$work/want"
         same "C names from C++" "$work/want" "$work/symbols"
     else
         echo "skipped: headers as C++ (no g++)"
@@ -276,26 +279,114 @@ questions() {
     echo 'who 0 0|6 255 0'
 }
 
+# Before the first fresh desk, several of them, dumps between calls, and wrong commands.
+fresh_desks() {
+    echo 'dump|lines=,,, counts=0 items= used=0 log='
+    echo 'who 0 1|0 255 0'
+    echo 'k 3 65|0'
+    echo 'dump|lines=,,,41 counts=0 items= used=0 log='
+    echo 'new 2 0|ok'
+    echo 'k 0 66|0'
+    echo 'dump|lines=42,,, counts=0 items= used=0 log=0007'
+    echo 'report 0|error: argument 2 missing: PROFILE'
+    echo "new 3 x|error: argument 2 'x': not a number of 0 to 18446744073709551615"
+    echo "who 0 -1|error: argument 2 '-1': not a number of 0 to 18446744073709551615"
+    echo 'k 0 8|0'
+    echo 'dump|lines=,,, counts=0 items= used=0 log=0007'
+    echo 'dump|lines=,,, counts=0 items= used=0 log=0007'
+    echo 'k 1 67|0'
+    echo 'new 65537 0|ok'
+    echo 'k 0 66|2'
+    echo 'k 4 66|1'
+    echo 'report 1 7|0 2/1 2/1 1/1 2/1 0/1 2/1 0/0 2/1 0/0 2/1 0/0 2/1'
+    echo 'who 0 18446744073709551615|6 255 0'
+    echo 'new 0 0|ok'
+    echo 'dump|lines=,,, counts=0 items= used=0 log='
+}
+
 trace_keys() {
     trace_table "reference's trace: keys" reference-trace < <(session)
     trace_table "reference's trace: questions" reference-trace < <(questions)
-    if there keys; then
+    trace_table "reference's trace: fresh desks" reference-trace < <(fresh_desks)
+    if there play || there probe_keys; then
         trace_table "trace: keys" < <(session)
     else
         trace_table "trace: keys are not there" < <(printf '%s|none\n' 'new 4096 1' 'k 0 10' dump)
     fi
-    trace_table "trace: questions are not there" < <(printf '%s|none\n' 'report 0 0' 'who 0 1')
+    if there play; then
+        trace_table "trace: questions" < <(questions)
+        trace_table "trace: fresh desks" < <(fresh_desks)
+    else
+        trace_table "trace: questions are not there" < <(printf '%s|none\n' 'report 0 0' 'who 0 1')
+    fi
+}
+
+# The answers come whenever the input pauses, in the middle of a line too.
+trace_pauses() {
+    local part answer
+    mkfifo "$work/asked" "$work/answered"
+    "$harness" trace <"$work/asked" >"$work/answered" &
+    exec 8<>"$work/asked" 9<>"$work/answered"
+    for part in $'line -\n' $'new 30 0\nk' $' 2 65\n' $'k 2 10\ndum' $'p\n' $'who 0 4\n'; do
+        printf %s "$part" >&8
+        read -r -t 20 answer <&9 || answer='no answer'
+        echo "$answer"
+    done >"$work/answers"
+    exec 8>&-
+    wait $!
+    exec 9<&-
+    printf '%s\n' 'line -' 'new 30 0' 'k 2 65' 'k 2 10' dump 'who 0 4' | "$harness" trace >"$work/want"
+    same "trace: an answer at each pause" "$work/want" "$work/answers"
 }
 
 trace_generated() {
+    local keys=100000
     "$harness" trace-commands 13 5000 >"$work/commands"
     "$harness" reference-trace <"$work/commands" >"$work/want"
     "$harness" trace <"$work/commands" >"$work/answers"
     same "trace: 5000 generated commands" "$work/want" "$work/answers"
     runs "trace: as many answers as commands" 0 $'5000\n' '' grep -c '' "$work/answers"
+    { head -c 5001 "$work/commands"; sleep 0.2; tail -c +5002 "$work/commands"; } | "$harness" trace >"$work/answers"
+    same "trace: the same in two parts" "$work/want" "$work/answers"
+    if there play || there probe_keys; then
+        yes 'k 0 65' | head -n $keys | "$harness" reference-trace >"$work/want"
+        yes 'k 0 65' | head -n $keys | timeout 60 "$harness" trace >"$work/answers"
+        same "trace: $keys keys of one desk" "$work/want" "$work/answers"
+    fi
     runs "trace: last command without newline" 0 $'none\n5\n' '' "$harness" trace < <(printf '\xff\nline -')
     runs "tools/trace from another folder" 0 $'5\n0 3\n' '' \
         bash -c 'cd "$1" && "$2/tools/trace" more words 2>/dev/null' - "$work" "$PWD" < <(printf 'line -\ngrade 6 302e3230\n')
+}
+
+# desk_prints NAME INPUT EXPECTED: the program desk prints the file's bytes, and nothing else.
+desk_prints() {
+    "$desk" <"$2" >"$work/out" 2>"$work/err"
+    local status=$?
+    if [ $status -ne 0 ]; then
+        fail "$1" "exit $status"
+    elif [ -s "$work/err" ]; then
+        fail "$1" "standard error is '$(head -c 200 "$work/err")'"
+    else
+        same "$1" "$3" "$work/out"
+    fi
+}
+
+desk_sessions() {
+    local input name first=harness/desk-sessions/document_01
+    mkdir "$work/sessions"
+    runs "desk: sessions recomputed" 0 '' '' "$harness" desk-sessions "$work/sessions"
+    runs "desk: sessions as they are kept" 0 '' '' diff -r harness/desk-sessions "$work/sessions"
+    if ! there desk; then
+        echo "skipped: desk (not there)"
+        return
+    fi
+    for input in harness/desk-sessions/*.in; do
+        name=$(basename "$input" .in)
+        desk_prints "desk: $name" "$input" "${input%.in}.out"
+    done
+    desk_prints "desk: input byte by byte" <(for at in $(seq "$(wc -c <$first.in)"); do head -c "$at" $first.in | tail -c 1; done) $first.out
+    desk_prints "desk: 200000 bytes before it" <(yes 4x | tr -d '\n' | head -c 200000; cat $first.in) $first.out
+    summary "desk: 300 generated inputs" "$harness" desk-runs "$desk" 14 300
 }
 
 # summary NAME COMMAND..: ends with 'N passed, 0 failed', N not 0.
@@ -329,7 +420,9 @@ client_generated
 trace_examples
 trace_malformed
 trace_keys
+trace_pauses
 trace_generated
+desk_sessions
 comparison
 echo "$passed passed, $failed failed"
 [ $failed -eq 0 ]

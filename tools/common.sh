@@ -4,8 +4,8 @@ PATH=$PATH:/opt/rattle/bin
 export CARGO_TARGET_DIR=$PWD/build/cargo
 
 # The proved libraries that C and Rust link.
-archives=(wall probe probe_rows probe_keys)
-export REQUIRE_LIBS="${archives[*]}"
+archives=(wall probe probe_rows probe_keys play)
+export REQUIRE_LIBS="${archives[*]} desk"
 
 # stale ARCHIVE: it is missing, or crates.txt or some file under crates/ is newer.
 stale() {

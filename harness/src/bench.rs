@@ -4,8 +4,10 @@ use crate::desks::State;
 use crate::inputs::{Inputs, ROWS};
 use crate::program::{Library, Program, Reference, Values};
 use crate::proved::Proved;
+use crate::sequences::Sequences;
 use crate::session::Session;
 use crate::sheets::Sheets;
+use reference::encoded::{encode_call, length};
 use std::hint::black_box;
 use std::time::Instant;
 
@@ -14,6 +16,8 @@ const ROUNDS: usize = 15;
 const SEED: u64 = 1;
 /// The log of a session of keys.
 const LOG: usize = 4096;
+/// How many calls a sequence has.
+const CALLS: usize = 250;
 
 pub fn run() {
     println!("{INPUTS} inputs a round, median of {ROUNDS} rounds");
@@ -45,6 +49,12 @@ pub fn run() {
             calls.iter().map(answer).sum()
         });
     }
+    if Proved.has(Library::Play) {
+        let sequences = sequences();
+        report(&format!("calls in sequences of {CALLS}"), |program| {
+            sequences.iter().map(|calls| played(program, black_box(calls))).sum()
+        });
+    }
 }
 
 /// One value by a row that its length chooses.
@@ -66,6 +76,19 @@ fn calls() -> Vec<(u64, u8)> {
         (bench, byte)
     };
     (0..INPUTS).map(call).collect()
+}
+
+/// As many encoded sequences as make up the inputs.
+fn sequences() -> Vec<Vec<u8>> {
+    let mut sequences = Sequences::new(SEED);
+    let sequence = |_| sequences.calls(CALLS, LOG).iter().flat_map(encode_call).collect();
+    (0..INPUTS / CALLS).map(sequence).collect()
+}
+
+fn played(program: &dyn Program, calls: &[u8]) -> u64 {
+    let (mut log, mut out) = ([0; LOG], [0; length(CALLS)]);
+    let result = program.play(calls, &mut log, &mut out);
+    result.written + u64::from(black_box(out)[0])
 }
 
 /// Times a round of all inputs by each program in turn.

@@ -90,6 +90,20 @@ pub struct KeyResult {
     pub answer: u8,
 }
 
+/// `play_result` of play.h.
+#[repr(C)]
+#[derive(Clone, Copy, Debug, PartialEq, Eq)]
+pub struct PlayResult {
+    pub written: u64,
+    pub answer: u8,
+}
+
+impl From<(u64, u8)> for PlayResult {
+    fn from((written, answer): (u64, u8)) -> Self {
+        PlayResult { written, answer }
+    }
+}
+
 impl From<(u8, u8)> for Graded {
     fn from((answer, level): (u8, u8)) -> Self {
         Graded { answer, level }
@@ -105,6 +119,12 @@ impl From<Option<i64>> for NumberResult {
 impl From<[reference::rows::Row; ROWS]> for RowsResult {
     fn from(rows: [reference::rows::Row; ROWS]) -> Self {
         RowsResult { rows: rows.map(|row| Row { level: row.level, reason: row.reason }) }
+    }
+}
+
+impl From<RowsResult> for [reference::rows::Row; ROWS] {
+    fn from(result: RowsResult) -> Self {
+        result.rows.map(|Row { level, reason }| reference::rows::Row { level, reason })
     }
 }
 
@@ -173,4 +193,5 @@ pub fn print() {
     print_layout!("probe_sheet", Sheet, items, count);
     print_layout!("probe_desk", Desk, lines, sheet);
     print_layout!("probe_key_result", KeyResult, desk, used, answer);
+    print_layout!("play_result", PlayResult, written, answer);
 }

@@ -1,6 +1,7 @@
 //! The comparison: the same inputs to two programs, and every answer held equal.
 
 mod keys;
+mod play;
 mod sheets;
 
 use crate::boundary::{Graded, NumberResult};
@@ -93,6 +94,9 @@ pub fn compare<'a>(
     }
     if tested.has(Library::Keys) {
         run.all_keys(plan);
+    }
+    if tested.has(Library::Play) {
+        run.all_sequences(plan);
     }
     run
 }

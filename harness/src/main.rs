@@ -5,6 +5,8 @@ mod boundary;
 mod broken;
 mod client;
 mod compare;
+mod desk_runs;
+mod desk_sessions;
 mod desks;
 mod inputs;
 mod lists;
@@ -12,6 +14,7 @@ mod program;
 mod proved;
 mod random;
 mod self_check;
+mod sequences;
 mod session;
 mod sheet_lists;
 mod sheets;
@@ -22,19 +25,26 @@ use compare::Plan;
 use inputs::Inputs;
 use program::{Library, Program, Reference};
 use proved::Proved;
+use sequences::Sequences;
 use std::io::{stdin, stdout, BufWriter, Write};
+use std::path::Path;
 use std::process::ExitCode;
 
 const USAGE: &str = "usage: harness MODE
   compare [--seed N] [--count N]  compare both programs on N lines and N values (default 1000000),
                                   half from a fixed seed and half from a new one or the one given,
-                                  and on sheets and key calls in proportion; an archive that is not
-                                  there is left out, or a failure where REQUIRE_LIBS names it
+                                  and on sheets, key calls and sequences in proportion; an archive
+                                  that is not there is left out, or a failure where REQUIRE_LIBS
+                                  names it
   self-check                      show that the comparison finds faulty programs
   trace, reference-trace          answer trace commands by the proved library, by the reference
   bench                           speed of both programs
   libraries                       which proved archives are there; fails as compare does
   layout                          sizes and offsets of the boundary's structs
+  desk-sessions FOLDER            write the sessions of the program desk, NAME.in, and what it must
+                                  print for each, NAME.out
+  desk-runs PROGRAM SEED COUNT    run the program desk on generated inputs
+  desk-input SEED                 write one such input
   trace-commands SEED COUNT       write generated trace commands
   client-lines SEED COUNT         write generated lines
   client-values SEED COUNT        write generated values
@@ -62,12 +72,12 @@ fn main() -> ExitCode {
 }
 
 fn run(words: &[&str]) -> Outcome {
-    let output = BufWriter::new(stdout().lock());
+    let mut output = BufWriter::new(stdout().lock());
     match words {
         ["compare", options @ ..] => compare(plan(options)?),
         ["self-check"] => Ok(counted(self_check::run())),
-        ["trace"] => done(trace::run(&Proved, stdin().lock(), output)),
-        ["reference-trace"] => done(trace::run(&Reference, stdin().lock(), output)),
+        ["trace"] => done(trace::run_proved(&Proved, stdin().lock(), output)),
+        ["reference-trace"] => done(trace::run_stepped(&Reference, stdin().lock(), output)),
         ["bench"] => {
             bench::run();
             DONE
@@ -79,6 +89,15 @@ fn run(words: &[&str]) -> Outcome {
         ["layout"] => {
             boundary::print();
             DONE
+        }
+        ["desk-sessions", folder] => desk_sessions::write(Path::new(folder)).and(DONE),
+        ["desk-runs", program, seed, count] => {
+            let (seed, count) = (number(3, seed)?, number(4, count)?);
+            Ok(counted(desk_runs::run(Path::new(program), seed, count)))
+        }
+        ["desk-input", seed] => {
+            let input = Sequences::new(number(2, seed)?).desk_input();
+            done(output.write_all(&input).and_then(|()| output.flush()))
         }
         ["trace-commands", seed, count] => {
             write(trace::commands(&Proved, number(2, seed)?, number(3, count)?), output)
@@ -158,7 +177,8 @@ fn absent() -> usize {
     for name in known.into_iter().filter(|name| !is_there(name)) {
         println!("not there: lib{name}.a");
     }
-    let missing = required.split_whitespace().filter(|name| !is_there(name));
+    let libraries = required.split_whitespace().filter(|&name| name != env!("PROGRAM"));
+    let missing = libraries.filter(|name| !is_there(name));
     missing.inspect(|name| println!("REQUIRED lib{name}.a")).count()
 }
 

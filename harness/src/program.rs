@@ -1,8 +1,9 @@
 //! The questions that both programs answer, in the form of the C boundary.
 
-use crate::boundary::{Desk, Graded, KeyResult, LineResult, NumberResult, RowsResult};
+use crate::boundary::{Desk, Graded, KeyResult, LineResult, NumberResult, PlayResult, RowsResult};
 use reference::names::ITEMS;
-use reference::{desk, grade, line, names, number, rows, value};
+use reference::sequence::Call;
+use reference::{desk, encoded, grade, line, names, number, rows, sequence, value};
 
 /// The archives that the proved library comes in.
 #[derive(Clone, Copy, PartialEq, Eq)]
@@ -11,13 +12,15 @@ pub enum Library {
     Probe,
     Rows,
     Keys,
+    Play,
 }
 
 impl Library {
-    pub const ALL: [Library; 4] = [Library::Wall, Library::Probe, Library::Rows, Library::Keys];
+    pub const ALL: [Library; 5] =
+        [Library::Wall, Library::Probe, Library::Rows, Library::Keys, Library::Play];
 
     pub fn name(self) -> &'static str {
-        ["wall", "probe", "probe_rows", "probe_keys"][self as usize]
+        ["wall", "probe", "probe_rows", "probe_keys", "play"][self as usize]
     }
 }
 
@@ -104,6 +107,16 @@ pub trait Program {
     /// The question *Who*: answer, bench and entry; none where the program does not answer it yet.
     fn who(&self, desk: &Desk, item: u64) -> Option<(u8, u8, u64)> {
         Some(desk::who(&desk.into(), item))
+    }
+
+    /// Plays encoded calls on a fresh desk.
+    fn play(&self, calls: &[u8], log: &mut [u8], out: &mut [u8]) -> PlayResult {
+        encoded::play_sequence(calls, log, out).into()
+    }
+
+    /// The places of calls in gathered order, which no archive answers.
+    fn gathered(&self, calls: &[Call]) -> Vec<usize> {
+        sequence::gathered(calls)
     }
 }
 

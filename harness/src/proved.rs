@@ -4,11 +4,13 @@
 use crate::boundary::Graded;
 #[cfg(proved = "probe_keys")]
 use crate::boundary::KeyResult;
+#[cfg(proved = "play")]
+use crate::boundary::PlayResult;
+#[cfg(proved = "probe_rows")]
+use crate::boundary::Sheet;
 use crate::boundary::{Desk, RowsResult};
 #[cfg(proved = "probe")]
 use crate::boundary::{LineResult, NumberResult};
-#[cfg(proved = "probe_rows")]
-use crate::boundary::Sheet;
 #[cfg(proved = "probe_rows")]
 use crate::program::Values;
 use crate::program::{Library, Program};
@@ -44,6 +46,18 @@ extern "C" {
     ) -> KeyResult;
 }
 
+#[cfg(proved = "play")]
+extern "C" {
+    fn play_sequence(
+        calls: *const u8,
+        calls_len: usize,
+        log: *mut u8,
+        log_len: usize,
+        out: *mut u8,
+        out_len: usize,
+    ) -> PlayResult;
+}
+
 /// The proved library.
 pub struct Proved;
 
@@ -55,6 +69,7 @@ impl Program for Proved {
             Library::Probe => cfg!(proved = "probe"),
             Library::Rows => cfg!(proved = "probe_rows"),
             Library::Keys => cfg!(proved = "probe_keys"),
+            Library::Play => cfg!(proved = "play"),
         }
     }
 
@@ -96,6 +111,20 @@ impl Program for Proved {
     #[cfg(proved = "probe_keys")]
     fn key(&self, desk: &Desk, log: &mut [u8], used: u64, bench: u64, byte: u8) -> KeyResult {
         unsafe { probe_key(*desk, log.as_mut_ptr(), log.len(), used, bench, byte) }
+    }
+
+    #[cfg(proved = "play")]
+    fn play(&self, calls: &[u8], log: &mut [u8], out: &mut [u8]) -> PlayResult {
+        unsafe {
+            play_sequence(
+                calls.as_ptr(),
+                calls.len(),
+                log.as_mut_ptr(),
+                log.len(),
+                out.as_mut_ptr(),
+                out.len(),
+            )
+        }
     }
 
     fn report(&self, _desk: &Desk) -> Option<(u8, RowsResult)> {

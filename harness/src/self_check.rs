@@ -1,15 +1,17 @@
 //! Shows that the comparison can fail: programs with one known fault each must be found different.
 
 mod keys;
+mod play;
 mod rows;
 
-use crate::boundary::{Desk, Graded, KeyResult, LineResult, NumberResult, RowsResult};
+use crate::boundary::{Desk, Graded, KeyResult, LineResult, NumberResult, PlayResult, RowsResult};
 use crate::compare::{compare, Plan};
 use crate::program::{Library, Program, Reference, Values};
 use crate::tally::Tally;
 use reference::line::{ACCEPTED, LIMIT, NOT_A_LINE, NO_SUCH_NAME, WRONG_KIND};
 use reference::names::{item, passes, ITEMS};
 use reference::number::{number, DIGITS, PLACES, UNCERTAINTY_DIGITS};
+use reference::sequence::Call;
 use reference::{grade, line, value};
 
 const PLAN: Plan = Plan { fixed_seed: 1, new_seed: 2, count: 20_000 };
@@ -24,6 +26,8 @@ enum Wrong {
     Item(fn(&[u8]) -> u64),
     Rows(fn(&Values) -> RowsResult),
     Key(fn(&Desk, &mut [u8], u64, u64, u8) -> KeyResult),
+    Play(fn(&[u8], &mut [u8], &mut [u8]) -> PlayResult),
+    Gathered(fn(&[Call]) -> Vec<usize>),
 }
 
 impl Program for Wrong {
@@ -32,6 +36,7 @@ impl Program for Wrong {
         match self {
             Wrong::Rows(_) => library == Library::Rows,
             Wrong::Key(_) => library == Library::Keys,
+            Wrong::Play(_) | Wrong::Gathered(_) => library == Library::Play,
             _ => [Library::Wall, Library::Probe].contains(&library),
         }
     }
@@ -99,6 +104,22 @@ impl Program for Wrong {
             Reference.key(desk, log, used, bench, byte)
         }
     }
+
+    fn play(&self, calls: &[u8], log: &mut [u8], out: &mut [u8]) -> PlayResult {
+        if let Wrong::Play(wrong) = self {
+            wrong(calls, log, out)
+        } else {
+            Reference.play(calls, log, out)
+        }
+    }
+
+    fn gathered(&self, calls: &[Call]) -> Vec<usize> {
+        if let Wrong::Gathered(wrong) = self {
+            wrong(calls)
+        } else {
+            Reference.gathered(calls)
+        }
+    }
 }
 
 const FAULTS: [(&str, Wrong); 29] = [
@@ -163,7 +184,7 @@ const FAULTS: [(&str, Wrong); 29] = [
 
 /// Prints one line for each fault; answers how many were found and how many not.
 pub fn run() -> (usize, usize) {
-    let faults = FAULTS.iter().chain(&rows::FAULTS).chain(&keys::FAULTS);
+    let faults = FAULTS.iter().chain(&rows::FAULTS).chain(&keys::FAULTS).chain(&play::FAULTS);
     let mut results: Vec<(String, bool)> = faults.map(|(name, wrong)| found(name, wrong)).collect();
     let none = compare(&Reference, &Reference, &PLAN);
     results.push((

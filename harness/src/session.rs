@@ -71,7 +71,7 @@ impl Session {
         }
     }
 
-    fn any_byte(&mut self) -> u8 {
+    pub fn any_byte(&mut self) -> u8 {
         if self.random.once_in(2) {
             self.random.byte()
         } else {
@@ -89,7 +89,7 @@ impl Session {
     }
 
     /// The keys that clear what is left of a refused line, or correct it, and type the next one.
-    fn next_line(&mut self, length: usize) -> Vec<u8> {
+    pub fn next_line(&mut self, length: usize) -> Vec<u8> {
         let mut keys = match self.random.below(6) {
             _ if length == 0 && !self.random.once_in(10) => vec![],
             0 => vec![ERASE; length + 1],

@@ -9,7 +9,7 @@ use reference::rows::{NAMES, ROWS};
 const GRADES: &[&str] = &["0 0", "0 2", "0 3", "0 4", "7 0"];
 
 /// Each question with its archive and its possible answers.
-const QUESTIONS: [(Library, &str, &[&str]); 13] = [
+const QUESTIONS: [(Library, &str, &[&str]); 20] = [
     (Library::Wall, "line", &["0", "5", "6", "7"]),
     (Library::Wall, "row 6", GRADES),
     (Library::Wall, "row 8", GRADES),
@@ -23,6 +23,13 @@ const QUESTIONS: [(Library, &str, &[&str]); 13] = [
     (Library::Keys, "key accepted", &["append", "erase", "erase nothing", "empty", "Enter"]),
     (Library::Keys, "entry's bench", &["0", "1", "2", "3"]),
     (Library::Keys, "entry's item", &["1", "2", "3", "4", "5", "6", "7", "8", "9", "10"]),
+    (Library::Play, "play", &["0", "1", "2", "3"]),
+    (Library::Play, "log played on", &["of none", "shorter", "of the limit", "too long"]),
+    (Library::Play, "gathering", &["changes nothing", "moves keys"]),
+    (Library::Play, "played key", &["0", "1", "2", "3", "4", "5", "6", "7", "8"]),
+    (Library::Play, "taken key", &["append", "erase", "empty", "Enter"]),
+    (Library::Play, "played Report", &["0"]),
+    (Library::Play, "played Who", &["0 by 0", "0 by 1", "0 by 2", "0 by 3", "0 empty", "6"]),
 ];
 /// The most answers of a question.
 const MOST: usize = ITEMS.len() + 1;
@@ -42,6 +49,13 @@ pub enum Question {
     KeyAccepted,
     EntryBench,
     EntryItem,
+    Play,
+    PlayedLog,
+    Gathering,
+    PlayedKey,
+    TakenKey,
+    PlayedReport,
+    PlayedWho,
 }
 
 const GRADED: &[(u8, u8)] = &[(0, 0), (2, 0), (3, 0), (4, 0), (2, 1)];
@@ -69,6 +83,7 @@ type Counted = (Library, String, Vec<(String, u64)>);
 pub struct Tally {
     counts: [[u64; MOST]; QUESTIONS.len()],
     rows: [[u64; MOST]; ROWS],
+    played_rows: [[u64; MOST]; ROWS],
     ways: [u64; WAYS.len()],
 }
 
@@ -77,6 +92,7 @@ impl Default for Tally {
         Tally {
             counts: [[0; MOST]; QUESTIONS.len()],
             rows: [[0; MOST]; ROWS],
+            played_rows: [[0; MOST]; ROWS],
             ways: [0; WAYS.len()],
         }
     }
@@ -91,13 +107,14 @@ impl Tally {
         }
     }
 
-    /// Counts each row of a report.
+    /// Counts each row of a sheet.
     pub fn note_rows(&mut self, result: &RowsResult) {
-        for ((row, possible), counts) in result.rows.iter().zip(POSSIBLE).zip(&mut self.rows) {
-            if let Some(at) = possible.iter().position(|&pair| pair == (row.level, row.reason)) {
-                counts[at] += 1;
-            }
-        }
+        note_each(&mut self.rows, result);
+    }
+
+    /// Counts each row of a Report in a sequence.
+    pub fn note_played_rows(&mut self, result: &RowsResult) {
+        note_each(&mut self.played_rows, result);
     }
 
     /// Counts a call that found a desk broken in one way not sound.
@@ -132,12 +149,30 @@ impl Tally {
             let row = all.iter().map(|answer| answer.to_string()).zip(*counts).collect();
             (*library, name.to_string(), row)
         });
-        let rows = (1..).zip(NAMES).zip(POSSIBLE).zip(&self.rows);
-        let rows = rows.map(|(((number, name), possible), counts)| {
-            let pairs = possible.iter().map(|(level, reason)| format!("{level}/{reason}"));
-            (Library::Rows, format!("{number:02} {name}"), pairs.zip(*counts).collect())
-        });
+        let rows = counted_rows(Library::Rows, "", &self.rows);
+        let played_rows = counted_rows(Library::Play, "played ", &self.played_rows);
         let ways = WAYS.iter().map(|(name, _)| name.to_string()).zip(self.ways).collect();
-        questions.chain(rows).chain([(Library::Keys, "not sound".into(), ways)]).collect()
+        let ways = [(Library::Keys, "not sound".into(), ways)];
+        questions.chain(rows).chain(ways).chain(played_rows).collect()
     }
+}
+
+fn note_each(counts: &mut [[u64; MOST]; ROWS], result: &RowsResult) {
+    for ((row, possible), counts) in result.rows.iter().zip(POSSIBLE).zip(counts) {
+        if let Some(at) = possible.iter().position(|&pair| pair == (row.level, row.reason)) {
+            counts[at] += 1;
+        }
+    }
+}
+
+fn counted_rows<'a>(
+    library: Library,
+    before: &'a str,
+    counts: &'a [[u64; MOST]; ROWS],
+) -> impl Iterator<Item = Counted> + 'a {
+    let rows = (1..).zip(NAMES).zip(POSSIBLE).zip(counts);
+    rows.map(move |(((number, name), possible), counts)| {
+        let pairs = possible.iter().map(|(level, reason)| format!("{level}/{reason}"));
+        (library, format!("{before}{number:02} {name}"), pairs.zip(*counts).collect())
+    })
 }

@@ -1,95 +1,156 @@
 //! The trace: one command a line, exactly one line of answer for each.
 
-use crate::boundary::Desk;
-use crate::compare::hex;
+mod commands;
+mod played;
+mod stepped;
+
+pub use commands::commands;
+
 use crate::desks::State;
-use crate::inputs::Inputs;
-use crate::program::{Library, Program, Reference};
-use crate::random::Random;
-use crate::session::Session;
+use crate::program::{Library, Program};
+use played::Played;
+use reference::sequence::{Answer, Call};
 use std::fmt::Write as _;
 use std::io::{BufRead, BufReader, Read, Result as IoResult, Write};
+use stepped::Stepped;
 
 /// The longest log that is made.
 const LONGEST_LOG: u64 = 1 << 24;
+/// How much input is taken at once.
+const BUFFER: usize = 1 << 20;
 
-/// Answers every command of the input. The answers are handed on whenever the input pauses.
-pub fn run(program: &dyn Program, input: impl Read, mut output: impl Write) -> IoResult<()> {
-    let mut input = BufReader::new(input);
-    let mut command = vec![];
-    let mut state = State::fresh(0, 0);
+/// One line of output.
+enum Reply {
+    Known(String),
+    /// The answer to the call at a place of the sequence, which is not played yet.
+    Call(usize),
+    /// The state after so many calls of the sequence, which is not played yet.
+    Dump(usize),
+}
+
+/// Who keeps the desk that the commands are about.
+trait Keeper {
+    /// Whether a command about the desk is there.
+    fn knows(&self, command: &str) -> bool;
+    /// A fresh desk and a log. Every reply was settled before.
+    fn fresh(&mut self, length: usize, seed: u64);
+    fn call(&mut self, call: Call) -> Reply;
+    fn dump(&mut self) -> Reply;
+    /// Makes every reply known.
+    fn settle(&mut self, replies: &mut [Reply]);
+}
+
+/// Answers every command of the input by the proved library's player, where there is one.
+pub fn run_proved(program: &dyn Program, input: impl Read, output: impl Write) -> IoResult<()> {
+    if program.has(Library::Play) {
+        run(program, Played::new(program), input, output)
+    } else {
+        run(program, Stepped::new(program), input, output)
+    }
+}
+
+/// Answers every command of the input call by call.
+pub fn run_stepped(program: &dyn Program, input: impl Read, output: impl Write) -> IoResult<()> {
+    run(program, Stepped::new(program), input, output)
+}
+
+/// The answers are settled and handed on whenever the input pauses: when no further whole line has
+/// come with the last one.
+fn run(
+    program: &dyn Program,
+    mut keeper: impl Keeper,
+    input: impl Read,
+    mut output: impl Write,
+) -> IoResult<()> {
+    let mut input = BufReader::with_capacity(BUFFER, input);
+    let (mut command, mut replies) = (vec![], vec![]);
     while input.read_until(b'\n', &mut command)? > 0 {
-        let answer = answer(program, &mut state, &String::from_utf8_lossy(&command))
-            .unwrap_or_else(|fault| format!("error: {fault}"));
-        writeln!(output, "{answer}")?;
+        let text = String::from_utf8_lossy(&command);
+        let reply = answer(program, &mut keeper, &mut replies, &text);
+        replies.push(reply.unwrap_or_else(|fault| Reply::Known(format!("error: {fault}"))));
         command.clear();
-        if input.buffer().is_empty() {
+        if !input.buffer().contains(&b'\n') {
+            keeper.settle(&mut replies);
+            for reply in replies.drain(..) {
+                if let Reply::Known(line) = reply {
+                    writeln!(output, "{line}")?;
+                }
+            }
             output.flush()?;
         }
     }
-    output.flush()
+    Ok(())
 }
 
-/// The answer to one command; `none` for one that is not there, or whose archive is not there.
-fn answer(program: &dyn Program, state: &mut State, command: &str) -> Result<String, String> {
+/// The reply to one command; `none` for one that is not there, or whose archive is not there.
+fn answer(
+    program: &dyn Program,
+    keeper: &mut dyn Keeper,
+    before: &mut [Reply],
+    command: &str,
+) -> Result<Reply, String> {
     let words: Vec<&str> = command.split_ascii_whitespace().collect();
-    let (wall, keys) = (program.has(Library::Wall), program.has(Library::Keys));
-    let answer = match words[..] {
+    let wall = program.has(Library::Wall);
+    Ok(match words[..] {
         ["line", ref arguments @ ..] if wall => {
             let [line] = named(arguments, ["HEX"])?;
-            Some(program.classify(&bytes(1, line)?).to_string())
+            Reply::Known(program.classify(&bytes(1, line)?).to_string())
         }
         ["grade", ref arguments @ ..] if wall => {
             let [row, value] = named(arguments, ["ROW", "HEX"])?;
             let graded = program.grade(number(1, row)?, &bytes(2, value)?);
-            Some(format!("{} {}", graded.answer, graded.level))
+            Reply::Known(format!("{} {}", graded.answer, graded.level))
         }
-        ["new", ref arguments @ ..] if keys => {
-            let [length, seed] = named(arguments, ["LEN", "SEED"])?;
-            *state = State::fresh(up_to(1, length, LONGEST_LOG)? as usize, number(2, seed)?);
-            Some("ok".into())
-        }
-        ["k", ref arguments @ ..] if keys => {
+        [command, ref arguments @ ..] if keeper.knows(command) => match command {
+            "new" => {
+                let [length, seed] = named(arguments, ["LEN", "SEED"])?;
+                let (length, seed) = (up_to(1, length, LONGEST_LOG)?, number(2, seed)?);
+                keeper.settle(before);
+                keeper.fresh(length as usize, seed);
+                Reply::Known("ok".into())
+            }
+            "dump" => {
+                let [] = named(arguments, [])?;
+                keeper.dump()
+            }
+            _ => keeper.call(call(command, arguments)?),
+        },
+        _ => Reply::Known("none".into()),
+    })
+}
+
+/// A key or a question. A sheet and a profile are given and ignored.
+fn call(command: &str, arguments: &[&str]) -> Result<Call, String> {
+    match command {
+        "k" => {
             let [bench, byte] = named(arguments, ["BENCH", "BYTE"])?;
             let byte = up_to(2, byte, u8::MAX.into())? as u8;
-            Some(state.key(program, number(1, bench)?, byte).answer.to_string())
+            Ok(Call::Key { bench: number(1, bench)?, byte })
         }
-        ["dump", ref arguments @ ..] if keys => {
-            let [] = named(arguments, [])?;
-            Some(dump(state))
+        "report" => {
+            let [sheet, profile] = named(arguments, ["SHEET", "PROFILE"])?;
+            number(1, sheet)?;
+            number(2, profile)?;
+            Ok(Call::Report)
         }
-        ["report", ref arguments @ ..] => report(program, &state.desk, arguments)?,
-        ["who", ref arguments @ ..] => who(program, &state.desk, arguments)?,
-        _ => None,
-    };
-    Ok(answer.unwrap_or_else(|| "none".into()))
-}
-
-/// Answer, then level and reason of each row. The sheet and the profile are given and ignored.
-fn report(
-    program: &dyn Program,
-    desk: &Desk,
-    arguments: &[&str],
-) -> Result<Option<String>, String> {
-    let Some((answer, result)) = program.report(desk) else {
-        return Ok(None);
-    };
-    let [sheet, profile] = named(arguments, ["SHEET", "PROFILE"])?;
-    number(1, sheet)?;
-    number(2, profile)?;
-    let rows = result.rows.iter().map(|row| format!(" {}/{}", row.level, row.reason));
-    Ok(Some(format!("{answer}{}", rows.collect::<String>())))
-}
-
-/// Answer, bench and entry of an item. The sheet is given and ignored.
-fn who(program: &dyn Program, desk: &Desk, arguments: &[&str]) -> Result<Option<String>, String> {
-    if program.who(desk, 0).is_none() {
-        return Ok(None);
+        _ => {
+            let [sheet, item] = named(arguments, ["SHEET", "ITEM"])?;
+            number(1, sheet)?;
+            Ok(Call::Who { item: number(2, item)? })
+        }
     }
-    let [sheet, item] = named(arguments, ["SHEET", "ITEM"])?;
-    number(1, sheet)?;
-    let answer = program.who(desk, number(2, item)?);
-    Ok(answer.map(|(answer, bench, entry)| format!("{answer} {bench} {entry}")))
+}
+
+/// An answer as it is printed.
+fn told(answer: &Answer) -> String {
+    match answer {
+        Answer::Key { answer } => answer.to_string(),
+        Answer::Report { answer, rows } => {
+            let rows = rows.iter().map(|row| format!(" {}/{}", row.level, row.reason));
+            format!("{answer}{}", rows.collect::<String>())
+        }
+        Answer::Who { answer, bench, entry } => format!("{answer} {bench} {entry}"),
+    }
 }
 
 /// The whole state. A length beyond the limit shows the bytes that there are.
@@ -168,46 +229,4 @@ fn bytes(place: usize, word: &str) -> Result<Vec<u8>, String> {
         return Err(fault("an odd number of hexadecimal digits".into()));
     }
     Ok(digits.chunks(2).map(|pair| (16 * pair[0] + pair[1]) as u8).collect())
-}
-
-/// Generated commands, some of them malformed: those that the program answers.
-pub fn commands(program: &dyn Program, seed: u64, count: u64) -> impl Iterator<Item = Vec<u8>> {
-    let (mut inputs, mut random) = (Inputs::new(seed), Random::new(!seed));
-    let (mut keys, mut state) = (Session::new(seed), State::fresh(0, 0));
-    let all = program.has(Library::Keys);
-    (0..count).map(move |_| {
-        let command = match random.below(if all { 20 } else { 2 }) {
-            0 => format!("line {}", hex(&inputs.line())),
-            1 => format!("grade {} {}", inputs.row(), hex(&inputs.value())),
-            2 => "dump".into(),
-            3 if random.once_in(20) => {
-                let (length, seed) = (keys.log_length() % 1000, random.next());
-                state = State::fresh(length, seed);
-                return format!("new {length} {seed}").into_bytes();
-            }
-            _ => {
-                let (bench, byte) = keys.call(&state.desk);
-                state.key(&Reference, bench, byte);
-                return format!("k {bench} {byte}").into_bytes();
-            }
-        };
-        match random.below(12) {
-            0 => random
-                .pick(&[
-                    "",
-                    "line",
-                    "grade",
-                    "grade 6",
-                    "grade 6 0",
-                    "line 3",
-                    "LINE -",
-                    "key 0 10",
-                ])
-                .into(),
-            1 => format!("{command} {}", random.below(9)),
-            2 => command.replacen(random.pick(&["2", "-", " ", "e"]), "x", 1),
-            _ => command,
-        }
-        .into_bytes()
-    })
 }

@@ -7,21 +7,26 @@ use std::fmt::Write;
 /// "with a log of 4,096 bytes"
 pub const LOG: usize = 4096;
 /// "Any other first byte goes in as bench 255"
-const OTHER_BENCH: u64 = 255;
+pub const OTHER_BENCH: u64 = 255;
 /// The printed levels in turn.
 const LETTERS: [char; 5] = ['-', 'G', 'C', 'B', 'A'];
 
 /// What the program prints for its standard input.
 pub fn program(input: &[u8]) -> String {
     let (mut desk, mut log, mut used) = (FRESH, [0; LOG], 0);
-    for pair in input.chunks_exact(2) {
-        let bench = match pair[0] {
-            digit @ b'0'..=b'9' => u64::from(digit - b'0'),
-            _ => OTHER_BENCH,
-        };
-        key(&mut desk, &mut log, &mut used, bench, pair[1]);
+    for (bench, byte) in keys(input) {
+        key(&mut desk, &mut log, &mut used, bench, byte);
     }
     print_report(&desk)
+}
+
+/// The key calls of an input, bench and byte: "pairs from standard input, a bench digit and a key
+/// byte"; "a last odd byte" is passed over.
+pub fn keys(input: &[u8]) -> impl Iterator<Item = (u64, u8)> + '_ {
+    input.chunks_exact(2).map(|pair| match pair[0] {
+        digit @ b'0'..=b'9' => (u64::from(digit - b'0'), pair[1]),
+        _ => (OTHER_BENCH, pair[1]),
+    })
 }
 
 /// The report and the filled items of a sound desk.

@@ -17,7 +17,7 @@ pub struct Rows {
 }
 
 // A row of that level and reason.
-pub fn make_row(level: u8, reason: u8) -> Row
+pub(crate) fn make_row(level: u8, reason: u8) -> Row
     ensures { λ r. ⌜ r ≡ rowOf level reason ⌝ }
 {
     Row { level, reason }

@@ -78,7 +78,7 @@ fn kind_at(k: usize) -> Kind
 }
 
 // Whether a text is one of the six categories.
-pub fn is_category(t: &[u8]) -> bool
+pub(crate) fn is_category(t: &[u8]) -> bool
     ensures { λ r. ⌜ r ≡ isCategory (now (t .entry)) ⌝ }
 {
     if text::same(t, b"FI") {

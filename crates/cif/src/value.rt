@@ -31,7 +31,7 @@ fn is_reserved(s: &[u8]) -> bool
 }
 
 // Whether s is a bare value.
-pub fn is_bare(s: &[u8]) -> bool
+pub(crate) fn is_bare(s: &[u8]) -> bool
     ensures { λ r. ⌜ r ≡ isBare (now (s .entry)) ⌝ }
 {
     if s.len() < 1 {

@@ -1,0 +1,307 @@
+//! Generated sequences of calls: keys of several benches, with questions between them.
+
+use crate::desk_sessions;
+use crate::desks::State;
+use crate::random::Random;
+use crate::session::{Session, OTHER_BENCHES};
+use crate::sheets::Sheets;
+use reference::desk::{record, BENCHES, EMPTY, ENTER, ERASE, LOG_LIMIT, RECORD_HEAD};
+use reference::encoded::{encode_call, length, CALL, KEY, REPORT, WHO};
+use reference::line::{classify, split, ACCEPTED, BYTES, LIMIT};
+use reference::names::ITEMS;
+use reference::program::{keys, LOG};
+use reference::sequence::Call;
+use std::collections::VecDeque;
+
+/// Item numbers that are none: neighbours, and what a cut-off number would turn into one.
+const OTHER_ITEMS: [u64; 9] =
+    [0, 11, 12, 255, 256 + 4, (1 << 16) + 4, (1 << 32) + 4, 1 << 63, u64::MAX];
+/// Kinds that no call has.
+const NO_KINDS: [u8; 6] = [3, 4, 127, 128, 254, 255];
+/// A sequence to be damaged has fewer calls than this.
+const DAMAGED: usize = 12;
+
+/// Encoded calls and the log that they are played on.
+pub struct Sequence {
+    pub calls: Vec<[u8; CALL]>,
+    pub log: Vec<u8>,
+    /// How much longer the room for the answers is than it must be.
+    pub beyond: usize,
+}
+
+/// One bench, or a number that is none, at its keys.
+struct Bench {
+    number: u64,
+    /// The keys that it presses next.
+    waiting: VecDeque<u8>,
+    /// What its line holds.
+    typed: Vec<u8>,
+}
+
+impl Bench {
+    /// A key, with so much room in the log.
+    fn press(&mut self, byte: u8, room: &mut usize) -> Call {
+        match byte {
+            ENTER => self.enter(room),
+            EMPTY => self.typed.clear(),
+            ERASE => drop(self.typed.pop()),
+            _ if BYTES.contains(&byte) && self.typed.len() < LIMIT => self.typed.push(byte),
+            _ => {}
+        }
+        Call::Key { bench: self.number, byte }
+    }
+
+    fn enter(&mut self, room: &mut usize) {
+        let record = RECORD_HEAD + split(&self.typed).map_or(0, |(_, value)| value.len());
+        if classify(&self.typed) == ACCEPTED && record <= *room {
+            *room -= record;
+            self.typed.clear();
+        }
+    }
+}
+
+pub struct Sequences {
+    random: Random,
+    session: Session,
+    sheets: Sheets,
+}
+
+impl Sequences {
+    pub fn new(seed: u64) -> Self {
+        let sheets = Sheets::new(seed.rotate_left(24));
+        Sequences { random: Random::new(!seed), session: Session::new(seed), sheets }
+    }
+
+    /// A sequence and its log, with anything in the places that a call's kind does not take.
+    pub fn sequence(&mut self) -> Sequence {
+        let count = match self.random.below(100) {
+            0 => 1500,
+            1..=9 => 400,
+            10..=19 => self.random.below(10),
+            _ => 60 + self.random.below(200),
+        };
+        let (any, length) = (!self.random.once_in(4), self.log_length());
+        let calls = self.calls(count, length).iter().map(|call| self.encoded(call, any)).collect();
+        let beyond = self.random.pick(&[0, 0, 0, 1, 25, 400]);
+        Sequence { calls, log: self.content(length), beyond }
+    }
+
+    /// How long the log is; most often a few records long, at times at the limit and beyond.
+    fn log_length(&mut self) -> usize {
+        match self.random.below(100) {
+            0 => LOG_LIMIT,
+            1 => LOG_LIMIT + 1 + self.random.pick(&[0, 0, 1, 4464]),
+            2 => self.random.below(LOG_LIMIT),
+            3..=6 => 0,
+            7..=29 => self.random.below(60),
+            _ => 60 + self.random.below(400),
+        }
+    }
+
+    /// So many calls: some benches, and some numbers that are none, each with a run of its keys in
+    /// turn; the values are most often those of one sheet.
+    pub fn calls(&mut self, count: usize, log: usize) -> Vec<Call> {
+        let sheet = self.sheets.values();
+        let (mut benches, mut room) = (self.benches(), log);
+        let mut calls = vec![];
+        while calls.len() < count {
+            let at = self.random.below(benches.len());
+            match self.random.below(32) {
+                0..=3 => calls.push(Call::Report),
+                4..=8 => calls.push(Call::Who { item: self.item() }),
+                9 => calls.push(Call::Key { bench: self.number(), byte: self.session.any_byte() }),
+                10 => calls.push(benches[at].press(self.session.any_byte(), &mut room)),
+                _ => {
+                    for _ in 0..self.random.pick(&[1, 1, 2, 3, 8, 40]) {
+                        let byte = self.key(&mut benches[at], &sheet);
+                        calls.push(benches[at].press(byte, &mut room));
+                    }
+                }
+            }
+        }
+        calls.truncate(count);
+        calls
+    }
+
+    /// One to four benches, and up to two numbers that are none.
+    fn benches(&mut self) -> Vec<Bench> {
+        let first = self.random.below(BENCHES);
+        let mut numbers: Vec<u64> = (0..self.random.pick(&[1, 2, 2, 3, BENCHES]))
+            .map(|place| ((first + place) % BENCHES) as u64)
+            .collect();
+        for _ in 0..self.random.pick(&[0, 0, 0, 0, 1, 2]) {
+            numbers.push(self.number());
+        }
+        let bench = |number| Bench { number, waiting: VecDeque::new(), typed: vec![] };
+        numbers.into_iter().map(bench).collect()
+    }
+
+    /// Any bench number.
+    fn number(&mut self) -> u64 {
+        match self.random.below(3) {
+            0 => self.random.below(BENCHES) as u64,
+            1 => self.random.pick(&OTHER_BENCHES),
+            _ => self.random.next() >> self.random.below(64),
+        }
+    }
+
+    /// An item number, now and then one that is none.
+    fn item(&mut self) -> u64 {
+        match self.random.below(8) {
+            0 => self.random.pick(&OTHER_ITEMS),
+            1 => self.random.next() >> self.random.below(64),
+            _ => 1 + self.random.below(ITEMS.len()) as u64,
+        }
+    }
+
+    /// The next key of one bench.
+    fn key(&mut self, bench: &mut Bench, sheet: &[Vec<u8>; ITEMS.len()]) -> u8 {
+        if bench.waiting.is_empty() {
+            bench.waiting = self.next_line(bench.typed.len(), sheet).into();
+        }
+        bench.waiting.pop_front().unwrap_or(ENTER)
+    }
+
+    fn next_line(&mut self, left: usize, sheet: &[Vec<u8>; ITEMS.len()]) -> Vec<u8> {
+        if self.random.once_in(4) {
+            return self.session.next_line(left);
+        }
+        let place = self.random.pick(&[0, 0, 1, 1, 2, 2, 3, 4, 5, 6, 7, 8, 9]);
+        let cleared: &[u8] = if left > 0 { &[EMPTY] } else { &[] };
+        [cleared, ITEMS[place].0.as_bytes(), b" ", &sheet[place], &[ENTER]].concat()
+    }
+
+    /// The bytes of a log before anything is written to it.
+    fn content(&mut self, length: usize) -> Vec<u8> {
+        match self.random.below(5) {
+            0 => vec![0; length],
+            1 => vec![255; length],
+            2 => (0..length).map(|_| self.random.byte()).collect(),
+            3 => {
+                let (bench, item) =
+                    (self.random.below(BENCHES), 1 + self.random.below(ITEMS.len()));
+                let left_over = record(bench as u8, item as u8, b"0.16");
+                left_over.into_iter().cycle().take(length).collect()
+            }
+            _ => State::fresh(length, self.random.next()).log,
+        }
+    }
+
+    /// A call as bytes.
+    fn encoded(&mut self, call: &Call, any: bool) -> [u8; CALL] {
+        let mut bytes = encode_call(call);
+        if any && bytes[0] == REPORT {
+            bytes[1..9].copy_from_slice(&self.random.next().to_le_bytes());
+        }
+        if any && bytes[0] != KEY {
+            bytes[9] = self.random.byte();
+        }
+        bytes
+    }
+
+    /// Encodings about each refusal of one sequence: bytes, and the room for the answers.
+    pub fn damaged(&mut self) -> Vec<(Vec<u8>, usize)> {
+        let count = self.random.below(DAMAGED);
+        let calls: Vec<u8> =
+            self.calls(count, 0).iter().flat_map(|call| self.encoded(call, true)).collect();
+        let enough = length(count);
+        let rooms = [0, 1, enough / 2, enough - 1, enough, enough + 1, enough + 25, 2 * enough];
+        let mut all: Vec<(Vec<u8>, usize)> = rooms.map(|room| (calls.clone(), room)).into();
+        for extra in 1..CALL {
+            let longer = [&calls[..], &vec![self.random.byte() % 3; extra]].concat();
+            all.push((longer, self.random.pick(&rooms)));
+            let shorter = &calls[..calls.len().saturating_sub(extra)];
+            all.push((shorter.into(), self.random.pick(&rooms)));
+        }
+        for kind in NO_KINDS {
+            let mut strange = [&calls[..], &[WHO; CALL]].concat();
+            let at = self.random.below(count + 1);
+            strange[CALL * at] = kind;
+            let room = self.random.pick(&[0, enough, enough + 24, enough + 25]);
+            let cut = strange.len() - self.random.below(CALL);
+            all.push((strange[..cut].into(), room));
+            all.push((strange, room));
+        }
+        all
+    }
+
+    /// What the program `desk` is given: a byte for the bench and one for the key, and now and then
+    /// an odd one more.
+    pub fn desk_input(&mut self) -> Vec<u8> {
+        let count = self.random.pick(&[0, 1, 30, 100, 100, 300, 300, 1000, 40_000]);
+        let mut input = vec![];
+        for call in self.calls(count, LOG) {
+            if let Call::Key { bench, byte } = call {
+                let digit = u8::try_from(bench).ok().filter(|&bench| bench < 10);
+                input.extend([digit.map_or(self.random.byte(), |digit| b'0' + digit), byte]);
+            }
+        }
+        if self.random.once_in(4) {
+            input.push(self.random.byte());
+        }
+        input
+    }
+}
+
+/// The sessions of the program `desk`, with questions after each Enter and at the end.
+pub fn desk_sessions() -> impl Iterator<Item = Sequence> {
+    desk_sessions::scripts().into_iter().map(|(_, input)| {
+        let mut calls = vec![];
+        for (bench, byte) in keys(&input) {
+            calls.push(Call::Key { bench, byte });
+            if byte == ENTER {
+                calls.extend([Call::Report, Call::Who { item: calls.len() as u64 % 12 }]);
+            }
+        }
+        calls.extend((0..12).map(|item| Call::Who { item }));
+        calls.push(Call::Report);
+        let calls = calls.iter().map(encode_call).collect();
+        Sequence { calls, log: vec![0; LOG], beyond: 0 }
+    })
+}
+
+/// Two entries from benches 0 and 3, with questions, in logs of each length about their records and
+/// about the limit.
+pub fn log_lengths() -> impl Iterator<Item = Sequence> {
+    let questions = [Call::Report, Call::Who { item: 4 }, Call::Who { item: 7 }];
+    let entries = [(0, "_refine_ls_R_factor_gt 0.16\n"), (3, "_refine_ls_wR_factor_obs 0.2\n")];
+    let calls: Vec<[u8; CALL]> = entries
+        .into_iter()
+        .flat_map(|(bench, text)| text.bytes().map(move |byte| Call::Key { bench, byte }))
+        .flat_map(|key| [key].into_iter().chain(questions))
+        .map(|call| encode_call(&call))
+        .collect();
+    let long = [LOG, LOG_LIMIT - 1, LOG_LIMIT, LOG_LIMIT + 1, LOG_LIMIT + 10, 2 * LOG_LIMIT];
+    (0..=30).chain(long).map(move |length| {
+        let log = State::fresh(length, length as u64).log;
+        Sequence { calls: calls.clone(), log, beyond: 0 }
+    })
+}
+
+/// Two lines of one item, and after them every three calls from a list; in turn with room for both
+/// records, for one and for none.
+pub fn few_calls() -> impl Iterator<Item = Sequence> {
+    let last = [
+        Call::Key { bench: 0, byte: ENTER },
+        Call::Key { bench: 1, byte: ENTER },
+        Call::Key { bench: 0, byte: b'9' },
+        Call::Key { bench: 1, byte: ERASE },
+        Call::Key { bench: 1, byte: EMPTY },
+        Call::Key { bench: 0, byte: 0 },
+        Call::Key { bench: 4, byte: ENTER },
+        Call::Key { bench: 4, byte: b'x' },
+        Call::Report,
+        Call::Who { item: 4 },
+    ];
+    let typed = [(0, "_refine_ls_R_factor_gt 0.16"), (1, "_refine_ls_R_factor_gt 0.3")];
+    let typed: Vec<Call> = typed
+        .into_iter()
+        .flat_map(|(bench, text)| text.bytes().map(move |byte| Call::Key { bench, byte }))
+        .collect();
+    (0..last.len().pow(3)).map(move |number| {
+        let three = [number, number / last.len(), number / last.len().pow(2)];
+        let calls = typed.iter().copied().chain(three.map(|at| last[at % last.len()]));
+        let calls = calls.map(|call| encode_call(&call)).collect();
+        Sequence { calls, log: vec![0xee; [40, 12, 9][number % 3]], beyond: number % 2 }
+    })
+}

@@ -1,0 +1,55 @@
+//! Generated trace commands.
+
+use crate::compare::hex;
+use crate::desks::State;
+use crate::inputs::Inputs;
+use crate::program::{Library, Program, Reference};
+use crate::random::Random;
+use crate::session::Session;
+
+/// Generated commands, some of them malformed: those that the program answers.
+pub fn commands(program: &dyn Program, seed: u64, count: u64) -> impl Iterator<Item = Vec<u8>> {
+    let (mut inputs, mut random) = (Inputs::new(seed), Random::new(!seed));
+    let (mut keys, mut state) = (Session::new(seed), State::fresh(0, 0));
+    let questions = program.has(Library::Play);
+    let all = questions || program.has(Library::Keys);
+    (0..count).map(move |_| {
+        let command = match random.below(if all { 20 } else { 2 }) {
+            0 => format!("line {}", hex(&inputs.line())),
+            1 => format!("grade {} {}", inputs.row(), hex(&inputs.value())),
+            2 => "dump".into(),
+            3 if questions => format!("report {} {}", random.below(2), random.next()),
+            4 if questions && random.once_in(8) => format!("who 0 {}", random.next()),
+            4 if questions => format!("who {} {}", random.below(2), random.below(12)),
+            5 if random.once_in(20) => {
+                let (length, seed) = (keys.log_length() % 1000, random.next());
+                state = State::fresh(length, seed);
+                return format!("new {length} {seed}").into_bytes();
+            }
+            _ => {
+                let (bench, byte) = keys.call(&state.desk);
+                state.key(&Reference, bench, byte);
+                return format!("k {bench} {byte}").into_bytes();
+            }
+        };
+        match random.below(12) {
+            0 => random
+                .pick(&[
+                    "",
+                    "line",
+                    "grade",
+                    "grade 6",
+                    "grade 6 0",
+                    "line 3",
+                    "LINE -",
+                    "key 0 10",
+                    "stick",
+                ])
+                .into(),
+            1 => format!("{command} {}", random.below(9)),
+            2 => command.replacen(random.pick(&["2", "-", " ", "e"]), "x", 1),
+            _ => command,
+        }
+        .into_bytes()
+    })
+}
