@@ -3,6 +3,14 @@ cd "$(dirname "${BASH_SOURCE[0]}")/.." || exit 2
 PATH=$PATH:/opt/rattle/bin
 export CARGO_TARGET_DIR=$PWD/build/cargo
 
+# The C compiler is installed if it is missing; the toolchain and cargo have to be there.
+ensure_programs() {
+    command -v rt >/dev/null || { echo "the Rattle toolchain is not under /opt/rattle" >&2; return 1; }
+    command -v cargo >/dev/null || { echo "cargo is missing (README, \"Two commands\")" >&2; return 1; }
+    command -v gcc >/dev/null || { apt-get update && apt-get install -y gcc libc6-dev; } >&2
+}
+ensure_programs || exit 2
+
 # The proved libraries that C and Rust link.
 archives=(wall probe probe_rows probe_keys play)
 export REQUIRE_LIBS="${archives[*]} desk"
