@@ -84,7 +84,7 @@ fn play_one(d: Desk, used: usize, log: &mut [u8], kind: u8, number: u64, byte: u
 }
 
 // The call in the first ten bytes of s.
-pub fn play_call(d: Desk, used: usize, log: &mut [u8], s: &[u8]) -> Stepped
+pub(crate) fn play_call(d: Desk, used: usize, log: &mut [u8], s: &[u8]) -> Stepped
     requires { ⌜ callLength ≤ length (now s) ⌝ }
     ensures { λ r. ⌜ one r (now (log .exit)) ≡ oneOf (callIn (now (s .entry))) (stateOf d used (now (log .entry))) ⌝ }
 {

@@ -80,7 +80,7 @@ fn put_items(out: &mut [u8], at: usize, s: Sheet)
 }
 
 // A whole desk and its used number, from a place on.
-pub fn put_desk(out: &mut [u8], at: usize, d: Desk, used: usize)
+pub(crate) fn put_desk(out: &mut [u8], at: usize, d: Desk, used: usize)
     requires { ⌜ at + deskLength ≤ length (now out) ⌝ }
     ensures { λ _. ⌜ (now (out .exit) ≡ copied (now (out .entry)) at (deskBytes d used)) × (length (deskBytes d used) ≡ deskLength) ⌝ }
 {

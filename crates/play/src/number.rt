@@ -13,7 +13,7 @@ fn wide(b: u8) -> u64
 }
 
 // The number in the first eight bytes of s.
-pub fn read_number(s: &[u8]) -> u64
+pub(crate) fn read_number(s: &[u8]) -> u64
     requires { ⌜ numberLength ≤ length (now s) ⌝ }
     ensures { λ r. ⌜ r ≡ numberOf (take numberLength (now (s .entry))) ⌝ }
 {
@@ -28,7 +28,7 @@ pub fn read_number(s: &[u8]) -> u64
 }
 
 // The eight bytes of a number.
-pub fn number_bytes(n: u64) -> [u8; NUMBER_BYTES]
+pub(crate) fn number_bytes(n: u64) -> [u8; NUMBER_BYTES]
     ensures { λ r. ⌜ r ≡ numberBytes n ⌝ }
 {
     let n1 = n / 256;

@@ -13,7 +13,7 @@ use state::answer::answer_number;
 pub const REPLY_BYTES: usize = 1 + 2 * ROW_COUNT;
 
 // The answer of a key call.
-pub fn key_reply(a: Answer) -> [u8; REPLY_BYTES]
+pub(crate) fn key_reply(a: Answer) -> [u8; REPLY_BYTES]
     ensures { λ r. ⌜ r ≡ replyBytes (keyed a) ⌝ }
 {
     let mut bytes = [0u8; REPLY_BYTES];
@@ -22,7 +22,7 @@ pub fn key_reply(a: Answer) -> [u8; REPLY_BYTES]
 }
 
 // The answer of Report: its rows, each as level and reason.
-pub fn report_reply(p: Reported) -> [u8; REPLY_BYTES]
+pub(crate) fn report_reply(p: Reported) -> [u8; REPLY_BYTES]
     ensures { λ r. ⌜ r ≡ replyBytes (reported (p .answer) (p .rows)) ⌝ }
 {
     let answer = p.answer;
@@ -40,7 +40,7 @@ pub fn report_reply(p: Reported) -> [u8; REPLY_BYTES]
 }
 
 // The answer of Who: the bench and the entry number.
-pub fn who_reply(t: Told) -> [u8; REPLY_BYTES]
+pub(crate) fn who_reply(t: Told) -> [u8; REPLY_BYTES]
     ensures { λ r. ⌜ r ≡ replyBytes (told t) ⌝ }
 {
     let answer = t.answer;
