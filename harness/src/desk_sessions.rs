@@ -24,6 +24,11 @@ fn typed(first: u8, text: impl AsRef<[u8]>) -> Vec<u8> {
     text.as_ref().iter().flat_map(|&byte| [first, byte]).collect()
 }
 
+/// Texts one after the other, each after its first byte.
+fn in_turn(texts: &[(u8, &str)]) -> Vec<u8> {
+    texts.iter().flat_map(|(first, text)| typed(*first, text)).collect()
+}
+
 /// Several benches at once: one key of each in turn, as long as it has one.
 fn together(texts: &[(u8, &str)]) -> Vec<u8> {
     let longest = texts.iter().map(|(_, text)| text.len()).max().unwrap_or(0);
@@ -101,26 +106,24 @@ fn no_keys() -> Vec<u8> {
 
 /// Enter on lines without form, with another name and with a value of another kind; corrected.
 fn refused_lines() -> Vec<u8> {
-    [
-        typed(b'0', "\n"),
-        typed(b'0', "_refine_ls_R_factor_gt\n 0.16 \n\x08\n"),
-        typed(b'1', "_refine_ls_R_factor 0.2\n\x18"),
-        typed(b'1', "_refine_ls_wR_factor_obs 0.2x\n\x08\n"),
-        typed(b'2', "_publ_requested_category fo\n\x08\x08FO\n"),
-        typed(b'3', "refine_ls_shift/su_max 0.3\n"),
-    ]
-    .concat()
+    in_turn(&[
+        (b'0', "\n"),
+        (b'0', "_refine_ls_R_factor_gt\n 0.16 \n\x08\n"),
+        (b'1', "_refine_ls_R_factor 0.2\n\x18"),
+        (b'1', "_refine_ls_wR_factor_obs 0.2x\n\x08\n"),
+        (b'2', "_publ_requested_category fo\n\x08\x08FO\n"),
+        (b'3', "refine_ls_shift/su_max 0.3\n"),
+    ])
 }
 
 /// Bench 0's refused line is corrected while bench 1 types.
 fn refused_enter_of_another() -> Vec<u8> {
-    [
-        typed(b'0', "_refine_ls_R_factor_gt 0.1x\n"),
-        typed(b'1', "_refine_ls_wR"),
-        typed(b'0', "\x086\n"),
-        typed(b'1', "_factor_obs 0.2\n"),
-    ]
-    .concat()
+    in_turn(&[
+        (b'0', "_refine_ls_R_factor_gt 0.1x\n"),
+        (b'1', "_refine_ls_wR"),
+        (b'0', "\x086\n"),
+        (b'1', "_factor_obs 0.2\n"),
+    ])
 }
 
 /// Records as long as an entry's can be fill the log to its last byte; one more finds no room.
@@ -169,13 +172,12 @@ fn overwritten() -> Vec<u8> {
 }
 
 fn erase_and_cancel() -> Vec<u8> {
-    [
-        typed(b'0', "\x08\x18\x08_refine_ls_R_faxx\x08\x08ctor_gt 0.2\x0816\n"),
-        typed(b'1', "_chemical_formula_sum 'C10\x18_refine_ls_wR_factor_obs 0.2\n\x08\n"),
-        typed(b'2', "_a\x08\x08\x08\x08_refine_ls_shift/su_max 0.1\n"),
-        typed(b'3', "_refine_ls_shift/esd_max 0.1\x18\n"),
-    ]
-    .concat()
+    in_turn(&[
+        (b'0', "\x08\x18\x08_refine_ls_R_faxx\x08\x08ctor_gt 0.2\x0816\n"),
+        (b'1', "_chemical_formula_sum 'C10\x18_refine_ls_wR_factor_obs 0.2\n\x08\n"),
+        (b'2', "_a\x08\x08\x08\x08_refine_ls_shift/su_max 0.1\n"),
+        (b'3', "_refine_ls_shift/esd_max 0.1\x18\n"),
+    ])
 }
 
 /// A line of the limit by spaces and one by its value; the key after it is passed over.
@@ -215,15 +217,11 @@ fn quoted() -> Vec<u8> {
 }
 
 fn reserved_words() -> Vec<u8> {
-    [
-        typed(b'0', "_chemical_formula_sum loop_\n\x18_chemical_formula_sum LOOP_x\n"),
-        typed(
-            b'1',
-            "_reflns_threshold_expression Data_x\n\x18_reflns_threshold_expression 'data_x'\n",
-        ),
-        typed(b'2', "_publ_requested_category _FO\n\x18_publ_requested_category [FO\n\x18"),
-    ]
-    .concat()
+    in_turn(&[
+        (b'0', "_chemical_formula_sum loop_\n\x18_chemical_formula_sum LOOP_x\n"),
+        (b'1', "_reflns_threshold_expression Data_x\n\x18_reflns_threshold_expression 'data_x'\n"),
+        (b'2', "_publ_requested_category _FO\n\x18_publ_requested_category [FO\n\x18"),
+    ])
 }
 
 /// Lines that lack only their Enter, beside one that has it.
