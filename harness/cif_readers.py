@@ -20,10 +20,22 @@ import sys
 class Typed:
     """What was typed: the block name, and name, kind and value of each item in order."""
 
-    def __init__(self, path):
+    def __init__(self, block, items):
+        self.block = block
+        self.items = items
+
+    @classmethod
+    def read(cls, path):
         first, *lines = path.read_text(encoding="ascii").split("\n")[:-1]
-        self.block = first.removeprefix("block\t")
-        self.items = [line.split("\t") for line in lines]
+        return cls(first.removeprefix("block\t"), [line.split("\t") for line in lines])
+
+    def changed(self):
+        """Lists with one thing wrong: the block, a value, an item too few, an item too many."""
+        yield Typed(self.block + "x", self.items)
+        *others, [name, kind, value] = self.items
+        yield Typed(self.block, [*others, [name, kind, value + "1"]])
+        yield Typed(self.block, others)
+        yield Typed(self.block, [*self.items, ["_refine_ls_shift/su_max", "number", "0.1"]])
 
 
 def is_quoted(value):
@@ -167,9 +179,17 @@ def check(reader, what, files):
     return bool(files)
 
 
+def finds_changes(reader, path, typed):
+    """Prints one line; whether the comparison can fail."""
+    found = [isinstance(reader.fault(path, changed), str) for changed in typed.changed()]
+    print(f"{'ok' if all(found) else 'FAIL'} {reader.name}, {len(found)} changed lists are found different")
+    return all(found)
+
+
 def main(folder):
     paths = sorted(pathlib.Path(folder).glob("*.cif"))
-    files = [(path, Typed(path.with_suffix(".typed"))) for path in paths]
+    files = [(path, Typed.read(path.with_suffix(".typed"))) for path in paths]
+    first = next(file for file in files if file[0].name == "text-1.cif")
     results = []
     for kind in (Gemmi, CodTools, PyCifRw):
         try:
@@ -179,6 +199,7 @@ def main(folder):
             continue
         if hasattr(reader, "read_all"):
             reader.read_all(paths)
+        results.append(finds_changes(reader, *first))
         for what, prefix in ("single texts", "text-"), ("generated sheets", "sheet-"):
             results.append(check(reader, what, [file for file in files if file[0].name.startswith(prefix)]))
     print(f"{results.count(True)} passed, {results.count(False)} failed")

@@ -12,8 +12,10 @@ ensure_programs() {
 ensure_programs || exit 2
 
 # The proved libraries that C and Rust link.
-archives=(wall probe probe_rows probe_keys play)
-export REQUIRE_LIBS="${archives[*]} desk"
+archives=(wall probe probe_rows probe_keys play probe_file)
+# The proved programs, in target/bin.
+programs=(desk sheet_cif)
+export REQUIRE_LIBS="${archives[*]} ${programs[*]}"
 
 # stale ARCHIVE: it is missing, or crates.txt or some file under crates/ is newer.
 stale() {
@@ -41,7 +43,7 @@ build_client() {
         "${PROVED_LIBS:-target/staticlib}/libwall.a" -o build/wall_screen
 }
 
-# The program desk, proved, in target/bin.
-build_desk() {
-    if stale target/bin/desk; then rt check desk || return 1; fi
+# build_program NAME: a proved program, in target/bin.
+build_program() {
+    if stale "target/bin/$1"; then rt check "$1" || return 1; fi
 }

@@ -1,11 +1,11 @@
-//! Sessions of the program `desk` by readable scripts, and what it must print for each.
+//! Sessions of the programs `desk` and `sheet_cif` by readable scripts, and what each must print.
 
 use crate::program::Library;
 use crate::tally::Tally;
 use reference::desk::{key, report, FRESH, LOG_FULL, NOT_SOUND, RECORD_HEAD};
 use reference::line::LIMIT;
 use reference::names::ITEMS;
-use reference::program::{keys, program, LOG};
+use reference::program::{cif_program, keys, program, LOG};
 use std::fs;
 use std::path::Path;
 
@@ -302,8 +302,12 @@ fn not_judgeable() -> Vec<u8> {
     sheet(&[(1, "'C10H20 Br'"), (2, "140.27"), (3, "FO"), (10, "'I > 2'")])
 }
 
-/// Writes each session's input and what the program must print, as NAME.in and NAME.out. Fails
-/// where the sessions leave out a refusal, or a level or reason of a row.
+/// The block name of the sessions' files.
+const BLOCK: &[u8] = b"camp-1";
+
+/// Writes each session's input, what `desk` must print, and the file that `sheet_cif` must write with
+/// the block name camp-1, as NAME.in, NAME.out and NAME.cif. Fails where the sessions leave out a
+/// refusal, or a level or reason of a row.
 pub fn write(folder: &Path) -> Result<(), String> {
     let scripts = scripts();
     let missing = left_out(&scripts);
@@ -311,7 +315,10 @@ pub fn write(folder: &Path) -> Result<(), String> {
         return Err(format!("the sessions leave out {}", missing.join(", ")));
     }
     for (name, input) in scripts {
-        for (end, content) in [("in", &input[..]), ("out", program(&input).as_bytes())] {
+        let file = cif_program(&input, BLOCK).expect("a good block name");
+        for (end, content) in
+            [("in", &input[..]), ("out", program(&input).as_bytes()), ("cif", &file)]
+        {
             let path = folder.join(format!("{name}.{end}"));
             fs::write(&path, content).map_err(|fault| format!("{}: {fault}", path.display()))?;
         }

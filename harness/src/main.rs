@@ -43,9 +43,10 @@ const USAGE: &str = "usage: harness MODE
   bench                           speed of both programs
   libraries                       which proved archives are there; fails as compare does
   layout                          sizes and offsets of the boundary's structs
-  desk-sessions FOLDER            write the sessions of the program desk, NAME.in, and what it must
-                                  print for each, NAME.out
+  desk-sessions FOLDER            write the sessions of the programs desk and sheet_cif, NAME.in, and
+                                  what they must print for each, NAME.out and NAME.cif
   desk-runs PROGRAM SEED COUNT    run the program desk on generated inputs
+  cif-runs PROGRAM SEED COUNT     run the program sheet_cif on generated inputs and block names
   desk-input SEED                 write one such input
   cif-files SEED COUNT FOLDER     write CIF files of typed sheets, NAME.cif, each beside the list of
                                   what was typed, NAME.typed
@@ -98,6 +99,10 @@ fn run(words: &[&str]) -> Outcome {
         ["desk-runs", program, seed, count] => {
             let (seed, count) = (number(3, seed)?, number(4, count)?);
             Ok(counted(desk_runs::run(Path::new(program), seed, count)))
+        }
+        ["cif-runs", program, seed, count] => {
+            let (seed, count) = (number(3, seed)?, number(4, count)?);
+            Ok(counted(desk_runs::run_cif(Path::new(program), seed, count)))
         }
         ["desk-input", seed] => {
             let input = Sequences::new(number(2, seed)?).desk_input();
