@@ -55,13 +55,14 @@ def begins(*words):
 class Gemmi:
     """Keeps quotes, so that values are compared as typed; also their text, null and number."""
 
+    title = "gemmi"
     refuses = staticmethod(begins("loop_", "stop_", "global_"))
 
     def __init__(self):
         import gemmi
 
         self.gemmi = gemmi
-        self.name = f"gemmi {gemmi.__version__}"
+        self.name = f"{self.title} {gemmi.__version__}"
 
     def fault(self, path, typed):
         cif = self.gemmi.cif
@@ -91,6 +92,7 @@ class Gemmi:
 class CodTools:
     """Says of each value whether it was quoted. One run for all files."""
 
+    title = "cod-tools"
     refuses = staticmethod(lambda value: False)
     TYPES = {"'": ["SQSTRING"], '"': ["DQSTRING"]}
 
@@ -98,7 +100,7 @@ class CodTools:
         if not shutil.which("cif_parse"):
             raise ImportError("no program cif_parse")
         version = subprocess.run(["cif_parse", "--version"], capture_output=True, text=True).stdout.split()
-        self.name = "cod-tools " + next((word for word in version if word[0].isdigit()), "")
+        self.name = f"{self.title} {version[-1] if version else ''}"
         self.read = {}
 
     def read_all(self, paths):
@@ -133,13 +135,14 @@ class CodTools:
 class PyCifRw:
     """Takes quotes off, so that texts are compared."""
 
+    title = "PyCIFRW"
     refuses = staticmethod(begins("stop_", "global_", "{"))
 
     def __init__(self):
         import CifFile
 
         self.read = CifFile.ReadCif
-        self.name = "PyCIFRW"
+        self.name = self.title
 
     def fault(self, path, typed):
         try:
@@ -195,7 +198,7 @@ def main(folder):
         try:
             reader = kind()
         except ImportError as fault:
-            print(f"skipped: {kind.__name__} ({fault})")
+            print(f"skipped: {kind.title} ({fault})")
             continue
         if hasattr(reader, "read_all"):
             reader.read_all(paths)

@@ -334,7 +334,6 @@ files() {
     echo "cif 7 63616d702d31 9999|0 67 $head$items"
     echo 'cif 0 63616d702d31 66|10 0 -'
     echo 'cif 0 63616d705f31 67|11 0 -'
-    echo 'who 0 4|0 0 2'
     echo 'new 65537 0|ok'
     echo 'k 0 66|2'
     echo 'cif 0 41 8|0 7 646174615f410a'
@@ -367,7 +366,7 @@ trace_keys() {
     fi
     if ! there probe_file; then
         trace_table "trace: files are not there" < <(printf '%s|none\n' 'cif 0 61 99' 'cif 0 61')
-    elif there play; then
+    elif there play || there probe_keys; then
         trace_table "trace: files" < <(files)
     fi
 }
@@ -378,7 +377,7 @@ trace_pauses() {
     mkfifo "$work/asked" "$work/answered"
     "$harness" trace <"$work/asked" >"$work/answered" &
     exec 8<>"$work/asked" 9<>"$work/answered"
-    for part in $'line -\n' $'new 30 0\nk' $' 2 65\n' $'k 2 10\ndum' $'p\n' $'who 0 4\n'; do
+    for part in $'line -\n' $'new 30 0\nk' $' 2 65\n' $'k 2 10\ndum' $'p\n' $'who 0 4\ncif' $' 0 61 9\n'; do
         printf %s "$part" >&8
         read -r -t 20 answer <&9 || answer='no answer'
         echo "$answer"
@@ -386,7 +385,7 @@ trace_pauses() {
     exec 8>&-
     wait $!
     exec 9<&-
-    printf '%s\n' 'line -' 'new 30 0' 'k 2 65' 'k 2 10' dump 'who 0 4' | "$harness" trace >"$work/want"
+    printf '%s\n' 'line -' 'new 30 0' 'k 2 65' 'k 2 10' dump 'who 0 4' 'cif 0 61 9' | "$harness" trace >"$work/want"
     same "trace: an answer at each pause" "$work/want" "$work/answers"
 }
 
