@@ -4,7 +4,7 @@ use mathlib.Core.Bool.{cond}
 use Rattle.state.specs.Sound.{soundDesk}
 use Rattle.state.specs.declared.desk.Desk.{Desk}
 use Rattle.alerts.specs.Sheet.{rowsOf, noRows}
-use Rattle.alerts.specs.declared.row.Rows.{Rows}
+use Rattle.rows.specs.declared.Rows.{Rows}
 use Rattle.calls.specs.declared.question.Asked.{Asked}
 use Rattle.calls.specs.declared.question.Asked.the-variants.{Answered, Unsound}
 use Rattle.calls.specs.declared.report.Reported.{Reported}

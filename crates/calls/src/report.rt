@@ -2,7 +2,7 @@
 ghost use mathlib.Core.Path.{_≡_};
 ghost use Rattle.calls.specs.Report.{reportedOf};
 use crate::question::Asked;
-use alerts::row::Rows;
+use rows::Rows;
 use state::desk::Desk;
 
 // The answer and the rows.

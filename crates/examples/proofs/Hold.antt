@@ -19,10 +19,11 @@ use Rattle.formula.specs.Class.{hasSymbol, hasMetal, classOf as formulaClass}
 use Rattle.formula.specs.Sum.{total, sumOf}
 use Rattle.levels.specs.Bounds.{bounds, judgedOf, gradeOf, gradedOf}
 use Rattle.state.specs.Lines.{appended, erased}
-use Rattle.alerts.specs.Rows.{missing}
-use Rattle.alerts.specs.FormulaRows.{row1, row2, row3, ratioLevel, row4, farApart, isWeighedCategory, row5}
-use Rattle.alerts.specs.GradedRows.{gradedRow, oldNameRow}
-use Rattle.alerts.specs.Threshold.{hasShape, multiplierOf, thresholdLevel, thresholdRow, row12}
+use Rattle.rows.specs.Rows.{missing}
+use Rattle.formula_rows.specs.FormulaRows.{row1, row2, row3}
+use Rattle.weight_rows.specs.WeightRows.{ratioLevel, row4, farApart, isWeighedCategory, row5}
+use Rattle.graded_rows.specs.GradedRows.{gradedRow, oldNameRow}
+use Rattle.threshold.specs.Threshold.{hasShape, multiplierOf, thresholdLevel, thresholdRow, row12}
 use Rattle.calls.specs.Key.{stored, keyStep}
 use Rattle.examples.specs.Table.{Example, sheetWith, answerOf, examples}
 

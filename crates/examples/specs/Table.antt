@@ -13,9 +13,9 @@ use Rattle.state.specs.Sheets.{filled, emptySheet}
 use Rattle.state.specs.Desks.{freshDesk, withLine}
 use Rattle.state.specs.declared.sheet.Item.{Item}
 use Rattle.state.specs.declared.sheet.Sheet.{Sheet}
-use Rattle.alerts.specs.Rows.{rowOf}
+use Rattle.rows.specs.Rows.{rowOf}
 use Rattle.alerts.specs.Sheet.{rowsOf}
-use Rattle.alerts.specs.declared.row.Row.{Row}
+use Rattle.rows.specs.declared.Row.{Row}
 use Rattle.calls.specs.Key.{After, keyStep}
 
 -- a value typed for an item

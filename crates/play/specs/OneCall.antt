@@ -4,7 +4,7 @@ use Prim.Native.Nat.{ℕ}
 use mathlib.Core.List.{List}
 use Rattle.state.specs.declared.desk.Desk.{Desk}
 use Rattle.alerts.specs.Sheet.{rowsOf, noRows}
-use Rattle.alerts.specs.declared.row.Rows.{Rows}
+use Rattle.rows.specs.declared.Rows.{Rows}
 use Rattle.sequence.specs.Calls.{Call, Reply, State, step}
 use Rattle.play.specs.ReplyBytes.{replyBytes}
 use Rattle.play.specs.declared.call.Stepped.{Stepped}

@@ -5,8 +5,8 @@ use mathlib.Core.List.{List, [], _∷_, _++_, flatMap}
 use lib.ListN.{replicate}
 use Rattle.state.specs.Desks.{answerNumber}
 use Rattle.alerts.specs.Sheet.{rowCount}
-use Rattle.alerts.specs.declared.row.Row.{Row}
-use Rattle.alerts.specs.declared.row.Rows.{Rows}
+use Rattle.rows.specs.declared.Row.{Row}
+use Rattle.rows.specs.declared.Rows.{Rows}
 use Rattle.calls.specs.Question.{askedNumber}
 use Rattle.sequence.specs.Calls.{Reply, keyed, reported, told}
 use Rattle.play.specs.Number.{numberLength, numberBytes}

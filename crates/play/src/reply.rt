@@ -3,10 +3,10 @@ ghost use mathlib.Core.Path.{_≡_};
 ghost use Rattle.sequence.specs.Calls.{keyed, reported, told};
 ghost use Rattle.play.specs.ReplyBytes.{replyBytes};
 use crate::number::number_bytes;
-use alerts::row::ROW_COUNT;
 use calls::question::asked_number;
 use calls::report::Reported;
 use calls::who::Told;
+use rows::ROW_COUNT;
 use state::answer::Answer;
 use state::answer::answer_number;
 

@@ -7,7 +7,7 @@ use Prim.Native.Nat.{ℕ}
 use Rattle.state.specs.Sound.{soundDesk}
 use Rattle.state.specs.declared.desk.Desk.{Desk}
 use Rattle.alerts.specs.Sheet.{rowsOf, noRows}
-use Rattle.alerts.specs.declared.row.Rows.{Rows}
+use Rattle.rows.specs.declared.Rows.{Rows}
 use Rattle.calls.specs.Report.{reportedAs, reportedOf}
 use Rattle.calls.specs.declared.question.Asked.the-variants.{Answered, Unsound}
 use Rattle.calls.specs.declared.report.Reported.{Reported}

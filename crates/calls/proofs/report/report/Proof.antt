@@ -2,7 +2,7 @@
 -- Assumes nothing.
 use mathlib.Core.Path.{sym, _∙_, ap}
 use borrow.Author.Tests.{not-true, not-false}
-use Rattle.alerts.specs.declared.row.Rows.{Rows}
+use Rattle.rows.specs.declared.Rows.{Rows}
 use Rattle.calls.specs.Report.{reportedAs, reportedOf}
 use Rattle.calls.specs.declared.question.Asked.the-variants.{Answered, Unsound}
 use borrow.Author.Needs.{needs}

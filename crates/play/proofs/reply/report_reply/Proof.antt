@@ -6,7 +6,7 @@ use mathlib.Core.List.{List, _∷_, flatMap}
 use Prim.Native.Nat.{ℕ, _*_, _≤_, _-_}
 use lib.ListN.{length, replicate, length-map}
 use Rattle.alerts.specs.Sheet.{rowCount}
-use Rattle.alerts.specs.Rows.{noAlert}
+use Rattle.rows.specs.Rows.{noAlert}
 use Rattle.play.specs.ReplyBytes.{replyLength, rowBytes}
 use Rattle.play.proofs.Copied.{copied-after}
 use Rattle.play.proofs.Puts.{Put, put-none, put-next, put-all}
