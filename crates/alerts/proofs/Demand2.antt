@@ -10,8 +10,8 @@ use Rattle.decimal.specs.declared.Reading.{Reading}
 use Rattle.decimal.specs.declared.Reading.the-variants.{Number}
 use Rattle.cif.specs.Value.{textOf}
 use Rattle.formula.specs.Sum.{sumOf}
-use Rattle.formula.specs.declared.elements.Weight.{Weight}
-use Rattle.formula.specs.declared.elements.Weight.the-variants.{Thousandths}
+use Rattle.elements.specs.declared.Weight.{Weight}
+use Rattle.elements.specs.declared.Weight.the-variants.{Thousandths}
 use Rattle.levels.specs.Level.{Highest}
 use Rattle.levels.specs.Bounds.{gradeOf, readGrade, placedGrade, gradedOf}
 use Rattle.levels.specs.declared.Place.{Place}

@@ -12,7 +12,7 @@ use Rattle.decimal.specs.declared.Reading.the-variants.{Number}
 use Rattle.cif.specs.Value.{textOf}
 use Rattle.formula.specs.Recognised.{allRecognised}
 use Rattle.formula.specs.Sum.{sumOf}
-use Rattle.formula.specs.declared.elements.Weight.the-variants.{Thousandths}
+use Rattle.elements.specs.declared.Weight.the-variants.{Thousandths}
 use Rattle.levels.specs.Bounds.{placeOf, judgedOf, above}
 use Rattle.levels.specs.declared.Place.the-variants.{At}
 use Rattle.rows.specs.Rows.{missing}

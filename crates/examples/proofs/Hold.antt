@@ -10,9 +10,9 @@ use Rattle.decimal.specs.Reading.{closes, isTail, sizeOf, pointedOf, unsignedOf
 use Rattle.cif.specs.Value.{mayBegin, isReserved, isBare, isQuotedBy, isQuoted, isValue, isUnassigned, textOf}
 use Rattle.cif.specs.Items.{items, findFrom, isCategory, passes}
 use Rattle.cif.specs.Line.{splitOf, classOf}
-use Rattle.formula.specs.Term.{kindAt, isCount, countOf, termOf}
-use Rattle.formula.specs.Terms.{cut, every, some}
-use Rattle.formula.specs.Elements.{sameSymbol, placeOf, symbols, elementOf, isElement, notMetals, isMetal, weights, weightIn, weightOf}
+use Rattle.terms.specs.Term.{kindAt, isCount, countOf, termOf}
+use Rattle.terms.specs.Terms.{cut, every, some}
+use Rattle.elements.specs.Elements.{sameSymbol, placeOf, symbols, elementOf, isElement, notMetals, isMetal, weights, weightIn, weightOf}
 use Rattle.formula.specs.Recognised.{allRecognised}
 use Rattle.formula.specs.Order.{rank, key, rising, inOrder}
 use Rattle.formula.specs.Class.{hasSymbol, hasMetal, classOf as formulaClass}

@@ -6,8 +6,8 @@ use mathlib.Core.List.{List, [], _∷_}
 use lib.ListN.{getD, set, take, replicate}
 use Rattle.text.specs.Quote.{bytes}
 use Rattle.formula.specs.Sum.{sumOf}
-use Rattle.formula.specs.declared.elements.Weight.{Weight}
-use Rattle.formula.specs.declared.elements.Weight.the-variants.{Thousandths, NoWeight}
+use Rattle.elements.specs.declared.Weight.{Weight}
+use Rattle.elements.specs.declared.Weight.the-variants.{Thousandths, NoWeight}
 use Rattle.state.specs.Lines.{lineOf}
 use Rattle.state.specs.Sheets.{filled, emptySheet}
 use Rattle.state.specs.Desks.{freshDesk, withLine}
