@@ -7,7 +7,7 @@ use Rattle.state.specs.Desks.{answerNumber}
 use Rattle.alerts.specs.Sheet.{rowCount}
 use Rattle.rows.specs.declared.Row.{Row}
 use Rattle.rows.specs.declared.Rows.{Rows}
-use Rattle.calls.specs.Question.{askedNumber}
+use Rattle.questions.specs.Question.{askedNumber}
 use Rattle.sequence.specs.Calls.{Reply, keyed, reported, told}
 use Rattle.play.specs.Number.{numberLength, numberBytes}
 

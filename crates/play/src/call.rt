@@ -51,7 +51,7 @@ fn play_key(d: Desk, used: usize, log: &mut [u8], bench: u64, byte: u8) -> Stepp
 fn play_report(d: Desk, used: usize) -> Stepped
     ensures { λ r. ⌜ ((log : List ℕ) → one r log ≡ oneOf (ask report) (stateOf d used log)) ⌝ }
 {
-    let p = calls::report::report(d);
+    let p = questions::report::report(d);
     let reply = report_reply(p);
     Stepped {
         desk: d,
@@ -63,7 +63,7 @@ fn play_report(d: Desk, used: usize) -> Stepped
 fn play_who(d: Desk, used: usize, item: u64) -> Stepped
     ensures { λ r. ⌜ ((log : List ℕ) → one r log ≡ oneOf (ask (who item)) (stateOf d used log)) ⌝ }
 {
-    let t = calls::who::who(d, item);
+    let t = questions::who::who(d, item);
     let reply = who_reply(t);
     Stepped {
         desk: d,

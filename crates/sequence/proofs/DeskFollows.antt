@@ -32,9 +32,9 @@ use Rattle.state.specs.declared.answer.Answer.{Answer}
 use Rattle.state.specs.declared.answer.Answer.the-variants as answer
 use Rattle.state.proofs.Everys.{every-each}
 use Rattle.calls.specs.Key.{After, refused, edited, entered, stored, enteredAs, keyStep, keyOf}
-use Rattle.calls.specs.Who.{nobody, toldOf, whoOf}
-use Rattle.calls.specs.declared.question.Asked.the-variants.{Answered, Unsound, NoItem}
-use Rattle.calls.specs.declared.who.Told.{Told}
+use Rattle.questions.specs.Who.{nobody, toldOf, whoOf}
+use Rattle.questions.specs.declared.question.Asked.the-variants.{Answered, Unsound, NoItem}
+use Rattle.questions.specs.declared.who.Told.{Told}
 use Rattle.sequence.specs.Calls.{report, who, Call, key, ask, keyed, reported, told, State, left, reportOf, step}
 use Rattle.sequence.specs.Work.{Entry, Work, typedBy, recordsOf, lastOf, itemsFrom, sheetOf, enterAnswer, tableAnswer, accepts, editedText, keyAnswer, keyWork, lastTold, whoLast, workStep}
 use Rattle.sequence.specs.Shaped.{Shaped}

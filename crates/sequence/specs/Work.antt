@@ -18,9 +18,9 @@ use Rattle.state.specs.declared.sheet.Item.{Item}
 use Rattle.state.specs.declared.sheet.Sheet.{Sheet}
 use Rattle.state.specs.declared.answer.Answer.{Answer}
 use Rattle.state.specs.declared.answer.Answer.the-variants.{Accepted, NoBench, Unsound, NoKey, LineFull, BadForm, UnknownName, WrongKind, NoRoom}
-use Rattle.calls.specs.Who.{nobody}
-use Rattle.calls.specs.declared.question.Asked.the-variants.{Answered, NoItem}
-use Rattle.calls.specs.declared.who.Told.{Told}
+use Rattle.questions.specs.Who.{nobody}
+use Rattle.questions.specs.declared.question.Asked.the-variants.{Answered, NoItem}
+use Rattle.questions.specs.declared.who.Told.{Told}
 use Rattle.sequence.specs.Calls.{Call, key, ask, report, who, Reply, keyed, reported, told}
 
 -- an accepted entry: its bench, the item that its name has, its value, and the whole line

@@ -10,7 +10,7 @@ use Rattle.state.specs.Sheets.{valueIn}
 use Rattle.state.specs.declared.sheet.Item.{Item}
 use Rattle.state.specs.declared.desk.Desk.{Desk}
 use Rattle.rows.specs.declared.Row.{Row}
-use Rattle.calls.specs.Report.{reportedOf}
+use Rattle.questions.specs.Report.{reportedOf}
 use Rattle.session.specs.declared.print.Printed.{Printed}
 use Rattle.session.specs.declared.print.Printed.the-variants.{Bytes, NoRoom}
 

@@ -169,7 +169,7 @@ fn put_items(p: Page, sheet: Sheet) -> Page
 fn report_page(d: Desk) -> Page
     ensures { λ r. ⌜ (written r ≡ printedOf d) × (r .len ≡ length (printedOf d)) × (r .len ≤ pageMost) ⌝ }
 {
-    let reported = calls::report::report(d);
+    let reported = questions::report::report(d);
     let rows = reported.rows;
     let sheet = d.sheet;
     let empty = crate::page::empty_page();

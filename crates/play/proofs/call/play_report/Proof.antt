@@ -5,7 +5,7 @@ use mathlib.Core.List.{List}
 use Prim.Native.Nat.{ℕ}
 use Rattle.state.specs.declared.desk.Desk.{Desk}
 use Rattle.alerts.specs.Sheet.{rowsOf, noRows}
-use Rattle.calls.specs.declared.report.Reported.{Reported}
+use Rattle.questions.specs.declared.report.Reported.{Reported}
 use Rattle.sequence.specs.Calls.{reported, reportOf}
 use Rattle.sequence.proofs.Desk.{report-is}
 use Rattle.play.specs.ReplyBytes.{replyBytes}

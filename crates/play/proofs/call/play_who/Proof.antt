@@ -4,8 +4,8 @@ use mathlib.Core.Path.{_≡_, _∙_, ap}
 use mathlib.Core.List.{List}
 use Prim.Native.Nat.{ℕ}
 use Rattle.state.specs.declared.desk.Desk.{Desk}
-use Rattle.calls.specs.Who.{whoOf}
-use Rattle.calls.specs.declared.who.Told.{Told}
+use Rattle.questions.specs.Who.{whoOf}
+use Rattle.questions.specs.declared.who.Told.{Told}
 use Rattle.sequence.specs.Calls.{told}
 use Rattle.play.specs.ReplyBytes.{replyBytes}
 use Rattle.play.specs.OneCall.{One, stateOf}

@@ -2,10 +2,10 @@
 -- Assumes nothing.
 use mathlib.Core.Path.{sym, _∙_}
 use borrow.Author.Tests.{le-leb, lt-leb, not-true, not-false}
-use Rattle.calls.specs.Who.{whoOf}
+use Rattle.questions.specs.Who.{whoOf}
 use borrow.Author.Needs.{needs}
-use Rattle.calls.proofs.who.who.Statement.{statement}
-use Rattle.calls.proofs.who.who.Tie as tie
+use Rattle.questions.proofs.who.who.Statement.{statement}
+use Rattle.questions.proofs.who.who.Tie as tie
 
 is-sound-requires : tie.Need-is-sound-requires
 is-sound-requires c κs = search needs

@@ -8,9 +8,9 @@ use Rattle.state.specs.Sheets.{itemAt}
 use Rattle.state.specs.Sound.{soundDesk}
 use Rattle.state.specs.declared.sheet.Item.{Item}
 use Rattle.state.specs.declared.desk.Desk.{Desk}
-use Rattle.calls.specs.declared.question.Asked.{Asked}
-use Rattle.calls.specs.declared.question.Asked.the-variants.{Answered, Unsound, NoItem}
-use Rattle.calls.specs.declared.who.Told.{Told}
+use Rattle.questions.specs.declared.question.Asked.{Asked}
+use Rattle.questions.specs.declared.question.Asked.the-variants.{Answered, Unsound, NoItem}
+use Rattle.questions.specs.declared.who.Told.{Told}
 
 -- "For an empty item, and with any refusal, bench is 255 and entry 0"
 abbrev pub nobody : Asked → Told

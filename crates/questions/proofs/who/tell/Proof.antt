@@ -2,10 +2,10 @@
 -- Assumes nothing.
 use mathlib.Core.Path.{_∙_}
 use borrow.Author.Tests.{eq-eqb, ne-eqb}
-use Rattle.calls.specs.Who.{toldOf}
+use Rattle.questions.specs.Who.{toldOf}
 use borrow.Author.Needs.{needs}
-use Rattle.calls.proofs.who.tell.Statement.{statement}
-use Rattle.calls.proofs.who.tell.Tie as tie
+use Rattle.questions.proofs.who.tell.Statement.{statement}
+use Rattle.questions.proofs.who.tell.Tie as tie
 
 tell-nobody-requires : tie.Need-tell-nobody-requires
 tell-nobody-requires c κs = search needs

@@ -1,6 +1,6 @@
 // Who typed an item.
 ghost use mathlib.Core.Path.{_≡_};
-ghost use Rattle.calls.specs.Who.{nobody, toldOf, whoOf};
+ghost use Rattle.questions.specs.Who.{nobody, toldOf, whoOf};
 use crate::question::Asked;
 use cif::items::ITEM_COUNT;
 use state::desk::Desk;

@@ -1,6 +1,6 @@
 // The answers of questions, and their numbers in document 01.
 ghost use mathlib.Core.Path.{_≡_};
-ghost use Rattle.calls.specs.Question.{askedNumber};
+ghost use Rattle.questions.specs.Question.{askedNumber};
 
 pub enum Asked {
     Answered,

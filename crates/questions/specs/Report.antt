@@ -5,9 +5,9 @@ use Rattle.state.specs.Sound.{soundDesk}
 use Rattle.state.specs.declared.desk.Desk.{Desk}
 use Rattle.alerts.specs.Sheet.{rowsOf, noRows}
 use Rattle.rows.specs.declared.Rows.{Rows}
-use Rattle.calls.specs.declared.question.Asked.{Asked}
-use Rattle.calls.specs.declared.question.Asked.the-variants.{Answered, Unsound}
-use Rattle.calls.specs.declared.report.Reported.{Reported}
+use Rattle.questions.specs.declared.question.Asked.{Asked}
+use Rattle.questions.specs.declared.question.Asked.the-variants.{Answered, Unsound}
+use Rattle.questions.specs.declared.report.Reported.{Reported}
 
 -- an answer and rows
 abbrev pub reportedAs : Asked → Rows → Reported

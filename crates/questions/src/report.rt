@@ -1,6 +1,6 @@
 // The report: the twelve rows of the sheet.
 ghost use mathlib.Core.Path.{_≡_};
-ghost use Rattle.calls.specs.Report.{reportedOf};
+ghost use Rattle.questions.specs.Report.{reportedOf};
 use crate::question::Asked;
 use rows::Rows;
 use state::desk::Desk;

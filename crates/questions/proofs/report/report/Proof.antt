@@ -3,11 +3,11 @@
 use mathlib.Core.Path.{sym, _∙_, ap}
 use borrow.Author.Tests.{not-true, not-false}
 use Rattle.rows.specs.declared.Rows.{Rows}
-use Rattle.calls.specs.Report.{reportedAs, reportedOf}
-use Rattle.calls.specs.declared.question.Asked.the-variants.{Answered, Unsound}
+use Rattle.questions.specs.Report.{reportedAs, reportedOf}
+use Rattle.questions.specs.declared.question.Asked.the-variants.{Answered, Unsound}
 use borrow.Author.Needs.{needs}
-use Rattle.calls.proofs.report.report.Statement.{statement}
-use Rattle.calls.proofs.report.report.Tie as tie
+use Rattle.questions.proofs.report.report.Statement.{statement}
+use Rattle.questions.proofs.report.report.Tie as tie
 
 is-sound-requires : tie.Need-is-sound-requires
 is-sound-requires c κs = search needs
