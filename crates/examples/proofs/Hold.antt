@@ -11,7 +11,7 @@ use Rattle.cif.specs.Value.{mayBegin, isReserved, isBare, isQuotedBy, isQuoted,
 use Rattle.cif.specs.Items.{items, findFrom, isCategory, passes}
 use Rattle.cif.specs.Line.{splitOf, classOf}
 use Rattle.terms.specs.Term.{kindAt, isCount, countOf, termOf}
-use Rattle.terms.specs.Terms.{cut, every, some}
+use Rattle.terms.specs.Terms.{cut, every as everyTerm, some}
 use Rattle.elements.specs.Elements.{sameSymbol, placeOf, symbols, elementOf, isElement, notMetals, isMetal, weights, weightIn, weightOf}
 use Rattle.formula.specs.Recognised.{allRecognised}
 use Rattle.formula.specs.Order.{rank, key, rising, inOrder}
@@ -24,9 +24,11 @@ use Rattle.formula_rows.specs.FormulaRows.{row1, row2, row3}
 use Rattle.weight_rows.specs.WeightRows.{ratioLevel, row4, farApart, isWeighedCategory, row5}
 use Rattle.graded_rows.specs.GradedRows.{gradedRow, oldNameRow}
 use Rattle.threshold.specs.Threshold.{hasShape, multiplierOf, thresholdLevel, thresholdRow, row12}
-use Rattle.calls.specs.Key.{stored, keyStep}
+use Rattle.state.specs.Sound.{every, soundLine, soundEmpty, soundFilled, soundItem, soundLines, soundSheet, soundDesk, soundLog}
+use Rattle.cif.specs.Fits.{fits}
+use Rattle.calls.specs.Key.{stored, keyStep, keyOf}
 use Rattle.examples.specs.Table.{Example, sheetWith, answerOf, examples}
 
 pub examples-hold : map (λ (e : Example). answerOf (e .asked)) examples ≡ map (λ (e : Example). e .answer) examples
-unfolding sheetWith answerOf examples between other runOf all hasAt lower sameBy beginsFolded valueFrom closes isTail sizeOf pointedOf unsignedOf readingOf isNumber mayBegin isReserved isBare isQuotedBy isQuoted isValue isUnassigned textOf items findFrom isCategory passes splitOf classOf kindAt isCount countOf termOf cut every some sameSymbol placeOf symbols elementOf isElement notMetals isMetal weights weightIn weightOf allRecognised rank key rising inOrder hasSymbol hasMetal formulaClass total sumOf bounds judgedOf gradeOf gradedOf appended erased missing row1 row2 row3 ratioLevel row4 farApart isWeighedCategory row5 gradedRow oldNameRow hasShape multiplierOf thresholdLevel thresholdRow row12 stored keyStep
+unfolding sheetWith answerOf examples between other runOf all hasAt lower sameBy beginsFolded valueFrom closes isTail sizeOf pointedOf unsignedOf readingOf isNumber mayBegin isReserved isBare isQuotedBy isQuoted isValue isUnassigned textOf items findFrom isCategory passes splitOf classOf kindAt isCount countOf termOf cut everyTerm some sameSymbol placeOf symbols elementOf isElement notMetals isMetal weights weightIn weightOf allRecognised rank key rising inOrder hasSymbol hasMetal formulaClass total sumOf bounds judgedOf gradeOf gradedOf appended erased missing row1 row2 row3 ratioLevel row4 farApart isWeighedCategory row5 gradedRow oldNameRow hasShape multiplierOf thresholdLevel thresholdRow row12 every soundLine soundEmpty soundFilled soundItem soundLines soundSheet soundDesk soundLog fits stored keyStep keyOf
 examples-hold = refl

@@ -1,8 +1,9 @@
--- The examples that document 01 marks with [P], as one table ("Measured examples"). `examples-hold`, in proofs/Hold.antt, is the one statement about it.
+-- The examples that document 01 marks with [P], as one table ("Measured examples"), and one of its "Errors a good programmer makes here".
+-- `examples-hold`, in proofs/Hold.antt, is the one statement about it.
 -- Assumes nothing.
 use Prim.Native.Nat.{ℕ, _-_}
 use Prim.Native.String.{String}
-use mathlib.Core.List.{List, [], _∷_}
+use mathlib.Core.List.{List, [], _∷_, _++_, map}
 use lib.ListN.{getD, set, take, replicate}
 use Rattle.text.specs.Quote.{bytes}
 use Rattle.formula.specs.Sum.{sumOf}
@@ -14,9 +15,11 @@ use Rattle.state.specs.Desks.{freshDesk, withLine}
 use Rattle.state.specs.declared.sheet.Item.{Item}
 use Rattle.state.specs.declared.sheet.Sheet.{Sheet}
 use Rattle.rows.specs.Rows.{rowOf}
-use Rattle.alerts.specs.Sheet.{rowsOf}
+use Rattle.alerts.specs.Sheet.{rowsOf, noRows}
 use Rattle.rows.specs.declared.Row.{Row}
 use Rattle.calls.specs.Key.{After, keyStep}
+use Rattle.sequence.specs.Calls.{Call, key, State, freshState}
+use Rattle.sequence.specs.Sequences.{stateAfter}
 
 -- a value typed for an item
 pub record Typed : Type 0 where
@@ -31,6 +34,8 @@ pub data Asked : Type 0 where
   row : ℕ → List Typed → Asked
   -- the log after a bench, on a fresh desk, has typed a line and pressed Enter
   logged : ℕ → String → Asked
+  -- the log after a sequence of calls, from a fresh desk
+  played : List Call → Asked
 
 -- a sheet that holds these values
 unfoldable pub sheetWith : List Typed → List Item
@@ -47,11 +52,15 @@ told r = r .level ∷ r .reason ∷ []
 abbrev pub used : After → List ℕ
 used a = take (a .used) (a .log)
 
+abbrev pub usedAfter : State → List ℕ
+usedAfter s = take (s .used) (s .log)
+
 -- what the desk's definitions answer: the sum, the level and reason of a row, the used bytes of a log of 64
 unfoldable pub answerOf : Asked → List ℕ
 answerOf (sum formula) = summed (sumOf (bytes formula))
 answerOf (row n values) = told (getD (rowsOf (record { items = sheetWith values; count = 1 }) .rows) (n - 1) (rowOf 9 9))
 answerOf (logged bench line) = used (keyStep (withLine freshDesk bench (lineOf (bytes line))) 0 (replicate 64 0) bench 10)
+answerOf (played cs) = usedAfter (stateAfter rowsOf noRows (replicate 64 0) cs)
 
 pub record Example : Type 0 where
   pub asked : Asked
@@ -66,6 +75,10 @@ example asked answer = record { asked = asked; answer = answer }
 -- 'C10 H20' with a weight, and a category or none
 abbrev weighed : String → List Typed
 weighed weight = typed 1 "'C10 H20'" ∷ typed 2 weight ∷ []
+
+-- the keys of a text
+abbrev keysOf : ℕ → String → List Call
+keysOf bench text = map (key bench) (bytes text)
 
 -- the table: a level is 0 none, 2 C, 3 B, 4 A, and each of these rows is judged, reason 0
 unfoldable pub examples : List Example
@@ -90,4 +103,8 @@ examples =
     example (row 2 (typed 1 "'H Br'" ∷ [])) (0 ∷ 0 ∷ []) ∷
     example (row 1 (typed 1 "C10H20" ∷ [])) (4 ∷ 0 ∷ []) ∷
     -- "_refine_ls_R_factor_gt 0.16 from bench 0 logs 0A 00 01 00 00 04 30 2E 31 36 (hexadecimal)"
-    example (logged 0 "_refine_ls_R_factor_gt 0.16") (10 ∷ 0 ∷ 1 ∷ 0 ∷ 0 ∷ 4 ∷ 48 ∷ 46 ∷ 49 ∷ 54 ∷ []) ∷ []
+    example (logged 0 "_refine_ls_R_factor_gt 0.16") (10 ∷ 0 ∷ 1 ∷ 0 ∷ 0 ∷ 4 ∷ 48 ∷ 46 ∷ 49 ∷ 54 ∷ []) ∷
+    -- "Taking the bench from the first key after a refused Enter of another": bench 0's Enter is refused, bench 1 is the first to type after it, and the
+    -- entry that bench 0 then corrects is bench 0's
+    example (played (keysOf 0 "_refine_ls_R_factor_gt" ++ (key 0 10 ∷ key 1 56 ∷ keysOf 0 " 0.16" ++ (key 0 10 ∷ []))))
+    (10 ∷ 0 ∷ 1 ∷ 0 ∷ 0 ∷ 4 ∷ 48 ∷ 46 ∷ 49 ∷ 54 ∷ []) ∷ []
