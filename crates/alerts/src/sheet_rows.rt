@@ -1,12 +1,12 @@
 // All twelve rows of a sheet.
 ghost use mathlib.Core.Path.{_≡_};
 ghost use Prim.Native.Nat.{_≤_, min};
-ghost use Rattle.cif.specs.Line.{lineMost};
+ghost use Rattle.items.specs.Typed.{lineMost};
 ghost use Rattle.state.specs.Sheets.{valueIn};
 ghost use Rattle.threshold.specs.Threshold.{row12};
 ghost use Rattle.alerts.specs.Sheet.{rowsOf, noRows};
 ghost use Rattle.alerts.specs.Groups.{FormulaGroupOf, GradedPairOf};
-use cif::line::LINE_MOST;
+use items::LINE_MOST;
 use formula_rows::class_row;
 use formula_rows::order_row;
 use formula_rows::recognised_row;

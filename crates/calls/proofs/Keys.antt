@@ -14,7 +14,7 @@ use lib.Seq.{drop-at, drop-drop}
 use Rattle.text.specs.Copy.{copied}
 use Rattle.text.proofs.Bools.{and-both}
 use Rattle.text.proofs.Copies.{copied-fits}
-use Rattle.cif.specs.Line.{lineMost}
+use Rattle.items.specs.Typed.{lineMost}
 use Rattle.log.specs.Record.{recordLength, recordOf, hasRoom, writtenOf, freeAfter}
 use Rattle.log.specs.declared.Written.the-variants.{Bytes, NoRoom}
 use Rattle.log.proofs.Records.{tail-back, tail-lent, wrote-none, wrote-bytes, room-left}

@@ -7,8 +7,8 @@ use Rattle.text.specs.Run.{between, other, runOf, all, hasAt}
 use Rattle.text.specs.Same.{lower, sameBy, beginsFolded}
 use Rattle.decimal.specs.Digits.{valueFrom}
 use Rattle.decimal.specs.Reading.{closes, isTail, sizeOf, pointedOf, unsignedOf, readingOf, isNumber}
-use Rattle.cif.specs.Value.{mayBegin, isReserved, isBare, isQuotedBy, isQuoted, isValue, isUnassigned, textOf}
-use Rattle.cif.specs.Items.{items, findFrom, isCategory, passes}
+use Rattle.values.specs.Value.{mayBegin, isReserved, isBare, isQuotedBy, isQuoted, isValue, isUnassigned, textOf}
+use Rattle.items.specs.Items.{items, findFrom, isCategory, passes}
 use Rattle.cif.specs.Line.{splitOf, classOf}
 use Rattle.terms.specs.Term.{kindAt, isCount, countOf, termOf}
 use Rattle.terms.specs.Terms.{cut, every as everyTerm, some}
@@ -25,7 +25,7 @@ use Rattle.weight_rows.specs.WeightRows.{ratioLevel, row4, farApart, isWeighedC
 use Rattle.graded_rows.specs.GradedRows.{gradedRow, oldNameRow}
 use Rattle.threshold.specs.Threshold.{hasShape, multiplierOf, thresholdLevel, thresholdRow, row12}
 use Rattle.state.specs.Sound.{every, soundLine, soundEmpty, soundFilled, soundItem, soundLines, soundSheet, soundDesk, soundLog}
-use Rattle.cif.specs.Fits.{fits}
+use Rattle.items.specs.Fits.{fits}
 use Rattle.calls.specs.Key.{stored, keyStep, keyOf}
 use Rattle.examples.specs.Table.{Example, sheetWith, answerOf, examples}
 

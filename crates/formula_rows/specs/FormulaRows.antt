@@ -5,7 +5,7 @@ use mathlib.Core.Bool.{Bool, cond, _||_}
 use mathlib.Core.List.{List}
 use Rattle.text.specs.Quote.{bytes}
 use Rattle.text.specs.Same.{exact, sameBy}
-use Rattle.cif.specs.Value.{textOf}
+use Rattle.values.specs.Value.{textOf}
 use Rattle.formula.specs.Recognised.{allRecognised}
 use Rattle.formula.specs.Order.{inOrder}
 use Rattle.formula.specs.Class.{classOf}

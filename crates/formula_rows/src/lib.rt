@@ -15,7 +15,7 @@ pub fn recognised_row(formula: &[u8]) -> Row
     if is_missing(formula) {
         return make_row(2, 1);
     }
-    if formula::recognised::all_recognised(cif::value::text_of(formula)) {
+    if formula::recognised::all_recognised(values::text_of(formula)) {
         make_row(0, 0)
     } else {
         make_row(4, 0)
@@ -29,7 +29,7 @@ pub fn order_row(formula: &[u8]) -> Row
     if is_missing(formula) {
         return make_row(2, 1);
     }
-    if formula::order::in_order(cif::value::text_of(formula)) {
+    if formula::order::in_order(values::text_of(formula)) {
         make_row(0, 0)
     } else {
         make_row(3, 0)
@@ -66,11 +66,11 @@ pub fn class_row(formula: &[u8], category: &[u8]) -> Row
     if is_missing(category) {
         return make_row(1, 1);
     }
-    let t = cif::value::text_of(formula);
+    let t = values::text_of(formula);
     if !formula::recognised::all_recognised(t) {
         return make_row(1, 2);
     }
-    if is_in_class(formula::class::class_of(t), cif::value::text_of(category)) {
+    if is_in_class(formula::class::class_of(t), values::text_of(category)) {
         make_row(0, 0)
     } else {
         make_row(1, 0)

@@ -3,7 +3,7 @@
 use Prim.Native.Nat.{ℕ}
 use mathlib.Core.Bool.{Bool, cond, _&&_}
 use lib.Dec.{leb, eqb}
-use Rattle.cif.specs.Items.{itemCount}
+use Rattle.items.specs.Items.{itemCount}
 use Rattle.state.specs.Sheets.{itemAt}
 use Rattle.state.specs.Sound.{soundDesk}
 use Rattle.state.specs.declared.sheet.Item.{Item}

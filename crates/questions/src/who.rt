@@ -2,7 +2,7 @@
 ghost use mathlib.Core.Path.{_≡_};
 ghost use Rattle.questions.specs.Who.{nobody, toldOf, whoOf};
 use crate::question::Asked;
-use cif::items::ITEM_COUNT;
+use items::ITEM_COUNT;
 use state::desk::Desk;
 use state::sheet::Item;
 

@@ -6,7 +6,7 @@ use mathlib.Core.Bool.{Bool, _||_}
 use mathlib.Core.List.{List}
 use lib.Dec.{eqb}
 use lib.ListN.{length}
-use Rattle.cif.specs.Value.{isUnassigned}
+use Rattle.values.specs.Value.{isUnassigned}
 use Rattle.rows.specs.declared.Row.{Row}
 
 -- a level and a reason: "Level 0 none, 1 General, 2 C, 3 B, 4 A. Reason 0 judged, 1 an item missing, 2 not judgeable."

@@ -30,5 +30,5 @@ pub fn is_missing(v: &[u8]) -> bool
     if v.len() == 0 {
         return true;
     }
-    cif::value::is_unassigned(v)
+    values::is_unassigned(v)
 }

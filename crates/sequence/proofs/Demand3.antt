@@ -7,7 +7,7 @@ use native.Mathlib.Omega.{arith}
 use lib.ListN.{length, take, drop, getD-replicate}
 use lib.Seq.{take-append-seam, drop-append-seam}
 use Rattle.text.specs.Run.{all, between}
-use Rattle.cif.specs.Items.{itemCount}
+use Rattle.items.specs.Items.{itemCount}
 use Rattle.state.specs.Lines.{lineOf}
 use Rattle.state.specs.Sheets.{emptyItem, noItem, itemAt}
 use Rattle.state.specs.Desks.{benchCount, noLine}

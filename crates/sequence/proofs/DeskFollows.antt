@@ -13,8 +13,9 @@ use lib.ListN.{length, getD, take, drop, set, length-append, length-drop, length
 use lib.Seq.{take-at, drop-append-add, drop-drop}
 use Rattle.text.specs.Run.{between}
 use Rattle.text.proofs.Bools.{and-both, not-holds}
-use Rattle.cif.specs.Items.{itemCount}
-use Rattle.cif.specs.Line.{lineMost, isTyped, classOf}
+use Rattle.items.specs.Items.{itemCount}
+use Rattle.items.specs.Typed.{lineMost, isTyped}
+use Rattle.cif.specs.Line.{classOf}
 use Rattle.cif.specs.declared.line.Class.{Class}
 use Rattle.cif.specs.declared.line.Class.the-variants as class
 use Rattle.cif.proofs.Entries.{entry-is}

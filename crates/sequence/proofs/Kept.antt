@@ -12,9 +12,10 @@ use lib.ListN.{length, getD, take, drop, set, length-set, length-append, length-
 use lib.Seq.{getD-set-same, getD-set-other}
 use Rattle.text.specs.Run.{all}
 use Rattle.text.proofs.Bools.{and-both}
-use Rattle.cif.specs.Items.{itemCount}
-use Rattle.cif.specs.Line.{lineMost, isTyped, classOf}
-use Rattle.cif.specs.Fits.{fits}
+use Rattle.items.specs.Items.{itemCount}
+use Rattle.items.specs.Typed.{lineMost, isTyped}
+use Rattle.cif.specs.Line.{classOf}
+use Rattle.items.specs.Fits.{fits}
 use Rattle.cif.specs.declared.line.Class.{Class}
 use Rattle.cif.specs.declared.line.Class.the-variants as class
 use Rattle.cif.proofs.Entries.{entry-is}

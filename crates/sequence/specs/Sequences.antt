@@ -18,7 +18,7 @@ use mathlib.Core.Bool.{true, cond, _&&_}
 use mathlib.Core.List.{List, [], _∷_, _++_, map}
 use lib.Dec.{leb, eqb}
 use lib.ListN.{length, take, drop, set}
-use Rattle.cif.specs.Items.{itemCount, IsName}
+use Rattle.items.specs.Items.{itemCount, IsName}
 use Rattle.cif.specs.Wording.{IsLine}
 use Rattle.state.specs.Lines.{lineOf}
 use Rattle.state.specs.Sheets.{itemAt}

@@ -6,8 +6,8 @@ use mathlib.Core.Bool.{Bool, true, cond, _&&_}
 use lib.ListN.{length, take, drop}
 use lib.Dec.{ltb, leb, eqb}
 use Rattle.text.specs.Run.{all, between}
-use Rattle.cif.specs.Line.{lineMost, isTyped}
-use Rattle.cif.specs.Fits.{fits}
+use Rattle.items.specs.Typed.{lineMost, isTyped}
+use Rattle.items.specs.Fits.{fits}
 use Rattle.state.specs.Lines.{typed}
 use Rattle.state.specs.Sheets.{valueIn}
 use Rattle.state.specs.Desks.{benchCount}

@@ -2,18 +2,18 @@
 ghost use mathlib.Core.Path.{_≡_};
 ghost use Prim.Native.Nat.{_<_, _≤_};
 ghost use lib.ListN.{length};
-ghost use Rattle.cif.specs.Line.{lineMost};
-ghost use Rattle.cif.specs.Items.{itemCount};
+ghost use Rattle.items.specs.Typed.{lineMost};
+ghost use Rattle.items.specs.Items.{itemCount};
 ghost use Rattle.state.specs.Sound.{soundLine, soundEmpty, soundFilled, soundItem, soundLines, soundSheet, soundDesk, soundLog};
 use crate::desk::BENCH_COUNT;
 use crate::desk::Desk;
 use crate::line::Line;
 use crate::sheet::Item;
 use crate::sheet::Sheet;
-use cif::items::ITEM_COUNT;
-use cif::line::FIRST_TYPED;
-use cif::line::LAST_TYPED;
-use cif::line::LINE_MOST;
+use items::ITEM_COUNT;
+use items::FIRST_TYPED;
+use items::LAST_TYPED;
+use items::LINE_MOST;
 
 // The longest log, and the least that a record takes of it.
 pub const LOG_MOST: usize = 65536;
@@ -66,7 +66,7 @@ fn is_sound_filled(count: usize, k: usize, i: Item) -> bool
         return false;
     }
     let value = i.value;
-    if cif::items::fits_item(k, &value[..n]) {
+    if items::fits_item(k, &value[..n]) {
         text::all_between(&value[n..], 0, 0)
     } else {
         false

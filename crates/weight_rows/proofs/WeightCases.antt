@@ -5,7 +5,7 @@ use mathlib.Core.Bool.{true, false}
 use mathlib.Core.List.{List}
 use Prim.Native.Nat.{ℕ}
 use Rattle.decimal.specs.Reading.{readingOf}
-use Rattle.cif.specs.Value.{textOf}
+use Rattle.values.specs.Value.{textOf}
 use Rattle.formula.specs.Recognised.{allRecognised}
 use Rattle.formula.specs.Sum.{sumOf}
 use Rattle.rows.specs.Rows.{rowOf, missing}

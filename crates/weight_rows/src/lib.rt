@@ -49,7 +49,7 @@ pub fn ratio_row(formula: &[u8], weight: &[u8]) -> Row
     if is_missing(weight) {
         return make_row(2, 1);
     }
-    let t = cif::value::text_of(formula);
+    let t = values::text_of(formula);
     if !formula::recognised::all_recognised(t) {
         return make_row(2, 2);
     }
@@ -100,7 +100,7 @@ pub fn difference_row(formula: &[u8], weight: &[u8], category: &[u8]) -> Row
     if is_missing(category) {
         return make_row(0, 1);
     }
-    let t = cif::value::text_of(formula);
+    let t = values::text_of(formula);
     if !formula::recognised::all_recognised(t) {
         return make_row(0, 2);
     }
@@ -113,7 +113,7 @@ pub fn difference_row(formula: &[u8], weight: &[u8], category: &[u8]) -> Row
     if !is_far_apart(given, s * 1000) {
         return make_row(0, 0);
     }
-    if is_weighed_category(cif::value::text_of(category)) {
+    if is_weighed_category(values::text_of(category)) {
         make_row(2, 0)
     } else {
         make_row(0, 0)

@@ -1,4 +1,4 @@
--- `formula::elements::find_element` meets its contract: the code's table of symbols is the definition's.
+-- `elements::find_element` meets its contract: the code's table of symbols is the definition's.
 -- Assumes nothing.
 use Rattle.elements.specs.Elements.{symbols, elementOf}
 use borrow.Author.Needs.{needs}

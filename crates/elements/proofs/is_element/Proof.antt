@@ -1,4 +1,4 @@
--- `formula::elements::is_element` meets its contract: each return is a case of `isSomewhere`.
+-- `elements::is_element` meets its contract: each return is a case of `isSomewhere`.
 -- Assumes nothing.
 use mathlib.Core.Path.{sym, ap, _∙_}
 use Rattle.elements.specs.Elements.{isSomewhere, isElement}

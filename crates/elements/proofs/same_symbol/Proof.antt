@@ -1,4 +1,4 @@
--- `formula::elements::same_symbol` meets its contract: each return is a case of `sameSymbol`.
+-- `elements::same_symbol` meets its contract: each return is a case of `sameSymbol`.
 -- Assumes nothing.
 use borrow.Author.Tests.{eq-eqb, ne-eqb}
 use Rattle.elements.specs.Elements.{sameSymbol}

@@ -1,4 +1,4 @@
--- `formula::elements::weight_of` meets its contract: the weight stands where the symbol does.
+-- `elements::weight_of` meets its contract: the weight stands where the symbol does.
 -- Assumes nothing.
 use native.Mathlib.Omega.{arith}
 use mathlib.Core.Path.{_≡_, sym, ap, _∙_}

@@ -1,4 +1,4 @@
--- `alerts::formula_rows::class_row` meets its contract: each return is a case of `row3`.
+-- `formula_rows::class_row` meets its contract: each return is a case of `row3`.
 -- Assumes nothing.
 use mathlib.Core.Path.{_≡_, sym, _∙_, ap}
 use mathlib.Core.Bool.{Bool, true, false}
@@ -6,7 +6,7 @@ use mathlib.Core.List.{List}
 use Prim.Native.Nat.{ℕ}
 use denote.Ref.{now}
 use borrow.Author.Tests.{not-true, not-false}
-use Rattle.cif.specs.Value.{textOf}
+use Rattle.values.specs.Value.{textOf}
 use Rattle.formula.specs.Recognised.{allRecognised}
 use Rattle.formula.specs.Class.{classOf}
 use Rattle.formula.specs.declared.class.Class.{Class}

@@ -1,4 +1,4 @@
--- `alerts::formula_rows::is_either` meets its contract: one text or the other.
+-- `formula_rows::is_either` meets its contract: one text or the other.
 -- Assumes nothing.
 use mathlib.Core.Path.{sym, _∙_}
 use borrow.Author.Needs.{needs}

@@ -1,4 +1,4 @@
--- `alerts::formula_rows::is_in_class` meets its contract: each arm is a case of `inClass`.
+-- `formula_rows::is_in_class` meets its contract: each arm is a case of `inClass`.
 -- Assumes nothing.
 use mathlib.Core.Path.{sym, _∙_, ap}
 use denote.Ref.{now}

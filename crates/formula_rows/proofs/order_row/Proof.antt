@@ -1,4 +1,4 @@
--- `alerts::formula_rows::order_row` meets its contract: each return has the tests of `row2` on its way.
+-- `formula_rows::order_row` meets its contract: each return has the tests of `row2` on its way.
 -- Assumes nothing.
 use mathlib.Core.Path.{sym, _∙_, ap}
 use Rattle.formula.specs.Order.{inOrder}

@@ -1,4 +1,4 @@
--- `alerts::formula_rows::recognised_row` meets its contract: each return has the tests of `row1` on its way.
+-- `formula_rows::recognised_row` meets its contract: each return has the tests of `row1` on its way.
 -- Assumes nothing.
 use mathlib.Core.Path.{sym, _∙_, ap}
 use Rattle.formula.specs.Recognised.{allRecognised}

@@ -1,4 +1,4 @@
--- `alerts::graded_rows::old_name_row` meets its contract: assigned or not.
+-- `graded_rows::old_name_row` meets its contract: assigned or not.
 -- Assumes nothing.
 use mathlib.Core.Path.{sym, _∙_}
 use Rattle.graded_rows.specs.GradedRows.{oldNameRow}

@@ -1,4 +1,4 @@
--- `alerts::graded_rows::row_of_grade` meets its contract: each arm is a case of `gradeRow`.
+-- `graded_rows::row_of_grade` meets its contract: each arm is a case of `gradeRow`.
 -- Assumes nothing.
 use mathlib.Core.Path.{sym, ap}
 use Rattle.graded_rows.specs.GradedRows.{gradeRow}

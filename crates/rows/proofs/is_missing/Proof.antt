@@ -1,4 +1,4 @@
--- `alerts::row::is_missing` meets its contract: empty or unassigned.
+-- `rows::is_missing` meets its contract: empty or unassigned.
 -- Assumes nothing.
 use borrow.Author.Tests.{eq-eqb, ne-eqb}
 use Rattle.rows.specs.Rows.{missing}

@@ -1,4 +1,4 @@
--- `alerts::threshold::ends_with` meets its contract: an empty text ends with nothing.
+-- `threshold::ends_with` meets its contract: an empty text ends with nothing.
 -- Assumes nothing.
 use native.Mathlib.Omega.{arith}
 use mathlib.Core.Path.{_≡_, sym}

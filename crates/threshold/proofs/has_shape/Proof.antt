@@ -1,4 +1,4 @@
--- `alerts::threshold::has_shape` meets its contract: each return has the tests of `hasShape` on its way.
+-- `threshold::has_shape` meets its contract: each return has the tests of `hasShape` on its way.
 -- Assumes nothing.
 use native.Mathlib.Omega.{arith}
 use mathlib.Core.Path.{_≡_, sym, _∙_, ap}

@@ -1,4 +1,4 @@
--- `alerts::threshold::row_inside` meets its contract: what stands between the two ends.
+-- `threshold::row_inside` meets its contract: what stands between the two ends.
 -- Assumes nothing.
 use native.Mathlib.Omega.{arith}
 use mathlib.Core.Path.{_≡_, _∙_, ap}

@@ -1,4 +1,4 @@
--- `alerts::threshold::row_of_text` meets its contract: the first shape that the text has.
+-- `threshold::row_of_text` meets its contract: the first shape that the text has.
 -- Assumes nothing.
 use native.Mathlib.Omega.{arith}
 use mathlib.Core.Path.{_≡_, sym, _∙_}

@@ -1,4 +1,4 @@
--- `alerts::threshold::threshold_level` meets its contract: the three tests are those of `thresholdLevel`.
+-- `threshold::threshold_level` meets its contract: the three tests are those of `thresholdLevel`.
 -- Assumes nothing.
 use Rattle.threshold.specs.Threshold.{thresholdLevel}
 use borrow.Author.Needs.{needs}

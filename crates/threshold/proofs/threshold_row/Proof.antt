@@ -1,4 +1,4 @@
--- `alerts::threshold::threshold_row` meets its contract: missing, or by the text.
+-- `threshold::threshold_row` meets its contract: missing, or by the text.
 -- Assumes nothing.
 use mathlib.Core.Path.{sym, _∙_, ap}
 use Rattle.threshold.specs.Threshold.{thresholdRow, row12}

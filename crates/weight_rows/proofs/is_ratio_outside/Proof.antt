@@ -1,4 +1,4 @@
--- `alerts::formula_rows::is_ratio_outside` meets its contract: below or above, by cross-multiplication.
+-- `weight_rows::is_ratio_outside` meets its contract: below or above, by cross-multiplication.
 -- Assumes nothing.
 use native.Mathlib.Omega.{arith}
 use mathlib.Core.Path.{sym, ap}

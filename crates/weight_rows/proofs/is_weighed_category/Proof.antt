@@ -1,4 +1,4 @@
--- `alerts::formula_rows::is_weighed_category` meets its contract: organic or metal-organic.
+-- `weight_rows::is_weighed_category` meets its contract: organic or metal-organic.
 -- Assumes nothing.
 use mathlib.Core.Path.{sym, _∙_}
 use Rattle.weight_rows.specs.WeightRows.{isWeighedCategory}

@@ -1,4 +1,4 @@
--- `alerts::formula_rows::ratio_level` meets its contract: below zero, or by the three tests.
+-- `weight_rows::ratio_level` meets its contract: below zero, or by the three tests.
 -- Assumes nothing.
 use native.Mathlib.Omega.{arith}
 use mathlib.Core.Path.{_≡_, sym, _∙_, ap}

@@ -1,4 +1,4 @@
--- `alerts::formula_rows::ratio_row` meets its contract: each return is a case of `row4`.
+-- `weight_rows::ratio_row` meets its contract: each return is a case of `row4`.
 -- Assumes nothing.
 use native.Mathlib.Omega.{arith}
 use mathlib.Core.Path.{_≡_, sym, _∙_, ap, subst}
@@ -13,7 +13,7 @@ use Rattle.decimal.specs.declared.Reading.{Reading}
 use Rattle.decimal.specs.declared.Reading.the-variants.{Number}
 use Rattle.decimal.proofs.Signs.{back, small-fits}
 use Rattle.decimal.proofs.Small.{number-small}
-use Rattle.cif.specs.Value.{textOf}
+use Rattle.values.specs.Value.{textOf}
 use Rattle.formula.specs.Recognised.{allRecognised}
 use Rattle.formula.specs.Sum.{sumOf}
 use Rattle.elements.specs.declared.Weight.{Weight}

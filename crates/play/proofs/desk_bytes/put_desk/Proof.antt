@@ -7,7 +7,7 @@ use mathlib.Core.List.{List, _++_, flatMap, append-assoc}
 use Prim.Native.Nat.{ℕ, _+_, _*_}
 use denote.Ref.{now}
 use lib.ListN.{length, length-append}
-use Rattle.cif.specs.Items.{itemCount}
+use Rattle.items.specs.Items.{itemCount}
 use Rattle.state.specs.Desks.{benchCount}
 use Rattle.text.specs.Copy.{copied}
 use Rattle.play.specs.Number.{numberLength, numberBytes}

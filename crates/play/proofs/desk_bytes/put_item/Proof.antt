@@ -6,7 +6,7 @@ use mathlib.Core.List.{List, [], _∷_, _++_, append-assoc}
 use Prim.Native.Nat.{ℕ, _+_, _*_}
 use denote.Ref.{now}
 use lib.ListN.{length, length-append}
-use Rattle.cif.specs.Line.{lineMost}
+use Rattle.items.specs.Typed.{lineMost}
 use Rattle.text.specs.Copy.{copied}
 use Rattle.play.specs.Number.{numberLength, numberBytes}
 use Rattle.play.proofs.Copied.{copied-next}

@@ -1,4 +1,4 @@
--- `calls::report::report` meets its contract: sound or not.
+-- `questions::report::report` meets its contract: sound or not.
 -- Assumes nothing.
 use mathlib.Core.Path.{sym, _∙_, ap}
 use borrow.Author.Tests.{not-true, not-false}

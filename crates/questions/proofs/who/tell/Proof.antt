@@ -1,4 +1,4 @@
--- `calls::who::tell` meets its contract: the item is empty or not.
+-- `questions::who::tell` meets its contract: the item is empty or not.
 -- Assumes nothing.
 use mathlib.Core.Path.{_∙_}
 use borrow.Author.Tests.{eq-eqb, ne-eqb}

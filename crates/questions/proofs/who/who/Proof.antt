@@ -1,4 +1,4 @@
--- `calls::who::who` meets its contract: each return has the tests of `whoOf` on its way.
+-- `questions::who::who` meets its contract: each return has the tests of `whoOf` on its way.
 -- Assumes nothing.
 use mathlib.Core.Path.{sym, _∙_}
 use borrow.Author.Tests.{le-leb, lt-leb, not-true, not-false}

@@ -1,4 +1,4 @@
--- `formula::term::read_count` meets its contract. The loop's invariant: the bytes passed are digits worth n, at most the largest count.
+-- `terms::term::read_count` meets its contract. The loop's invariant: the bytes passed are digits worth n, at most the largest count.
 -- The measure is what is left of the digits. Assumes nothing.
 use native.Mathlib.Omega.{arith}
 use mathlib.Core.Path.{sym}

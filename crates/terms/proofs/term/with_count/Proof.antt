@@ -1,4 +1,4 @@
--- `formula::term::with_count` meets its contract: each arm is a case of `counted`.
+-- `terms::term::with_count` meets its contract: each arm is a case of `counted`.
 -- Assumes nothing.
 use mathlib.Core.Path.{sym, ap}
 use Rattle.terms.specs.Term.{counted}

@@ -1,0 +1,4 @@
+pub mod NameTable
+pub mod KindTable
+pub mod Passes
+pub mod Names
