@@ -4,9 +4,9 @@ ghost use Rattle.decimal.specs.Reading.{readingOf};
 ghost use Rattle.items.specs.Items.{itemOf};
 ghost use Rattle.cif.specs.Line.{splitOf};
 ghost use Rattle.probe.specs.Probe.{numberTold, formTold, lineTold, itemTold};
-use items::Named;
 use cif::line::Split;
 use decimal::Reading;
+use items::Named;
 
 #[repr(C)]
 pub struct ProbeNumber {

@@ -10,8 +10,8 @@ use crate::desk::Desk;
 use crate::line::Line;
 use crate::sheet::Item;
 use crate::sheet::Sheet;
-use items::ITEM_COUNT;
 use items::FIRST_TYPED;
+use items::ITEM_COUNT;
 use items::LAST_TYPED;
 use items::LINE_MOST;
 
