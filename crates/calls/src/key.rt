@@ -195,14 +195,14 @@ pub fn key(d: Desk, used: usize, log: &mut [u8], bench: u64, byte: u8) -> Keyed
             answer: Answer::NoBench,
         };
     }
-    if !state::sound::is_sound(d) {
+    if !soundness::is_sound(d) {
         return Keyed {
             desk: d,
             used,
             answer: Answer::Unsound,
         };
     }
-    if !state::sound::is_sound_log(d, log.len(), used) {
+    if !soundness::is_sound_log(d, log.len(), used) {
         return Keyed {
             desk: d,
             used,

@@ -1,7 +1,7 @@
 -- The report (document 01, "Keys and their refusals", "Two questions").
 -- Assumes nothing.
 use mathlib.Core.Bool.{cond}
-use Rattle.state.specs.Sound.{soundDesk}
+use Rattle.soundness.specs.Sound.{soundDesk}
 use Rattle.state.specs.declared.desk.Desk.{Desk}
 use Rattle.alerts.specs.Sheet.{rowsOf, noRows}
 use Rattle.rows.specs.declared.Rows.{Rows}

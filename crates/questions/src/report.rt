@@ -15,7 +15,7 @@ pub struct Reported {
 pub fn report(d: Desk) -> Reported
     ensures { λ r. ⌜ r ≡ reportedOf d ⌝ }
 {
-    if !state::sound::is_sound(d) {
+    if !soundness::is_sound(d) {
         let none = alerts::sheet_rows::no_rows();
         return Reported {
             answer: Asked::Unsound,

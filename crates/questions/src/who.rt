@@ -45,7 +45,7 @@ fn tell(i: Item) -> Told
 pub fn who(d: Desk, item: u64) -> Told
     ensures { λ r. ⌜ r ≡ whoOf d item ⌝ }
 {
-    if !state::sound::is_sound(d) {
+    if !soundness::is_sound(d) {
         return tell_nobody(Asked::Unsound);
     }
     if item < 1 {

@@ -24,14 +24,14 @@ use Rattle.log.proofs.Records.{record-length}
 use Rattle.state.specs.Lines.{typed, lineOf, emptyLine, appended, erased}
 use Rattle.state.specs.Sheets.{filled, noItem, itemAt}
 use Rattle.state.specs.Desks.{benchCount, noLine, lineAt}
-use Rattle.state.specs.Sound.{logMost, soundItem, soundEmpty, soundSheet, soundLines, soundDesk, soundLog}
+use Rattle.soundness.specs.Sound.{logMost, soundItem, soundEmpty, soundSheet, soundLines, soundDesk, soundLog}
 use Rattle.state.specs.declared.line.Line.{Line}
 use Rattle.state.specs.declared.sheet.Item.{Item}
 use Rattle.state.specs.declared.sheet.Sheet.{Sheet}
 use Rattle.state.specs.declared.desk.Desk.{Desk}
 use Rattle.state.specs.declared.answer.Answer.{Answer}
 use Rattle.state.specs.declared.answer.Answer.the-variants as answer
-use Rattle.state.proofs.Everys.{every-each}
+use Rattle.soundness.proofs.Everys.{every-each}
 use Rattle.calls.specs.Key.{After, refused, edited, entered, stored, enteredAs, keyStep, keyOf}
 use Rattle.questions.specs.Who.{nobody, toldOf, whoOf}
 use Rattle.questions.specs.declared.question.Asked.the-variants.{Answered, Unsound, NoItem}

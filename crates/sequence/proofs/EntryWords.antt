@@ -22,7 +22,7 @@ use Rattle.cif.specs.declared.line.Class.the-variants as class
 use Rattle.items.proofs.Names.{name-found}
 use Rattle.cif.proofs.Wording.{line-is}
 use Rattle.state.specs.Desks.{benchCount}
-use Rattle.state.specs.Sound.{logMost}
+use Rattle.soundness.specs.Sound.{logMost}
 use Rattle.state.specs.declared.answer.Answer.{Answer}
 use Rattle.state.specs.declared.answer.Answer.the-variants as answer
 use Rattle.sequence.specs.Work.{enterAnswer, tableAnswer, accepts}

@@ -17,7 +17,7 @@ use Rattle.items.specs.Fits.{fits}
 use Rattle.cif.proofs.Entries.{IsEntry}
 use Rattle.state.specs.Sheets.{filled, valueIn}
 use Rattle.state.specs.Desks.{benchCount}
-use Rattle.state.specs.Sound.{zeros, soundEmpty, soundFilled, soundItem}
+use Rattle.soundness.specs.Sound.{zeros, soundEmpty, soundFilled, soundItem}
 use Rattle.state.specs.declared.sheet.Item.{Item}
 use Rattle.sequence.proofs.Choices.{and-true-true, and-map, cond-map}
 use Rattle.sequence.proofs.LineLaws.{padded-zeros, typed-lineOf}

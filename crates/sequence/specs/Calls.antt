@@ -5,7 +5,7 @@ use Prim.Native.Nat.{ℕ}
 use mathlib.Core.Bool.{cond}
 use mathlib.Core.List.{List, [], _∷_}
 use Rattle.state.specs.Desks.{freshDesk}
-use Rattle.state.specs.Sound.{soundDesk}
+use Rattle.soundness.specs.Sound.{soundDesk}
 use Rattle.state.specs.declared.sheet.Sheet.{Sheet}
 use Rattle.state.specs.declared.desk.Desk.{Desk}
 use Rattle.state.specs.declared.answer.Answer.{Answer}

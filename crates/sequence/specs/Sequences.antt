@@ -22,7 +22,7 @@ use Rattle.items.specs.Items.{itemCount, IsName}
 use Rattle.cif.specs.Wording.{IsLine}
 use Rattle.state.specs.Lines.{lineOf}
 use Rattle.state.specs.Sheets.{itemAt}
-use Rattle.state.specs.Sound.{logMost, soundDesk, soundLog}
+use Rattle.soundness.specs.Sound.{logMost, soundDesk, soundLog}
 use Rattle.state.specs.declared.sheet.Sheet.{Sheet}
 use Rattle.state.specs.declared.answer.Answer.the-variants.{Accepted}
 use Rattle.questions.specs.declared.question.Asked.the-variants.{Answered}

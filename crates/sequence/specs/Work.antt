@@ -14,7 +14,7 @@ use Rattle.cif.specs.declared.line.Class.the-variants as class
 use Rattle.log.specs.Record.{recordLength, recordOf}
 use Rattle.state.specs.Sheets.{filled, emptyItem}
 use Rattle.state.specs.Desks.{benchCount, answerNumber}
-use Rattle.state.specs.Sound.{logMost}
+use Rattle.soundness.specs.Sound.{logMost}
 use Rattle.state.specs.declared.sheet.Item.{Item}
 use Rattle.state.specs.declared.sheet.Sheet.{Sheet}
 use Rattle.state.specs.declared.answer.Answer.{Answer}

@@ -1,11 +1,11 @@
--- `state::sound::is_sound_empty` meets its contract: each return has the tests of `soundEmpty` on its way.
+-- `soundness::is_sound_empty` meets its contract: each return has the tests of `soundEmpty` on its way.
 -- Assumes nothing.
 use mathlib.Core.Path.{_∙_}
 use borrow.Author.Tests.{eq-eqb, ne-eqb}
-use Rattle.state.specs.Sound.{soundEmpty}
+use Rattle.soundness.specs.Sound.{soundEmpty}
 use borrow.Author.Needs.{needs}
-use Rattle.state.proofs.sound.is_sound_empty.Statement.{statement}
-use Rattle.state.proofs.sound.is_sound_empty.Tie as tie
+use Rattle.soundness.proofs.is_sound_empty.Statement.{statement}
+use Rattle.soundness.proofs.is_sound_empty.Tie as tie
 
 returns : tie.Need-returns
 unfolding soundEmpty

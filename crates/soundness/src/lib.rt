@@ -1,15 +1,15 @@
-// The test of soundness.
+// The test of soundness (document 01, "What the desk holds").
 ghost use mathlib.Core.Path.{_≡_};
 ghost use Prim.Native.Nat.{_<_, _≤_};
 ghost use lib.ListN.{length};
 ghost use Rattle.items.specs.Typed.{lineMost};
 ghost use Rattle.items.specs.Items.{itemCount};
-ghost use Rattle.state.specs.Sound.{soundLine, soundEmpty, soundFilled, soundItem, soundLines, soundSheet, soundDesk, soundLog};
-use crate::desk::BENCH_COUNT;
-use crate::desk::Desk;
-use crate::line::Line;
-use crate::sheet::Item;
-use crate::sheet::Sheet;
+ghost use Rattle.soundness.specs.Sound.{soundLine, soundEmpty, soundFilled, soundItem, soundLines, soundSheet, soundDesk, soundLog};
+use state::desk::BENCH_COUNT;
+use state::desk::Desk;
+use state::line::Line;
+use state::sheet::Item;
+use state::sheet::Sheet;
 use items::FIRST_TYPED;
 use items::ITEM_COUNT;
 use items::LAST_TYPED;

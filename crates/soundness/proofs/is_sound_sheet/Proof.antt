@@ -1,4 +1,4 @@
--- `state::sound::is_sound_sheet` meets its contract. The loop's invariant: the items passed are sound, so the rest decides.
+-- `soundness::is_sound_sheet` meets its contract. The loop's invariant: the items passed are sound, so the rest decides.
 -- The measure is what is left of the items. Assumes nothing.
 use borrow.Author.Needs.{needs}
 use native.Mathlib.Omega.{arith}
@@ -7,11 +7,11 @@ use mathlib.Core.Bool.{true, false}
 use Prim.Native.Nat.{ℕ, _≤_, _-_}
 use borrow.Author.Tests.{not-true, not-false}
 use lib.ListN.{length, getD, drop, length-map}
 use Rattle.state.specs.Sheets.{noItem}
-use Rattle.state.specs.Sound.{every, soundItem, soundSheet}
-use Rattle.state.proofs.Everys.{every-at, every-end}
-use Rattle.state.proofs.sound.is_sound_sheet.Statement.{statement}
-use Rattle.state.proofs.sound.is_sound_sheet.Tie as tie
+use Rattle.soundness.specs.Sound.{every, soundItem, soundSheet}
+use Rattle.soundness.proofs.Everys.{every-at, every-end}
+use Rattle.soundness.proofs.is_sound_sheet.Statement.{statement}
+use Rattle.soundness.proofs.is_sound_sheet.Tie as tie
 
 abbrev Inv-loop : tie.InvT-loop
 Inv-loop s count i₀ i = (i ≤ 10) × (every (soundItem (s .count)) 0 (s .items) ≡ every (soundItem (s .count)) i (drop i (s .items)))

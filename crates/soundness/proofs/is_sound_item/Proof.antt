@@ -1,11 +1,11 @@
--- `state::sound::is_sound_item` meets its contract: an item with no value is empty.
+-- `soundness::is_sound_item` meets its contract: an item with no value is empty.
 -- Assumes nothing.
 use mathlib.Core.Path.{_∙_}
 use borrow.Author.Tests.{eq-eqb, ne-eqb}
-use Rattle.state.specs.Sound.{soundItem}
+use Rattle.soundness.specs.Sound.{soundItem}
 use borrow.Author.Needs.{needs}
-use Rattle.state.proofs.sound.is_sound_item.Statement.{statement}
-use Rattle.state.proofs.sound.is_sound_item.Tie as tie
+use Rattle.soundness.proofs.is_sound_item.Statement.{statement}
+use Rattle.soundness.proofs.is_sound_item.Tie as tie
 
 is-sound-empty-requires : tie.Need-is-sound-empty-requires
 is-sound-empty-requires c κs = search needs

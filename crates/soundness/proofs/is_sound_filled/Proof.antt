@@ -1,4 +1,4 @@
--- `state::sound::is_sound_filled` meets its contract: each return has the tests of `soundFilled` on its way.
+-- `soundness::is_sound_filled` meets its contract: each return has the tests of `soundFilled` on its way.
 -- Assumes nothing.
 use native.Mathlib.Omega.{arith}
 use mathlib.Core.Path.{_≡_, sym, _∙_}
@@ -6,10 +6,10 @@ use Prim.Native.Nat.{_-_}
 use lib.ListN.{length, take, drop, length-take, length-drop}
 use lib.Seq.{take-all}
 use borrow.Author.Tests.{le-leb, lt-leb, lt-ltb, le-ltb}
-use Rattle.state.specs.Sound.{soundFilled}
+use Rattle.soundness.specs.Sound.{soundFilled}
 use borrow.Author.Needs.{needs}
-use Rattle.state.proofs.sound.is_sound_filled.Statement.{statement}
-use Rattle.state.proofs.sound.is_sound_filled.Tie as tie
+use Rattle.soundness.proofs.is_sound_filled.Statement.{statement}
+use Rattle.soundness.proofs.is_sound_filled.Tie as tie
 
 -- the array of a value has its length
 long : (c : tie.Start) → length (c .args .i .value) ≡ 80

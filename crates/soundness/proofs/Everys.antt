@@ -10,7 +10,7 @@ use native.Mathlib.Numerals.{add-one}
 use lib.ListN.{length, getD, drop, drop-of-length-le, set, replicate}
 use lib.Seq.{drop-cons}
 use Rattle.text.proofs.Bools.{and-both}
-use Rattle.state.specs.Sound.{every}
+use Rattle.soundness.specs.Sound.{every}
 
 module _ {A : Type 0} (p : ℕ → A → Bool) (s : List A) where
   pub every-at : (i : ℕ) (d : A) → i < length s → every p i (drop i s) ≡ (p i (getD s i d) && every p (i + 1) (drop (i + 1) s))

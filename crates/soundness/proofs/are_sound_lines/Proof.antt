@@ -1,4 +1,4 @@
--- `state::sound::are_sound_lines` meets its contract. The loop's invariant: the lines passed are sound, so the rest decides.
+-- `soundness::are_sound_lines` meets its contract. The loop's invariant: the lines passed are sound, so the rest decides.
 -- The measure is what is left of the lines. Assumes nothing.
 use borrow.Author.Needs.{needs}
 use native.Mathlib.Omega.{arith}
@@ -7,12 +7,12 @@ use mathlib.Core.Bool.{true, false}
 use Prim.Native.Nat.{ℕ, _≤_, _-_}
 use borrow.Author.Tests.{not-true, not-false}
 use lib.ListN.{length, getD, drop, length-map}
 use Rattle.state.specs.Desks.{noLine}
-use Rattle.state.specs.Sound.{every, soundLine, soundLines}
+use Rattle.soundness.specs.Sound.{every, soundLine, soundLines}
 use Rattle.state.specs.declared.line.Line.{Line}
-use Rattle.state.proofs.Everys.{every-at, every-end}
-use Rattle.state.proofs.sound.are_sound_lines.Statement.{statement}
-use Rattle.state.proofs.sound.are_sound_lines.Tie as tie
+use Rattle.soundness.proofs.Everys.{every-at, every-end}
+use Rattle.soundness.proofs.are_sound_lines.Statement.{statement}
+use Rattle.soundness.proofs.are_sound_lines.Tie as tie
 
 abbrev Inv-loop : tie.InvT-loop
 Inv-loop d i₀ i = (i ≤ 4) × (every (λ (k : ℕ) (l : Line). soundLine l) 0 (d .lines) ≡ every (λ (k : ℕ) (l : Line). soundLine l) i (drop i (d .lines)))

@@ -1,10 +1,10 @@
--- `state::sound::is_sound` meets its contract: the lines, then the sheet.
+-- `soundness::is_sound` meets its contract: the lines, then the sheet.
 -- Assumes nothing.
 use mathlib.Core.Path.{sym, _∙_}
-use Rattle.state.specs.Sound.{soundDesk}
+use Rattle.soundness.specs.Sound.{soundDesk}
 use borrow.Author.Needs.{needs}
-use Rattle.state.proofs.sound.is_sound.Statement.{statement}
-use Rattle.state.proofs.sound.is_sound.Tie as tie
+use Rattle.soundness.proofs.is_sound.Statement.{statement}
+use Rattle.soundness.proofs.is_sound.Tie as tie
 
 are-sound-lines-requires : tie.Need-are-sound-lines-requires
 are-sound-lines-requires c κs = search needs
