@@ -5,15 +5,15 @@ ghost use lib.ListN.{length};
 ghost use Rattle.items.specs.Typed.{lineMost};
 ghost use Rattle.items.specs.Items.{itemCount};
 ghost use Rattle.soundness.specs.Sound.{soundLine, soundEmpty, soundFilled, soundItem, soundLines, soundSheet, soundDesk, soundLog};
+use items::FIRST_TYPED;
+use items::ITEM_COUNT;
+use items::LAST_TYPED;
+use items::LINE_MOST;
 use state::desk::BENCH_COUNT;
 use state::desk::Desk;
 use state::line::Line;
 use state::sheet::Item;
 use state::sheet::Sheet;
-use items::FIRST_TYPED;
-use items::ITEM_COUNT;
-use items::LAST_TYPED;
-use items::LINE_MOST;
 
 // The longest log, and the least that a record takes of it.
 pub const LOG_MOST: usize = 65536;
