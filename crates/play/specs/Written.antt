@@ -11,9 +11,9 @@ use Rattle.alerts.specs.Sheet.{rowsOf, noRows}
 use Rattle.rows.specs.declared.Rows.{Rows}
 use Rattle.sequence.specs.Calls.{Call, Reply, State}
 use Rattle.sequence.specs.Sequences.{deskAnswers, stateAfter}
-use Rattle.play.specs.ReplyBytes.{replyLength, replyBytes}
+use Rattle.replies.specs.ReplyBytes.{replyLength, replyBytes}
 use Rattle.play.specs.DeskBytes.{deskLength, deskBytes}
-use Rattle.play.specs.OneCall.{stateOf}
+use Rattle.replies.specs.OneCall.{stateOf}
 
 -- the answers of calls in bytes, in their order
 abbrev pub answersBytes : List (Call × Reply Rows) → List ℕ

@@ -9,7 +9,7 @@ use lib.ListN.{length, length-map}
 use Rattle.items.specs.Items.{itemCount}
 use Rattle.state.specs.Sheets.{noItem}
 use Rattle.play.specs.DeskBytes.{itemLength, itemBytes}
-use Rattle.play.proofs.Puts.{Put, put-none, put-next, put-all}
+use Rattle.replies.proofs.Puts.{Put, put-none, put-next, put-all}
 use Rattle.play.proofs.desk_bytes.put_items.Statement.{statement}
 use Rattle.play.proofs.desk_bytes.put_items.Tie as tie
 
