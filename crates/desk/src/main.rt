@@ -3,9 +3,9 @@ ghost use Rattle.session.specs.Play.{standsAfter};
 ghost use Rattle.desk.specs.Run.{PlaysPart, PlaysAll};
 use libc::STDIN_FILENO;
 use libc::STDOUT_FILENO;
-use session::play::Played;
 use printing::Printed;
 use printing::REPORT_MOST;
+use session::play::Played;
 use state::desk::Desk;
 
 // The bytes of the log, and of a part of the input. The second is even, so that a part that is full ends with a whole pair.
