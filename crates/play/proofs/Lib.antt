@@ -1,5 +1,4 @@
 pub mod Numbers
-pub mod Copied
 pub mod Puts
 pub mod CallLaws
 pub mod Runs

@@ -10,7 +10,7 @@ use lib.Seq.{take-at, drop-cons, length-take-le}
 use Rattle.text.specs.Copy.{copied}
 use Rattle.text.proofs.Copies.{copied-fits}
 use Rattle.session.specs.Page.{pageMost, written, Adds}
-use Rattle.session.specs.Print.{linesFrom}
+use Rattle.text.specs.Each.{linesFrom}
 use Rattle.session.specs.declared.page.Page.{Page}
 
 -- the bytes of a page with t copied in after what is written

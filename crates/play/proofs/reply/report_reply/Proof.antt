@@ -8,7 +8,7 @@ use lib.ListN.{length, replicate, length-map}
 use Rattle.alerts.specs.Sheet.{rowCount}
 use Rattle.alerts.specs.Rows.{noAlert}
 use Rattle.play.specs.ReplyBytes.{replyLength, rowBytes}
-use Rattle.play.proofs.Copied.{copied-after}
+use Rattle.text.proofs.Copies.{copied-after}
 use Rattle.play.proofs.Puts.{Put, put-none, put-next, put-all}
 use Rattle.play.proofs.reply.report_reply.Statement.{statement}
 use Rattle.play.proofs.reply.report_reply.Tie as tie
