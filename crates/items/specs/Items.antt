@@ -50,6 +50,10 @@ noRow = record { name = []; kind = Text }
 abbrev pub rowOf : ℕ → ItemRow
 rowOf item = getD items (item - 1) noRow
 
+-- the name of an item; none for an item that is not there
+unfoldable pub nameOf : ℕ → List ℕ
+nameOf item = cond (leb 1 item && leb item itemCount) (rowOf item .name) []
+
 -- "Names are compared without regard to the case of A to Z": the first row of the table with that name, counted from n
 unfoldable pub findFrom : ℕ → List ItemRow → List ℕ → Named
 findFrom n [] s = Unknown

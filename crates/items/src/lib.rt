@@ -2,9 +2,10 @@
 ghost use mathlib.Core.Path.{_≡_};
 ghost use Prim.Native.Nat.{_≤_, _<_, _+_};
 ghost use lib.ListN.{length, take, drop};
+ghost use Rattle.text.specs.Copy.{copied};
 ghost use Rattle.text.specs.Same.{sameFolded};
 ghost use Rattle.items.specs.Fits.{fits};
-ghost use Rattle.items.specs.Items.{itemCount, rowOf, itemOf, isCategory, ofKind, passes};
+ghost use Rattle.items.specs.Items.{itemCount, rowOf, nameOf, itemOf, isCategory, ofKind, passes};
 
 // The longest line.
 pub const LINE_MOST: usize = 80;
@@ -130,12 +131,32 @@ pub fn passes_kind(item: usize, v: &[u8]) -> bool
     is_of_kind(kind_at(item - 1), v)
 }
 
-// The length of the name of item k + 1.
-fn name_length(k: usize) -> usize
-    requires { ⌜ k < itemCount ⌝ }
-    ensures { λ r. ⌜ (r ≡ length (rowOf (k + 1) .name)) × (r ≤ 237) ⌝ }
+// The length of an item's name; 0 where there is no such item.
+pub fn name_length(item: usize) -> usize
+    ensures { λ r. ⌜ r ≡ length (nameOf item) ⌝ }
 {
-    STARTS[k + 1] - STARTS[k]
+    if item < 1 {
+        return 0;
+    }
+    if ITEM_COUNT < item {
+        return 0;
+    }
+    STARTS[item] - STARTS[item - 1]
+}
+
+// Copies an item's name into out from a place on, where it fits; else, and where there is no such item, nothing.
+pub fn copy_name(out: &mut [u8], at: usize, item: usize)
+    ensures { λ _. ⌜ now (out .exit) ≡ copied (now (out .entry)) at (nameOf item) ⌝ }
+{
+    if item < 1 {
+        return;
+    }
+    if ITEM_COUNT < item {
+        return;
+    }
+    let from = STARTS[item - 1];
+    let to = STARTS[item];
+    text::copy_in(out, at, &NAMES[from..to]);
 }
 
 // Whether an item can hold the value v: form, bytes, kind, and the length of its line.
@@ -151,5 +172,5 @@ pub fn fits_item(item: usize, v: &[u8]) -> bool
     if !text::all_between(v, FIRST_TYPED, LAST_TYPED) {
         return false;
     }
-    name_length(item - 1) + 1 + v.len() <= LINE_MOST
+    name_length(item) + 1 + v.len() <= LINE_MOST
 }

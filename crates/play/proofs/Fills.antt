@@ -16,7 +16,7 @@ use Rattle.play.specs.DeskBytes.{deskLength, deskBytes}
 use Rattle.play.specs.Written.{answersBytes, writtenLength, AnswersWritten, AllWritten}
 use Rattle.play.specs.Play.{After, after, ran}
 use Rattle.play.specs.declared.Played.the-variants.{Done}
-use Rattle.replies.proofs.Copied.{copied-next, copied-start}
+use Rattle.text.proofs.Copies.{copied-next, copied-start}
 
 pub filled : (log₀ out₀ : List ℕ) (cs : List Call) (n : ℕ) (d : Desk) (used : ℕ) {log out last : List ℕ} → AnswersWritten log₀ out₀ cs n d used log out
     → last ≡ copied out (replyLength * n) (deskBytes d used) → length (deskBytes d used) ≡ deskLength → writtenLength n ≤ length out₀ → AllWritten log₀ out₀ cs n log last

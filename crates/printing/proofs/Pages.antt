@@ -10,7 +10,7 @@ use lib.Seq.{take-at, drop-cons, length-take-le}
 use Rattle.text.specs.Copy.{copied}
 use Rattle.text.proofs.Copies.{copied-fits}
 use Rattle.printing.specs.Page.{pageMost, written, Adds}
-use Rattle.printing.specs.Print.{linesFrom}
+use Rattle.text.specs.Each.{linesFrom}
 use Rattle.printing.specs.declared.page.Page.{Page}
 
 -- the bytes of a page with t copied in after what is written

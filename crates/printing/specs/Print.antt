@@ -6,6 +6,7 @@ use mathlib.Core.List.{List, [], _∷_, _++_}
 use lib.Dec.{ltb, leb, eqb}
 use lib.ListN.{length, getD, drop}
 use Rattle.text.specs.Quote.{bytes}
+use Rattle.text.specs.Each.{linesFrom}
 use Rattle.state.specs.Sheets.{valueIn}
 use Rattle.state.specs.declared.sheet.Item.{Item}
 use Rattle.state.specs.declared.desk.Desk.{Desk}
@@ -72,11 +73,6 @@ filledLine k i = line (
 -- nothing for an empty item
 unfoldable pub itemLine : ℕ → Item → List ℕ
 itemLine k i = cond (eqb (i .len) 0) [] (filledLine k i)
-
--- the lines of a list's elements, which are counted from k
-unfoldable pub linesFrom : {A : Type 0} → (ℕ → A → List ℕ) → ℕ → List A → List ℕ
-linesFrom f k [] = []
-linesFrom f k (x ∷ xs) = f k x ++ linesFrom f (suc k) xs
 
 -- the whole text: a head, the twelve rows of the report, the filled items
 unfoldable pub printedOf : Desk → List ℕ

@@ -6,8 +6,9 @@ ghost use lib.ListN.{length};
 ghost use Rattle.items.specs.Items.{itemCount};
 ghost use Rattle.state.specs.Sheets.{valueIn};
 ghost use Rattle.alerts.specs.Sheet.{rowCount};
+ghost use Rattle.text.specs.Each.{linesFrom};
 ghost use Rattle.printing.specs.Page.{pageMost, written, Adds};
-ghost use Rattle.printing.specs.Print.{rowName, levelLetter, rowLine, filledLine, itemLine, linesFrom, printedOf, printedIn, outAfter};
+ghost use Rattle.printing.specs.Print.{rowName, levelLetter, rowLine, filledLine, itemLine, printedOf, printedIn, outAfter};
 
 mod page;
 

@@ -9,7 +9,7 @@ use native.Mathlib.Omega.{arith}
 use lib.ListN.{length, getD, take, length-append}
 use lib.Seq.{take-suc, take-all}
 use Rattle.text.specs.Copy.{copied}
-use Rattle.replies.proofs.Copied.{length-copied, copied-none, copied-then}
+use Rattle.text.proofs.Copies.{length-copied, copied-none, copied-then}
 
 pub flat-append : {A : Type 0} (f : A → List ℕ) (l m : List A) → flatMap f (l ++ m) ≡ flatMap f l ++ flatMap f m
 unfolding flatMap

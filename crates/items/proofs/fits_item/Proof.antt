@@ -3,13 +3,15 @@
 use native.Mathlib.Omega.{arith}
 use mathlib.Core.Path.{_≡_, sym, _∙_, ap}
 use mathlib.Core.Bool.{true}
-use Prim.Native.Nat.{ℕ, _+_, _-_, _≤_}
+use mathlib.Core.List.{List}
+use Prim.Native.Nat.{ℕ, _+_, _≤_}
 use borrow.Author.Tests.{not-true, not-false}
 use lib.Dec.{leb}
 use lib.ListN.{length}
 use Rattle.items.specs.Fits.{fits}
-use Rattle.items.specs.Items.{itemCount, rowOf, passes}
+use Rattle.items.specs.Items.{itemCount, passes}
 use Rattle.items.specs.Typed.{lineMost}
+use Rattle.items.proofs.NameOf.{name-of, name-short}
 use Rattle.items.proofs.Passes.{passes-known}
 use borrow.Author.Needs.{needs}
 use Rattle.items.proofs.fits_item.Statement.{statement}
@@ -44,17 +46,20 @@ returns-3 c =
     let v = c .before .before in
     simp (passed (v .before .before), sym (v .before .is-value .ensures) ∙ not-false _ (v .if2 .left), sym (c .before .all-between .ensures) ∙ not-true _ (c .if3 .taken))
 
-sub-name-length : tie.Need-sub-name-length
-sub-name-length c = omega (arith, known (c .before .before .before .before))
-
 name-length-requires : tie.Need-name-length-requires
-name-length-requires c κs = omega (arith, known (c .before .before .before .before))
+name-length-requires c κs = search needs
 
 add-result : tie.Need-add-result
-add-result c = search needs
+add-result c =
+    let k = known (c .before .before .before .before .before) in
+    let n = name-short _ (k .0) (k .1) in
+    omega (arith, n, c .name-length .ensures)
 
 add-result-2 : tie.Need-add-result-2
-add-result-2 c = search needs
+add-result-2 c =
+    let k = known (c .before .before .before .before .before) in
+    let n = name-short _ (k .0) (k .1) in
+    omega (arith, n, c .name-length .ensures)
 
 returns-4 : tie.Need-returns-4
 unfolding fits
@@ -64,8 +69,7 @@ returns-4 c =
     let p = v .before .before in
     let a = p .before .before .before .args in
     let h = known p in
-    let back : a .item - 1 + 1 ≡ a .item = omega arith in
-    let name = c .name-length .ensures .0 ∙ ap (λ (n : ℕ). length (rowOf n .name)) back in
+    let name = c .name-length .ensures ∙ ap (λ (l : List ℕ). length l) (name-of (a .item) (h .0) (h .1)) in
     ap (λ (n : ℕ). leb (n + 1 + length (a .v .now)) lineMost) name
     ∙ simp (passed p, sym (v .before .is-value .ensures) ∙ not-false _ (v .if2 .left), sym (t .before .all-between .ensures) ∙ not-false _ (t .if3 .left))
 
@@ -79,7 +83,6 @@ fits-item-spec =
     returns-2
     all-between-requires
     returns-3
-    sub-name-length
     name-length-requires
     add-result
     add-result-2

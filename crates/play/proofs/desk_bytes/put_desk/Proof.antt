@@ -12,7 +12,7 @@ use Rattle.state.specs.Desks.{benchCount}
 use Rattle.text.specs.Copy.{copied}
 use Rattle.replies.specs.Number.{numberLength, numberBytes}
 use Rattle.play.specs.DeskBytes.{lineLength, itemLength, lineBytes, itemBytes}
-use Rattle.replies.proofs.Copied.{copied-next}
+use Rattle.text.proofs.Copies.{copied-next}
 use Rattle.play.proofs.desk_bytes.put_desk.Statement.{statement}
 use Rattle.play.proofs.desk_bytes.put_desk.Tie as tie
 
