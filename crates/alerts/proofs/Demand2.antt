@@ -8,22 +8,22 @@ use lib.IntN.{ℤ}
 use Rattle.decimal.specs.Reading.{readingOf}
 use Rattle.decimal.specs.declared.Reading.{Reading}
 use Rattle.decimal.specs.declared.Reading.the-variants.{Number}
-use Rattle.cif.specs.Value.{textOf}
+use Rattle.values.specs.Value.{textOf}
 use Rattle.formula.specs.Sum.{sumOf}
-use Rattle.formula.specs.declared.elements.Weight.{Weight}
-use Rattle.formula.specs.declared.elements.Weight.the-variants.{Thousandths}
+use Rattle.elements.specs.declared.Weight.{Weight}
+use Rattle.elements.specs.declared.Weight.the-variants.{Thousandths}
 use Rattle.levels.specs.Level.{Highest}
 use Rattle.levels.specs.Bounds.{gradeOf, readGrade, placedGrade, gradedOf}
 use Rattle.levels.specs.declared.Place.{Place}
 use Rattle.levels.proofs.Levels.{level-highest, grade-highest}
-use Rattle.alerts.specs.Rows.{rowOf, missing}
-use Rattle.alerts.specs.FormulaRows.{millionths, ratioLevel, ratioRow}
-use Rattle.alerts.specs.GradedRows.{judgedValue, gradeRow, gradedRow}
-use Rattle.alerts.specs.Threshold.{thresholdLevel, thresholdRow, row12}
+use Rattle.rows.specs.Rows.{rowOf, missing}
+use Rattle.weight_rows.specs.WeightRows.{millionths, ratioLevel, ratioRow}
+use Rattle.graded_rows.specs.GradedRows.{judgedValue, gradeRow, gradedRow}
+use Rattle.threshold.specs.Threshold.{thresholdLevel, thresholdRow, row12}
 use Rattle.alerts.specs.Judged as judged
 use Rattle.alerts.specs.Judged.{Judged}
-use Rattle.alerts.specs.declared.row.Row.{Row}
-use Rattle.alerts.proofs.RowCases.{ratio-judged}
+use Rattle.rows.specs.declared.Row.{Row}
+use Rattle.weight_rows.proofs.WeightCases.{ratio-judged}
 
 -- a row is judged at a level
 JudgedAt : Bool → Bool → Bool → Row → Type 0

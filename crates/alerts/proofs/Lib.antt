@@ -1,3 +1,2 @@
-pub mod RowCases
-pub mod Judged
+mod Items
 pub mod Demand2

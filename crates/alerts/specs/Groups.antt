@@ -3,8 +3,9 @@
 use Prim.Native.Nat.{ℕ}
 use mathlib.Core.Path.{_≡_}
 use mathlib.Core.List.{List}
-use Rattle.alerts.specs.FormulaRows.{row1, row2, row3, row4, row5}
-use Rattle.alerts.specs.GradedRows.{gradedRow, oldNameRow}
+use Rattle.formula_rows.specs.FormulaRows.{row1, row2, row3}
+use Rattle.weight_rows.specs.WeightRows.{row4, row5}
+use Rattle.graded_rows.specs.GradedRows.{gradedRow, oldNameRow}
 use Rattle.alerts.specs.declared.sheet_rows.FormulaGroup.{FormulaGroup}
 use Rattle.alerts.specs.declared.sheet_rows.GradedPair.{GradedPair}
 

@@ -9,18 +9,18 @@ use lib.Dec.{leb}
 use lib.IntN.{ℤ}
 use Rattle.decimal.specs.Reading.{readingOf}
 use Rattle.decimal.specs.declared.Reading.the-variants.{Number}
-use Rattle.cif.specs.Value.{textOf}
+use Rattle.values.specs.Value.{textOf}
 use Rattle.formula.specs.Recognised.{allRecognised}
 use Rattle.formula.specs.Sum.{sumOf}
-use Rattle.formula.specs.declared.elements.Weight.the-variants.{Thousandths}
+use Rattle.elements.specs.declared.Weight.the-variants.{Thousandths}
 use Rattle.levels.specs.Bounds.{placeOf, judgedOf, above}
 use Rattle.levels.specs.declared.Place.the-variants.{At}
-use Rattle.alerts.specs.Rows.{missing}
-use Rattle.alerts.specs.FormulaRows.{millionths, ratioOutside, row4}
-use Rattle.alerts.specs.GradedRows.{judgedValue, gradedRow}
-use Rattle.alerts.specs.Threshold.{multiplierRow, thresholdRow, row12}
-use Rattle.alerts.specs.declared.row.Row.{Row}
-use Rattle.alerts.specs.declared.threshold.Multiplier.the-variants.{Times}
+use Rattle.rows.specs.Rows.{missing}
+use Rattle.weight_rows.specs.WeightRows.{millionths, ratioOutside, row4}
+use Rattle.graded_rows.specs.GradedRows.{judgedValue, gradedRow}
+use Rattle.threshold.specs.Threshold.{multiplierRow, thresholdRow, row12}
+use Rattle.rows.specs.declared.Row.{Row}
+use Rattle.threshold.specs.declared.Multiplier.the-variants.{Times}
 
 pub data Judged : Bool → Bool → Bool → Row → Type 0 where
   -- row 4: formula and weight are there, every term is recognised, and every symbol has a weight

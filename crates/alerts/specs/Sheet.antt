@@ -5,11 +5,12 @@ use mathlib.Core.List.{List, [], _∷_}
 use lib.ListN.{replicate}
 use Rattle.state.specs.Sheets.{itemAt, valueIn}
 use Rattle.state.specs.declared.sheet.Sheet.{Sheet}
-use Rattle.alerts.specs.Rows.{noAlert}
-use Rattle.alerts.specs.FormulaRows.{row1, row2, row3, row4, row5}
-use Rattle.alerts.specs.GradedRows.{gradedRow, oldNameRow}
-use Rattle.alerts.specs.Threshold.{row12}
-use Rattle.alerts.specs.declared.row.Rows.{Rows}
+use Rattle.rows.specs.Rows.{noAlert}
+use Rattle.formula_rows.specs.FormulaRows.{row1, row2, row3}
+use Rattle.weight_rows.specs.WeightRows.{row4, row5}
+use Rattle.graded_rows.specs.GradedRows.{gradedRow, oldNameRow}
+use Rattle.threshold.specs.Threshold.{row12}
+use Rattle.rows.specs.declared.Rows.{Rows}
 
 abbrev pub rowCount : ℕ
 rowCount = 12

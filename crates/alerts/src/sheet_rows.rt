@@ -1,25 +1,25 @@
 // All twelve rows of a sheet.
 ghost use mathlib.Core.Path.{_≡_};
 ghost use Prim.Native.Nat.{_≤_, min};
-ghost use Rattle.cif.specs.Line.{lineMost};
+ghost use Rattle.items.specs.Typed.{lineMost};
 ghost use Rattle.state.specs.Sheets.{valueIn};
-ghost use Rattle.alerts.specs.Threshold.{row12};
+ghost use Rattle.threshold.specs.Threshold.{row12};
 ghost use Rattle.alerts.specs.Sheet.{rowsOf, noRows};
 ghost use Rattle.alerts.specs.Groups.{FormulaGroupOf, GradedPairOf};
-use crate::formula_rows::class_row;
-use crate::formula_rows::difference_row;
-use crate::formula_rows::order_row;
-use crate::formula_rows::ratio_row;
-use crate::formula_rows::recognised_row;
-use crate::graded_rows::graded_row;
-use crate::graded_rows::old_name_row;
-use crate::row::ROW_COUNT;
-use crate::row::Row;
-use crate::row::Rows;
-use crate::threshold::threshold_row;
-use cif::line::LINE_MOST;
+use formula_rows::class_row;
+use formula_rows::order_row;
+use formula_rows::recognised_row;
+use graded_rows::graded_row;
+use graded_rows::old_name_row;
+use items::LINE_MOST;
+use rows::ROW_COUNT;
+use rows::Row;
+use rows::Rows;
 use state::sheet::Item;
 use state::sheet::Sheet;
+use threshold::threshold_row;
+use weight_rows::difference_row;
+use weight_rows::ratio_row;
 
 // Rows 1 to 5.
 struct FormulaGroup {

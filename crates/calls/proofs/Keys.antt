@@ -14,17 +14,17 @@ use lib.Seq.{drop-at, drop-drop}
 use Rattle.text.specs.Copy.{copied}
 use Rattle.text.proofs.Bools.{and-both}
 use Rattle.text.proofs.Copies.{copied-fits}
-use Rattle.cif.specs.Line.{lineMost}
+use Rattle.items.specs.Typed.{lineMost}
 use Rattle.log.specs.Record.{recordLength, recordOf, hasRoom, writtenOf, freeAfter}
 use Rattle.log.specs.declared.Written.the-variants.{Bytes, NoRoom}
 use Rattle.log.proofs.Records.{tail-back, tail-lent, wrote-none, wrote-bytes, room-left}
 use Rattle.state.specs.Lines.{padded}
 use Rattle.state.specs.Desks.{benchCount, noLine, lineAt}
-use Rattle.state.specs.Sound.{logMost, every, soundLine, soundLines, soundDesk, soundLog}
+use Rattle.soundness.specs.Sound.{logMost, every, soundLine, soundLines, soundDesk, soundLog}
 use Rattle.state.specs.declared.line.Line.{Line}
 use Rattle.state.specs.declared.desk.Desk.{Desk}
 use Rattle.state.specs.declared.answer.Answer.the-variants as answer
-use Rattle.state.proofs.Everys.{every-each}
+use Rattle.soundness.proofs.Everys.{every-each}
 use Rattle.calls.specs.Key.{After, refused, entered, stored}
 use Rattle.calls.specs.Ready.{Ready}
 

@@ -5,14 +5,15 @@ use mathlib.Core.Bool.{Bool, cond, _&&_}
 use mathlib.Core.List.{List, [], _∷_, _++_}
 use lib.Dec.{ltb, leb, eqb}
 use lib.ListN.{length, take, drop, set}
-use Rattle.cif.specs.Line.{lineMost, isTyped, classOf}
+use Rattle.items.specs.Typed.{lineMost, isTyped}
+use Rattle.cif.specs.Line.{classOf}
 use Rattle.cif.specs.declared.line.Class.{Class}
 use Rattle.cif.specs.declared.line.Class.the-variants as class
 use Rattle.log.specs.Record.{recordLength, recordOf}
 use Rattle.state.specs.Lines.{typed, emptyLine, appended, erased}
 use Rattle.state.specs.Sheets.{filled}
 use Rattle.state.specs.Desks.{benchCount, lineAt, withLine}
-use Rattle.state.specs.Sound.{soundDesk, soundLog}
+use Rattle.soundness.specs.Sound.{soundDesk, soundLog}
 use Rattle.state.specs.declared.line.Line.{Line}
 use Rattle.state.specs.declared.sheet.Sheet.{Sheet}
 use Rattle.state.specs.declared.desk.Desk.{Desk}

@@ -1,5 +1,2 @@
 pub mod Key
 pub mod Ready
-pub mod Question
-pub mod Who
-pub mod Report

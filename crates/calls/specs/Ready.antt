@@ -3,7 +3,7 @@
 use Prim.Native.Nat.{ℕ, _<_, _≤_}
 use mathlib.Core.List.{List}
 use lib.ListN.{length}
-use Rattle.cif.specs.Line.{lineMost}
+use Rattle.items.specs.Typed.{lineMost}
 use Rattle.state.specs.Desks.{benchCount, lineAt}
 use Rattle.state.specs.declared.desk.Desk.{Desk}
 

@@ -4,14 +4,15 @@ ghost use mathlib.Core.Bool.{true};
 ghost use Prim.Native.Nat.{ℕ, _+_, _<_, _≤_};
 ghost use mathlib.Core.List.{List};
 ghost use lib.ListN.{length};
-ghost use Rattle.cif.specs.Line.{lineMost, classOf};
-ghost use Rattle.cif.specs.Items.{itemCount};
+ghost use Rattle.items.specs.Typed.{lineMost};
+ghost use Rattle.cif.specs.Line.{classOf};
+ghost use Rattle.items.specs.Items.{itemCount};
 ghost use Rattle.state.specs.Lines.{typed};
 ghost use Rattle.state.specs.Desks.{benchCount, lineAt};
 ghost use Rattle.calls.specs.Key.{after, withEntry, entered, stored, enteredAs, enter, appendKey, keyStep, keyOf};
 ghost use Rattle.calls.specs.Ready.{Ready};
 use cif::line::Class;
-use cif::line::LINE_MOST;
+use items::LINE_MOST;
 use log::Written;
 use state::answer::Answer;
 use state::desk::BENCH_COUNT;
@@ -194,14 +195,14 @@ pub fn key(d: Desk, used: usize, log: &mut [u8], bench: u64, byte: u8) -> Keyed
             answer: Answer::NoBench,
         };
     }
-    if !state::sound::is_sound(d) {
+    if !soundness::is_sound(d) {
         return Keyed {
             desk: d,
             used,
             answer: Answer::Unsound,
         };
     }
-    if !state::sound::is_sound_log(d, log.len(), used) {
+    if !soundness::is_sound_log(d, log.len(), used) {
         return Keyed {
             desk: d,
             used,

@@ -12,18 +12,19 @@ use Rattle.text.specs.Run.{all, between, other}
 use Rattle.text.specs.Same.{lower}
 use Rattle.text.proofs.Bools.{and-both, cond-first}
 use Rattle.text.proofs.Runs.{run-length, all-append, all-drop}
-use Rattle.cif.specs.Value.{isValue}
-use Rattle.cif.specs.Items.{itemCount, rowOf, itemOf, passes, IsName}
-use Rattle.cif.specs.Line.{lineMost, isTyped, nameEnd, splitOf, namedClass, splitClass, classOf}
+use Rattle.values.specs.Value.{isValue}
+use Rattle.items.specs.Items.{itemCount, rowOf, itemOf, passes, IsName}
+use Rattle.items.specs.Typed.{lineMost, isTyped}
+use Rattle.cif.specs.Line.{nameEnd, splitOf, namedClass, splitClass, classOf}
 use Rattle.cif.specs.Wording.{IsLine}
-use Rattle.cif.specs.declared.items.Named.{Named}
-use Rattle.cif.specs.declared.items.Named.the-variants.{Item, Unknown}
+use Rattle.items.specs.declared.Named.{Named}
+use Rattle.items.specs.declared.Named.the-variants.{Item, Unknown}
 use Rattle.cif.specs.declared.line.Split.{Split}
 use Rattle.cif.specs.declared.line.Split.the-variants.{Parts, Malformed}
 use Rattle.cif.specs.declared.line.Class.the-variants.{Entry, BadForm, WrongKind}
-use Rattle.cif.proofs.Names.{name-found, found-name, name-typed, name-first, name-unspaced}
+use Rattle.items.proofs.Names.{name-found, found-name, name-typed, name-first, name-unspaced}
 use Rattle.cif.proofs.Splits.{split-is, start-within}
-use Rattle.cif.proofs.Values.{value-is}
+use Rattle.values.proofs.Values.{value-is}
 use Rattle.cif.proofs.Wording.{line-taken, name-at, value-at}
 
 -- the line t is an entry for item k, whose value begins at v

@@ -1,9 +1,3 @@
-pub mod NameTable
-pub mod KindTable
-pub mod Quotes
 pub mod Splits
-pub mod Passes
-pub mod Names
-pub mod Values
 pub mod Wording
 pub mod Entries

@@ -11,7 +11,7 @@ use lib.ListN.{length, drop, length-drop}
 use Rattle.text.specs.Run.{runOf, between, other, hasAt}
 use Rattle.text.proofs.Bools.{and-both, cond-first}
 use Rattle.text.proofs.Runs.{run-short}
-use Rattle.cif.specs.Value.{isValue}
+use Rattle.values.specs.Value.{isValue}
 use Rattle.cif.specs.Line.{nameEnd, valueStart, splitOf}
 use Rattle.cif.specs.declared.line.Split.{Split}
 use Rattle.cif.specs.declared.line.Split.the-variants.{Parts, Malformed}

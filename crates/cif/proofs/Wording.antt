@@ -14,10 +14,11 @@ use Rattle.text.specs.Run.{runOf, all, between, other, hasAt}
 use Rattle.text.proofs.Bools.{and-both}
 use Rattle.text.proofs.Runs.{run-append, run-taken, run-length, has-here, has-within, has-byte, all-replicate}
 use Rattle.cif.specs.Line.{nameEnd, valueStart, splitOf}
-use Rattle.cif.specs.Wording.{ValueText, IsLine}
+use Rattle.values.specs.Wording.{ValueText}
+use Rattle.cif.specs.Wording.{IsLine}
 use Rattle.cif.specs.declared.line.Split.the-variants.{Parts, Malformed}
 use Rattle.cif.proofs.Splits.{split-is}
-use Rattle.cif.proofs.Values.{value-is, value-taken, value-first}
+use Rattle.values.proofs.Values.{value-is, value-taken, value-first}
 
 -- a text of spaces alone
 all-spaces : (s : List ℕ) → all (between 32 32) s ≡ true → s ≡ replicate (length s) 32

@@ -6,22 +6,15 @@ use mathlib.Core.List.{List}
 use lib.Dec.{leb}
 use lib.ListN.{length, take, drop}
 use Rattle.text.specs.Run.{runOf, all, between, other, hasAt}
-use Rattle.cif.specs.Value.{isValue}
-use Rattle.cif.specs.Items.{itemOf, passes}
-use Rattle.cif.specs.declared.items.Named.{Named}
-use Rattle.cif.specs.declared.items.Named.the-variants.{Item, Unknown}
+use Rattle.values.specs.Value.{isValue}
+use Rattle.items.specs.Items.{itemOf, passes}
+use Rattle.items.specs.Typed.{lineMost, isTyped}
+use Rattle.items.specs.declared.Named.{Named}
+use Rattle.items.specs.declared.Named.the-variants.{Item, Unknown}
 use Rattle.cif.specs.declared.line.Split.{Split}
 use Rattle.cif.specs.declared.line.Split.the-variants.{Parts, Malformed}
 use Rattle.cif.specs.declared.line.Class.{Class}
 use Rattle.cif.specs.declared.line.Class.the-variants.{Entry, BadForm, UnknownName, WrongKind}
-
--- "one unfinished line of 0 to 80 bytes"
-abbrev pub lineMost : ℕ
-lineMost = 80
-
--- bytes that a line can hold: "32 to 126 are appended"
-abbrev pub isTyped : ℕ → Bool
-isTyped = between 32 126
 
 -- where the name ends: at the first space
 abbrev pub nameEnd : List ℕ → ℕ

@@ -1,7 +1,10 @@
 // A line: a name, spaces, a value.
 ghost use mathlib.Core.Path.{_≡_};
 ghost use Rattle.cif.specs.Line.{splitOf, splitClass, classOf, classNumber};
-use crate::items::Named;
+use items::FIRST_TYPED;
+use items::LAST_TYPED;
+use items::LINE_MOST;
+use items::Named;
 
 // Where the name ends and the value begins, or that the text is no line.
 pub enum Split {
@@ -17,14 +20,6 @@ pub enum Class {
     WrongKind,
 }
 
-// The longest line.
-pub const LINE_MOST: usize = 80;
-
-// The bytes that a line can hold.
-pub const FIRST_TYPED: u8 = 32;
-
-pub const LAST_TYPED: u8 = 126;
-
 // The parts of a line.
 pub fn split_line(s: &[u8]) -> Split
     ensures { λ r. ⌜ r ≡ splitOf (now (s .entry)) ⌝ }
@@ -38,7 +33,7 @@ pub fn split_line(s: &[u8]) -> Split
         return Split::Malformed;
     }
     let start = name + spaces;
-    if crate::value::is_value(&s[start..]) {
+    if values::is_value(&s[start..]) {
         Split::Parts(name, start)
     } else {
         Split::Malformed
@@ -52,10 +47,10 @@ fn classify_typed(s: &[u8]) -> Class
     let Split::Parts(name, start) = split_line(s) else {
         return Class::BadForm;
     };
-    let Named::Item(item) = crate::items::item_named(&s[..name]) else {
+    let Named::Item(item) = items::item_named(&s[..name]) else {
         return Class::UnknownName;
     };
-    if crate::items::passes_kind(item, &s[start..]) {
+    if items::passes_kind(item, &s[start..]) {
         Class::Entry(item, start)
     } else {
         Class::WrongKind

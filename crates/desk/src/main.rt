@@ -3,9 +3,9 @@ ghost use Rattle.session.specs.Play.{standsAfter};
 ghost use Rattle.desk.specs.Run.{PlaysPart, PlaysAll};
 use libc::STDIN_FILENO;
 use libc::STDOUT_FILENO;
+use printing::Printed;
+use printing::REPORT_MOST;
 use session::play::Played;
-use session::print::Printed;
-use session::print::REPORT_MOST;
 use state::desk::Desk;
 
 // The bytes of the log, and of a part of the input. The second is even, so that a part that is full ends with a whole pair.
@@ -61,7 +61,7 @@ fn play_all(log: &mut [u8]) -> Desk
 // Prints the report. Where it cannot be written nothing is left to do.
 fn print(d: Desk) {
     let mut out = [0u8; REPORT_MOST];
-    let Printed::Bytes(n) = session::print::print_report(d, &mut out) else {
+    let Printed::Bytes(n) = printing::print_report(d, &mut out) else {
         return;
     };
     io::write_all(STDOUT_FILENO, &out[..n]);

@@ -7,24 +7,25 @@ use Rattle.text.specs.Run.{between, other, runOf, all, hasAt}
 use Rattle.text.specs.Same.{lower, sameBy, beginsFolded}
 use Rattle.decimal.specs.Digits.{valueFrom}
 use Rattle.decimal.specs.Reading.{closes, isTail, sizeOf, pointedOf, unsignedOf, readingOf, isNumber}
-use Rattle.cif.specs.Value.{mayBegin, isReserved, isBare, isQuotedBy, isQuoted, isValue, isUnassigned, textOf}
-use Rattle.cif.specs.Items.{items, findFrom, isCategory, passes}
+use Rattle.values.specs.Value.{mayBegin, isReserved, isBare, isQuotedBy, isQuoted, isValue, isUnassigned, textOf}
+use Rattle.items.specs.Items.{items, findFrom, isCategory, passes}
 use Rattle.cif.specs.Line.{splitOf, classOf}
-use Rattle.formula.specs.Term.{kindAt, isCount, countOf, termOf}
-use Rattle.formula.specs.Terms.{cut, every as everyTerm, some}
-use Rattle.formula.specs.Elements.{sameSymbol, placeOf, symbols, elementOf, isElement, notMetals, isMetal, weights, weightIn, weightOf}
+use Rattle.terms.specs.Term.{kindAt, isCount, countOf, termOf}
+use Rattle.terms.specs.Terms.{cut, every as everyTerm, some}
+use Rattle.elements.specs.Elements.{sameSymbol, placeOf, symbols, elementOf, isElement, notMetals, isMetal, weights, weightIn, weightOf}
 use Rattle.formula.specs.Recognised.{allRecognised}
 use Rattle.formula.specs.Order.{rank, key, rising, inOrder}
 use Rattle.formula.specs.Class.{hasSymbol, hasMetal, classOf as formulaClass}
 use Rattle.formula.specs.Sum.{total, sumOf}
 use Rattle.levels.specs.Bounds.{bounds, judgedOf, gradeOf, gradedOf}
 use Rattle.state.specs.Lines.{appended, erased}
-use Rattle.alerts.specs.Rows.{missing}
-use Rattle.alerts.specs.FormulaRows.{row1, row2, row3, ratioLevel, row4, farApart, isWeighedCategory, row5}
-use Rattle.alerts.specs.GradedRows.{gradedRow, oldNameRow}
-use Rattle.alerts.specs.Threshold.{hasShape, multiplierOf, thresholdLevel, thresholdRow, row12}
-use Rattle.state.specs.Sound.{every, soundLine, soundEmpty, soundFilled, soundItem, soundLines, soundSheet, soundDesk, soundLog}
-use Rattle.cif.specs.Fits.{fits}
+use Rattle.rows.specs.Rows.{missing}
+use Rattle.formula_rows.specs.FormulaRows.{row1, row2, row3}
+use Rattle.weight_rows.specs.WeightRows.{ratioLevel, row4, farApart, isWeighedCategory, row5}
+use Rattle.graded_rows.specs.GradedRows.{gradedRow, oldNameRow}
+use Rattle.threshold.specs.Threshold.{hasShape, multiplierOf, thresholdLevel, thresholdRow, row12}
+use Rattle.soundness.specs.Sound.{every, soundLine, soundEmpty, soundFilled, soundItem, soundLines, soundSheet, soundDesk, soundLog}
+use Rattle.items.specs.Fits.{fits}
 use Rattle.calls.specs.Key.{stored, keyStep, keyOf}
 use Rattle.examples.specs.Table.{Example, sheetWith, answerOf, examples}
 

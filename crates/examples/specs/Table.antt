@@ -7,16 +7,16 @@ use mathlib.Core.List.{List, [], _∷_, _++_, map}
 use lib.ListN.{getD, set, take, replicate}
 use Rattle.text.specs.Quote.{bytes}
 use Rattle.formula.specs.Sum.{sumOf}
-use Rattle.formula.specs.declared.elements.Weight.{Weight}
-use Rattle.formula.specs.declared.elements.Weight.the-variants.{Thousandths, NoWeight}
+use Rattle.elements.specs.declared.Weight.{Weight}
+use Rattle.elements.specs.declared.Weight.the-variants.{Thousandths, NoWeight}
 use Rattle.state.specs.Lines.{lineOf}
 use Rattle.state.specs.Sheets.{filled, emptySheet}
 use Rattle.state.specs.Desks.{freshDesk, withLine}
 use Rattle.state.specs.declared.sheet.Item.{Item}
 use Rattle.state.specs.declared.sheet.Sheet.{Sheet}
-use Rattle.alerts.specs.Rows.{rowOf}
+use Rattle.rows.specs.Rows.{rowOf}
 use Rattle.alerts.specs.Sheet.{rowsOf, noRows}
-use Rattle.alerts.specs.declared.row.Row.{Row}
+use Rattle.rows.specs.declared.Row.{Row}
 use Rattle.calls.specs.Key.{After, keyStep}
 use Rattle.sequence.specs.Calls.{Call, key, State, freshState}
 use Rattle.sequence.specs.Sequences.{stateAfter}

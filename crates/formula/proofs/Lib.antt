@@ -1,11 +1,4 @@
-pub mod Counts
-pub mod TermCases
-pub mod Steps
-pub mod Places
-pub mod Weights
 pub mod Orders
 pub mod Sums
-pub mod Wording
-pub mod Tables
 pub mod Vectors
 pub mod Small

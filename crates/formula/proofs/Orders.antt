@@ -9,11 +9,11 @@ use borrow.Author.Tests.{ltb-true}
 use lib.Dec.{ltb}
 use lib.ListN.{length, getD}
 use Rattle.text.proofs.Bools.{and-both}
-use Rattle.formula.specs.Elements.{sameSymbol}
+use Rattle.elements.specs.Elements.{sameSymbol}
 use Rattle.formula.specs.Order.{rank, key, keysOf, rising}
-use Rattle.formula.specs.declared.term.Term.{Term}
-use Rattle.formula.specs.declared.term.Term.the-variants.{Well, Ill}
-use Rattle.formula.proofs.Steps.{termsFrom, Stepped}
+use Rattle.terms.specs.declared.term.Term.{Term}
+use Rattle.terms.specs.declared.term.Term.the-variants.{Well, Ill}
+use Rattle.terms.proofs.Steps.{termsFrom, Stepped}
 
 module _ {s : List ℕ} {from : ℕ} {t : Term} {n : ℕ} (h : Stepped s from t n) (low : ℕ) where
   -- an ill-formed term is left out

@@ -9,16 +9,16 @@ use borrow.Author.Tests.{leb-true}
 use lib.Dec.{leb, eqb}
 use lib.ListN.{length, length-map}
 use Rattle.text.proofs.Bools.{cond-first}
-use Rattle.formula.specs.Term.{mostCount, termOf}
-use Rattle.formula.specs.Terms.{attach, cut, termsOf}
-use Rattle.formula.specs.Elements.{weightOf}
-use Rattle.formula.specs.Sum.{mostSummed, times, plus, termWeight, total, sumOf, SmallCount, SmallWeight, heaviest}
-use Rattle.formula.specs.declared.term.Term.{Term}
-use Rattle.formula.specs.declared.term.Term.the-variants.{Well, Ill}
-use Rattle.formula.specs.declared.elements.Weight.{Weight}
-use Rattle.formula.specs.declared.elements.Weight.the-variants.{Thousandths, NoWeight}
+use Rattle.terms.specs.Term.{mostCount, termOf}
+use Rattle.terms.specs.Terms.{attach, cut, termsOf}
+use Rattle.elements.specs.Elements.{weightOf, heaviest}
+use Rattle.formula.specs.Sum.{mostSummed, times, plus, termWeight, total, sumOf, SmallCount, SmallWeight}
+use Rattle.terms.specs.declared.term.Term.{Term}
+use Rattle.terms.specs.declared.term.Term.the-variants.{Well, Ill}
+use Rattle.elements.specs.declared.Weight.{Weight}
+use Rattle.elements.specs.declared.Weight.the-variants.{Thousandths, NoWeight}
 use Rattle.formula.proofs.Sums.{term-small, product-small}
-use Rattle.formula.proofs.Weights.{Light, weight-light}
+use Rattle.elements.proofs.Weights.{Light, weight-light}
 
 times-small : (n : ℕ) (w : Weight) → n ≤ mostCount → Light w → SmallWeight (times n w)
 times-small n (Thousandths w) h l = product-small n w h l

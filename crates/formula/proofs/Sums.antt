@@ -12,15 +12,16 @@ use lib.ListN.{length, getD, drop}
 use Rattle.text.specs.Run.{all}
 use Rattle.text.proofs.Bools.{and-both}
 use Rattle.decimal.specs.Digits.{isDigit, valueOf}
-use Rattle.formula.specs.Term.{mostCount, isCapital, isSmall, kindAt, isCount, countOf, counted, termOf}
-use Rattle.formula.specs.Terms.{termsOf}
-use Rattle.formula.specs.Sum.{plus, termWeight, total, SmallCount, heaviest}
-use Rattle.formula.specs.declared.term.Count.{Count}
-use Rattle.formula.specs.declared.term.Count.the-variants.{Times, NoCount}
-use Rattle.formula.specs.declared.term.Term.{Term}
-use Rattle.formula.specs.declared.elements.Weight.{Weight}
-use Rattle.formula.specs.declared.elements.Weight.the-variants.{Thousandths, NoWeight}
-use Rattle.formula.proofs.Steps.{termsFrom, from-start, Stepped}
+use Rattle.terms.specs.Term.{mostCount, isCapital, isSmall, kindAt, isCount, countOf, counted, termOf}
+use Rattle.terms.specs.Terms.{termsOf}
+use Rattle.elements.specs.Elements.{heaviest}
+use Rattle.formula.specs.Sum.{plus, termWeight, total, SmallCount}
+use Rattle.terms.specs.declared.term.Count.{Count}
+use Rattle.terms.specs.declared.term.Count.the-variants.{Times, NoCount}
+use Rattle.terms.specs.declared.term.Term.{Term}
+use Rattle.elements.specs.declared.Weight.{Weight}
+use Rattle.elements.specs.declared.Weight.the-variants.{Thousandths, NoWeight}
+use Rattle.terms.proofs.Steps.{termsFrom, from-start, Stepped}
 
 -- a count is at most 9999
 CountSmall : Count → Type 0

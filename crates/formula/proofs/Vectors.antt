@@ -7,17 +7,17 @@ use Prim.Native.String.{String}
 use Rattle.text.specs.Quote.{bytes}
 use Rattle.text.specs.Run.{between, all}
 use Rattle.decimal.specs.Digits.{valueFrom}
-use Rattle.formula.specs.Term.{kindAt, isCount, countOf, termOf}
-use Rattle.formula.specs.Terms.{cut, every, some}
-use Rattle.formula.specs.Elements.{sameSymbol, placeOf, symbols, elementOf, isElement, notMetals, isMetal, weights, weightIn, weightOf}
+use Rattle.terms.specs.Term.{kindAt, isCount, countOf, termOf}
+use Rattle.terms.specs.Terms.{cut, every, some}
+use Rattle.elements.specs.Elements.{sameSymbol, placeOf, symbols, elementOf, isElement, notMetals, isMetal, weights, weightIn, weightOf}
 use Rattle.formula.specs.Recognised.{allRecognised}
 use Rattle.formula.specs.Order.{rank, key, rising, inOrder}
 use Rattle.formula.specs.Class.{hasSymbol, hasMetal, classOf}
 use Rattle.formula.specs.Sum.{total, sumOf}
 use Rattle.formula.specs.declared.class.Class.{Class}
 use Rattle.formula.specs.declared.class.Class.the-variants.{Inorganic, MetalOrganic, Organic}
-use Rattle.formula.specs.declared.elements.Weight.{Weight}
-use Rattle.formula.specs.declared.elements.Weight.the-variants.{Thousandths, NoWeight}
+use Rattle.elements.specs.declared.Weight.{Weight}
+use Rattle.elements.specs.declared.Weight.the-variants.{Thousandths, NoWeight}
 
 -- what is said of a formula
 pub record Answers : Type 0 where

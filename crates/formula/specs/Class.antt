@@ -3,10 +3,10 @@
 use Prim.Native.Nat.{ℕ}
 use mathlib.Core.Bool.{Bool, false, cond, _&&_}
 use mathlib.Core.List.{List}
-use Rattle.formula.specs.Terms.{termsOf, some}
-use Rattle.formula.specs.Elements.{sameSymbol, isMetal}
-use Rattle.formula.specs.declared.term.Term.{Term}
-use Rattle.formula.specs.declared.term.Term.the-variants.{Well, Ill}
+use Rattle.terms.specs.Terms.{termsOf, some}
+use Rattle.elements.specs.Elements.{sameSymbol, isMetal}
+use Rattle.terms.specs.declared.term.Term.{Term}
+use Rattle.terms.specs.declared.term.Term.the-variants.{Well, Ill}
 use Rattle.formula.specs.declared.class.Class.{Class}
 use Rattle.formula.specs.declared.class.Class.the-variants.{Inorganic, MetalOrganic, Organic}
 

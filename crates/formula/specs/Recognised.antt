@@ -3,10 +3,10 @@
 use Prim.Native.Nat.{ℕ}
 use mathlib.Core.Bool.{Bool, false}
 use mathlib.Core.List.{List}
-use Rattle.formula.specs.Terms.{termsOf, every}
-use Rattle.formula.specs.Elements.{isElement}
-use Rattle.formula.specs.declared.term.Term.{Term}
-use Rattle.formula.specs.declared.term.Term.the-variants.{Well, Ill}
+use Rattle.terms.specs.Terms.{termsOf, every}
+use Rattle.elements.specs.Elements.{isElement}
+use Rattle.terms.specs.declared.term.Term.{Term}
+use Rattle.terms.specs.declared.term.Term.the-variants.{Well, Ill}
 
 -- a term is well formed and its symbol recognised
 abbrev pub isRecognised : Term → Bool

@@ -5,13 +5,13 @@ use mathlib.Core.Bool.{cond}
 use mathlib.Core.List.{List, [], _∷_}
 use lib.Dec.{leb}
 use lib.ListN.{length}
-use Rattle.formula.specs.Term.{mostCount}
-use Rattle.formula.specs.Terms.{termsOf}
-use Rattle.formula.specs.Elements.{weightOf}
-use Rattle.formula.specs.declared.term.Term.{Term}
-use Rattle.formula.specs.declared.term.Term.the-variants.{Well, Ill}
-use Rattle.formula.specs.declared.elements.Weight.{Weight}
-use Rattle.formula.specs.declared.elements.Weight.the-variants.{Thousandths, NoWeight}
+use Rattle.terms.specs.Term.{mostCount}
+use Rattle.terms.specs.Terms.{termsOf}
+use Rattle.elements.specs.Elements.{weightOf, heaviest}
+use Rattle.terms.specs.declared.term.Term.{Term}
+use Rattle.terms.specs.declared.term.Term.the-variants.{Well, Ill}
+use Rattle.elements.specs.declared.Weight.{Weight}
+use Rattle.elements.specs.declared.Weight.the-variants.{Thousandths, NoWeight}
 
 -- the longest text that is summed; a longer one has no sum here
 abbrev pub mostSummed : ℕ
@@ -46,9 +46,6 @@ sumOf s = cond (leb (length s) mostSummed) (total (termsOf s)) NoWeight
 abbrev pub SmallCount : Term → Type 0
 SmallCount (Well a b n) = n ≤ mostCount
 SmallCount Ill = Unit {0}
-
-abbrev pub heaviest : ℕ
-heaviest = 207200
 
 abbrev pub SmallWeight : Weight → Type 0
 SmallWeight (Thousandths w) = w ≤ mostCount * heaviest

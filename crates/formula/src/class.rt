@@ -1,8 +1,8 @@
 // Row 3: the class of a formula by its elements.
 ghost use mathlib.Core.Path.{_≡_};
 ghost use Rattle.formula.specs.Class.{isSymbol, hasSymbol, isMetalTerm, hasMetal, classOf};
-use crate::term::Term;
-use crate::terms::Step;
+use terms::Step;
+use terms::term::Term;
 
 // The classes that row 3 tells apart.
 pub enum Class {
@@ -16,7 +16,7 @@ fn is_symbol(t: Term, a: u8, b: u8) -> bool
     ensures { λ r. ⌜ r ≡ isSymbol a b t ⌝ }
 {
     match t {
-        Term::Well(x, y, _) => crate::elements::same_symbol(x, y, a, b),
+        Term::Well(x, y, _) => elements::same_symbol(x, y, a, b),
         Term::Ill => false,
     }
 }
@@ -27,7 +27,7 @@ pub(crate) fn has_symbol(s: &[u8], a: u8, b: u8) -> bool
 {
     let mut from = 0;
     loop {
-        let Step::Next(term, next) = crate::terms::step_at(s, from) else {
+        let Step::Next(term, next) = terms::step_at(s, from) else {
             return false;
         };
         if is_symbol(term, a, b) {
@@ -42,7 +42,7 @@ fn is_metal_term(t: Term) -> bool
     ensures { λ r. ⌜ r ≡ isMetalTerm t ⌝ }
 {
     match t {
-        Term::Well(a, b, _) => crate::elements::is_metal(a, b),
+        Term::Well(a, b, _) => elements::is_metal(a, b),
         Term::Ill => false,
     }
 }
@@ -53,7 +53,7 @@ pub(crate) fn has_metal(s: &[u8]) -> bool
 {
     let mut from = 0;
     loop {
-        let Step::Next(term, next) = crate::terms::step_at(s, from) else {
+        let Step::Next(term, next) = terms::step_at(s, from) else {
             return false;
         };
         if is_metal_term(term) {

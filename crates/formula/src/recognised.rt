@@ -1,15 +1,15 @@
 // Row 1: every term of a formula is well formed and recognised.
 ghost use mathlib.Core.Path.{_≡_};
 ghost use Rattle.formula.specs.Recognised.{isRecognised, allRecognised};
-use crate::term::Term;
-use crate::terms::Step;
+use terms::Step;
+use terms::term::Term;
 
 // Whether a term is well formed and its symbol recognised.
 fn is_recognised(t: Term) -> bool
     ensures { λ r. ⌜ r ≡ isRecognised t ⌝ }
 {
     match t {
-        Term::Well(a, b, _) => crate::elements::is_element(a, b),
+        Term::Well(a, b, _) => elements::is_element(a, b),
         Term::Ill => false,
     }
 }
@@ -20,7 +20,7 @@ pub fn all_recognised(s: &[u8]) -> bool
 {
     let mut from = 0;
     loop {
-        let Step::Next(term, next) = crate::terms::step_at(s, from) else {
+        let Step::Next(term, next) = terms::step_at(s, from) else {
             return true;
         };
         if !is_recognised(term) {

@@ -1,9 +1,9 @@
 // Row 4: the sum of a formula's weights.
 ghost use mathlib.Core.Path.{_≡_};
 ghost use Rattle.formula.specs.Sum.{SmallCount, SmallWeight, termWeight, sumOf};
-use crate::elements::Weight;
-use crate::term::Term;
-use crate::terms::Step;
+use elements::Weight;
+use terms::Step;
+use terms::term::Term;
 
 // The longest text that is summed, far above any line: no sum within it wraps.
 pub const MOST_SUMMED: usize = 4096;
@@ -16,7 +16,7 @@ fn term_weight(t: Term) -> Weight
     let Term::Well(a, b, n) = t else {
         return Weight::NoWeight;
     };
-    let Weight::Thousandths(w) = crate::elements::weight_of(a, b) else {
+    let Weight::Thousandths(w) = elements::weight_of(a, b) else {
         return Weight::NoWeight;
     };
     Weight::Thousandths(n * w)
@@ -32,7 +32,7 @@ pub fn sum_of(s: &[u8]) -> Weight
     let mut sum: u64 = 0;
     let mut from = 0;
     loop {
-        let Step::Next(term, next) = crate::terms::step_at(s, from) else {
+        let Step::Next(term, next) = terms::step_at(s, from) else {
             return Weight::Thousandths(sum);
         };
         let Weight::Thousandths(w) = term_weight(term) else {

@@ -10,13 +10,13 @@ use Rattle.state.specs.declared.desk.Desk.{Desk}
 use Rattle.alerts.specs.Sheet.{rowsOf, noRows}
 use Rattle.sequence.specs.Calls.{Call, State}
 use Rattle.sequence.specs.Sequences.{deskAnswers}
-use Rattle.play.specs.CallBytes.{callsIn}
-use Rattle.play.specs.ReplyBytes.{replyLength}
+use Rattle.replies.specs.CallBytes.{callsIn}
+use Rattle.replies.specs.ReplyBytes.{replyLength}
 use Rattle.play.specs.DeskBytes.{deskLength, deskBytes}
 use Rattle.play.specs.Written.{answersBytes, writtenLength, AnswersWritten, AllWritten}
 use Rattle.play.specs.Play.{After, after, ran}
 use Rattle.play.specs.declared.Played.the-variants.{Done}
-use Rattle.play.proofs.Copied.{copied-next, copied-start}
+use Rattle.text.proofs.Copies.{copied-next, copied-start}
 
 pub filled : (log₀ out₀ : List ℕ) (cs : List Call) (n : ℕ) (d : Desk) (used : ℕ) {log out last : List ℕ} → AnswersWritten log₀ out₀ cs n d used log out
     → last ≡ copied out (replyLength * n) (deskBytes d used) → length (deskBytes d used) ≡ deskLength → writtenLength n ≤ length out₀ → AllWritten log₀ out₀ cs n log last

@@ -5,7 +5,7 @@ use mathlib.Core.List.{List, [], _∷_}
 use Prim.Native.Nat.{ℕ, _+_, _*_, _≤_}
 use native.Mathlib.Omega.{arith}
 use lib.ListN.{length, getD, take}
-use Rattle.play.specs.Number.{numberLength, numberOf}
+use Rattle.replies.specs.Number.{numberLength, numberOf}
 
 abbrev pub eightOf : List ℕ → ℕ
 eightOf s =

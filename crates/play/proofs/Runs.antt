@@ -7,8 +7,8 @@ use native.Mathlib.Omega.{arith}
 use lib.ListN.{length, length-append}
 use Rattle.text.specs.Copy.{copied}
 use Rattle.sequence.specs.Calls.{Call, answered, final}
-use Rattle.play.specs.ReplyBytes.{replyLength}
-use Rattle.play.proofs.Copied.{length-copied, copied-none, copied-next}
+use Rattle.replies.specs.ReplyBytes.{replyLength}
+use Rattle.text.proofs.Copies.{length-copied, copied-none, copied-next}
 
 module _ {S A : Type 0} (step : Call → S → A × S) (bytesOf : A → List ℕ) where
   -- the answers of calls in bytes

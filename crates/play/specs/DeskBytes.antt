@@ -2,13 +2,13 @@
 -- Assumes nothing.
 use Prim.Native.Nat.{ℕ, _+_, _*_}
 use mathlib.Core.List.{List, [], _∷_, _++_, flatMap}
-use Rattle.cif.specs.Line.{lineMost}
-use Rattle.cif.specs.Items.{itemCount}
+use Rattle.items.specs.Typed.{lineMost}
+use Rattle.items.specs.Items.{itemCount}
 use Rattle.state.specs.Desks.{benchCount}
 use Rattle.state.specs.declared.line.Line.{Line}
 use Rattle.state.specs.declared.sheet.Item.{Item}
 use Rattle.state.specs.declared.desk.Desk.{Desk}
-use Rattle.play.specs.Number.{numberLength, numberBytes}
+use Rattle.replies.specs.Number.{numberLength, numberBytes}
 
 abbrev pub lineLength : ℕ
 lineLength = lineMost + numberLength

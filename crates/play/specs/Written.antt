@@ -8,12 +8,12 @@ use lib.ListN.{length, drop}
 use Rattle.text.specs.Copy.{copied}
 use Rattle.state.specs.declared.desk.Desk.{Desk}
 use Rattle.alerts.specs.Sheet.{rowsOf, noRows}
-use Rattle.alerts.specs.declared.row.Rows.{Rows}
+use Rattle.rows.specs.declared.Rows.{Rows}
 use Rattle.sequence.specs.Calls.{Call, Reply, State}
 use Rattle.sequence.specs.Sequences.{deskAnswers, stateAfter}
-use Rattle.play.specs.ReplyBytes.{replyLength, replyBytes}
+use Rattle.replies.specs.ReplyBytes.{replyLength, replyBytes}
 use Rattle.play.specs.DeskBytes.{deskLength, deskBytes}
-use Rattle.play.specs.OneCall.{stateOf}
+use Rattle.replies.specs.OneCall.{stateOf}
 
 -- the answers of calls in bytes, in their order
 abbrev pub answersBytes : List (Call × Reply Rows) → List ℕ

@@ -1,10 +1,8 @@
-// Numbers in eight bytes, little-endian.
+// A number read from eight bytes, little-endian.
 ghost use mathlib.Core.Path.{_≡_};
 ghost use Prim.Native.Nat.{_<_, _≤_};
 ghost use lib.ListN.{length, take};
-ghost use Rattle.play.specs.Number.{numberLength, numberOf, numberBytes};
-
-pub const NUMBER_BYTES: usize = 8;
+ghost use Rattle.replies.specs.Number.{numberLength, numberOf};
 
 fn wide(b: u8) -> u64
     ensures { λ r. ⌜ (r ≡ b) × (r < 256) ⌝ }
@@ -25,27 +23,4 @@ pub(crate) fn read_number(s: &[u8]) -> u64
     let n2 = wide(s[2]) + 256 * n3;
     let n1 = wide(s[1]) + 256 * n2;
     wide(s[0]) + 256 * n1
-}
-
-// The eight bytes of a number.
-pub(crate) fn number_bytes(n: u64) -> [u8; NUMBER_BYTES]
-    ensures { λ r. ⌜ r ≡ numberBytes n ⌝ }
-{
-    let n1 = n / 256;
-    let n2 = n1 / 256;
-    let n3 = n2 / 256;
-    let n4 = n3 / 256;
-    let n5 = n4 / 256;
-    let n6 = n5 / 256;
-    let n7 = n6 / 256;
-    [
-        (n % 256) as u8,
-        (n1 % 256) as u8,
-        (n2 % 256) as u8,
-        (n3 % 256) as u8,
-        (n4 % 256) as u8,
-        (n5 % 256) as u8,
-        (n6 % 256) as u8,
-        (n7 % 256) as u8,
-    ]
 }

@@ -6,9 +6,9 @@ use mathlib.Core.List.{List}
 use lib.IntN.{ℤ, pos}
 use Rattle.decimal.specs.declared.Reading.{Reading}
 use Rattle.decimal.specs.declared.Reading.the-variants.{Number, Nothing}
-use Rattle.cif.specs.Value.{isValue, isQuoted, isUnassigned}
-use Rattle.cif.specs.declared.items.Named.{Named}
-use Rattle.cif.specs.declared.items.Named.the-variants.{Item, Unknown}
+use Rattle.values.specs.Value.{isValue, isQuoted, isUnassigned}
+use Rattle.items.specs.declared.Named.{Named}
+use Rattle.items.specs.declared.Named.the-variants.{Item, Unknown}
 use Rattle.cif.specs.declared.line.Split.{Split}
 use Rattle.cif.specs.declared.line.Split.the-variants.{Parts, Malformed}
 use Rattle.probe.specs.declared.ProbeNumber.{ProbeNumber}

@@ -1,12 +1,12 @@
 // The readers one by one, for the comparison program alone: harness/probe.h declares them.
 ghost use mathlib.Core.Path.{_≡_};
 ghost use Rattle.decimal.specs.Reading.{readingOf};
-ghost use Rattle.cif.specs.Items.{itemOf};
+ghost use Rattle.items.specs.Items.{itemOf};
 ghost use Rattle.cif.specs.Line.{splitOf};
 ghost use Rattle.probe.specs.Probe.{numberTold, formTold, lineTold, itemTold};
-use cif::items::Named;
 use cif::line::Split;
 use decimal::Reading;
+use items::Named;
 
 #[repr(C)]
 pub struct ProbeNumber {
@@ -43,13 +43,13 @@ pub extern "C" fn probe_number(t: &[u8]) -> ProbeNumber
 pub extern "C" fn probe_value(t: &[u8]) -> u64
     ensures { λ r. ⌜ r ≡ formTold (now (t .entry)) ⌝ }
 {
-    if cif::value::is_unassigned(t) {
+    if values::is_unassigned(t) {
         return 1;
     }
-    if cif::value::is_quoted(t) {
+    if values::is_quoted(t) {
         return 3;
     }
-    if cif::value::is_value(t) {
+    if values::is_value(t) {
         return 2;
     }
     0
@@ -79,7 +79,7 @@ pub extern "C" fn probe_line(t: &[u8]) -> ProbeLine
 pub extern "C" fn probe_item(name: &[u8]) -> u64
     ensures { λ r. ⌜ r ≡ itemTold (itemOf (now (name .entry))) ⌝ }
 {
-    let Named::Item(item) = cif::items::item_named(name) else {
+    let Named::Item(item) = items::item_named(name) else {
         return 0;
     };
     item as u64

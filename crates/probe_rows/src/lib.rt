@@ -1,7 +1,7 @@
 // The twelve rows of a sheet by value, for the comparison program alone: harness/rows.h declares them.
 ghost use mathlib.Core.Path.{_≡_};
 ghost use Rattle.alerts.specs.Sheet.{rowsOf};
-use alerts::row::Rows;
+use rows::Rows;
 use state::sheet::Sheet;
 
 // The rows of a sheet.

@@ -7,11 +7,11 @@ use native.Mathlib.Omega.{arith}
 use lib.ListN.{length, take, drop, getD-replicate}
 use lib.Seq.{take-append-seam, drop-append-seam}
 use Rattle.text.specs.Run.{all, between}
-use Rattle.cif.specs.Items.{itemCount}
+use Rattle.items.specs.Items.{itemCount}
 use Rattle.state.specs.Lines.{lineOf}
 use Rattle.state.specs.Sheets.{emptyItem, noItem, itemAt}
 use Rattle.state.specs.Desks.{benchCount, noLine}
-use Rattle.state.specs.Sound.{every, soundLine, soundEmpty, soundItem, soundLines, soundSheet, soundDesk, soundLog}
+use Rattle.soundness.specs.Sound.{every, soundLine, soundEmpty, soundItem, soundLines, soundSheet, soundDesk, soundLog}
 use Rattle.state.specs.declared.line.Line.{Line}
 use Rattle.state.specs.declared.sheet.Item.{Item}
 use Rattle.state.specs.declared.sheet.Sheet.{Sheet}

@@ -4,13 +4,13 @@ use mathlib.Core.Path.{_≡_, refl, ap}
 use mathlib.Core.Bool.{Bool, true, false, cond}
 use mathlib.Core.List.{List}
 use Prim.Native.Nat.{ℕ}
-use Rattle.state.specs.Sound.{soundDesk}
+use Rattle.soundness.specs.Sound.{soundDesk}
 use Rattle.state.specs.declared.desk.Desk.{Desk}
 use Rattle.alerts.specs.Sheet.{rowsOf, noRows}
-use Rattle.alerts.specs.declared.row.Rows.{Rows}
-use Rattle.calls.specs.Report.{reportedAs, reportedOf}
-use Rattle.calls.specs.declared.question.Asked.the-variants.{Answered, Unsound}
-use Rattle.calls.specs.declared.report.Reported.{Reported}
+use Rattle.rows.specs.declared.Rows.{Rows}
+use Rattle.questions.specs.Report.{reportedAs, reportedOf}
+use Rattle.questions.specs.declared.question.Asked.the-variants.{Answered, Unsound}
+use Rattle.questions.specs.declared.report.Reported.{Reported}
 use Rattle.sequence.specs.Calls.{Call, Reply, reported, reportOf}
 use Rattle.sequence.specs.Sequences.{Sequences}
 use Rattle.sequence.proofs.Demand3.{demand-3}
@@ -19,7 +19,7 @@ use Rattle.sequence.proofs.Demand3.{demand-3}
 pub desk-sequences : (log : List ℕ) (cs : List Call) → Sequences rowsOf noRows log cs
 desk-sequences = demand-3 rowsOf noRows
 
--- the report of the sequence is what the function `calls::report::report` gives
+-- the report of the sequence is what the function `questions::report::report` gives
 abbrev replyOf : Reported → Reply Rows
 replyOf r = reported (r .answer) (r .rows)
 

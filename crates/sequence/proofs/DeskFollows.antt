@@ -13,8 +13,9 @@ use lib.ListN.{length, getD, take, drop, set, length-append, length-drop, length
 use lib.Seq.{take-at, drop-append-add, drop-drop}
 use Rattle.text.specs.Run.{between}
 use Rattle.text.proofs.Bools.{and-both, not-holds}
-use Rattle.cif.specs.Items.{itemCount}
-use Rattle.cif.specs.Line.{lineMost, isTyped, classOf}
+use Rattle.items.specs.Items.{itemCount}
+use Rattle.items.specs.Typed.{lineMost, isTyped}
+use Rattle.cif.specs.Line.{classOf}
 use Rattle.cif.specs.declared.line.Class.{Class}
 use Rattle.cif.specs.declared.line.Class.the-variants as class
 use Rattle.cif.proofs.Entries.{entry-is}
@@ -23,18 +24,18 @@ use Rattle.log.proofs.Records.{record-length}
 use Rattle.state.specs.Lines.{typed, lineOf, emptyLine, appended, erased}
 use Rattle.state.specs.Sheets.{filled, noItem, itemAt}
 use Rattle.state.specs.Desks.{benchCount, noLine, lineAt}
-use Rattle.state.specs.Sound.{logMost, soundItem, soundEmpty, soundSheet, soundLines, soundDesk, soundLog}
+use Rattle.soundness.specs.Sound.{logMost, soundItem, soundEmpty, soundSheet, soundLines, soundDesk, soundLog}
 use Rattle.state.specs.declared.line.Line.{Line}
 use Rattle.state.specs.declared.sheet.Item.{Item}
 use Rattle.state.specs.declared.sheet.Sheet.{Sheet}
 use Rattle.state.specs.declared.desk.Desk.{Desk}
 use Rattle.state.specs.declared.answer.Answer.{Answer}
 use Rattle.state.specs.declared.answer.Answer.the-variants as answer
-use Rattle.state.proofs.Everys.{every-each}
+use Rattle.soundness.proofs.Everys.{every-each}
 use Rattle.calls.specs.Key.{After, refused, edited, entered, stored, enteredAs, keyStep, keyOf}
-use Rattle.calls.specs.Who.{nobody, toldOf, whoOf}
-use Rattle.calls.specs.declared.question.Asked.the-variants.{Answered, Unsound, NoItem}
-use Rattle.calls.specs.declared.who.Told.{Told}
+use Rattle.questions.specs.Who.{nobody, toldOf, whoOf}
+use Rattle.questions.specs.declared.question.Asked.the-variants.{Answered, Unsound, NoItem}
+use Rattle.questions.specs.declared.who.Told.{Told}
 use Rattle.sequence.specs.Calls.{report, who, Call, key, ask, keyed, reported, told, State, left, reportOf, step}
 use Rattle.sequence.specs.Work.{Entry, Work, typedBy, recordsOf, lastOf, itemsFrom, sheetOf, enterAnswer, tableAnswer, accepts, editedText, keyAnswer, keyWork, lastTold, whoLast, workStep}
 use Rattle.sequence.specs.Shaped.{Shaped}

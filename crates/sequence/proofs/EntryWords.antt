@@ -9,19 +9,20 @@ use lib.Dec.{ltb, leb}
 use lib.ListN.{length, take, drop}
 use Rattle.text.specs.Run.{all, between}
 use Rattle.text.proofs.Bools.{cond-first}
-use Rattle.cif.specs.Items.{itemOf, passes, IsName}
-use Rattle.cif.specs.Line.{lineMost, isTyped, splitOf, namedClass, splitClass, classOf}
+use Rattle.items.specs.Items.{itemOf, passes, IsName}
+use Rattle.items.specs.Typed.{lineMost, isTyped}
+use Rattle.cif.specs.Line.{splitOf, namedClass, splitClass, classOf}
 use Rattle.cif.specs.Wording.{IsLine}
-use Rattle.cif.specs.declared.items.Named.{Named}
-use Rattle.cif.specs.declared.items.Named.the-variants.{Item, Unknown}
+use Rattle.items.specs.declared.Named.{Named}
+use Rattle.items.specs.declared.Named.the-variants.{Item, Unknown}
 use Rattle.cif.specs.declared.line.Split.{Split}
 use Rattle.cif.specs.declared.line.Split.the-variants.{Parts, Malformed}
 use Rattle.cif.specs.declared.line.Class.{Class}
 use Rattle.cif.specs.declared.line.Class.the-variants as class
-use Rattle.cif.proofs.Names.{name-found}
+use Rattle.items.proofs.Names.{name-found}
 use Rattle.cif.proofs.Wording.{line-is}
 use Rattle.state.specs.Desks.{benchCount}
-use Rattle.state.specs.Sound.{logMost}
+use Rattle.soundness.specs.Sound.{logMost}
 use Rattle.state.specs.declared.answer.Answer.{Answer}
 use Rattle.state.specs.declared.answer.Answer.the-variants as answer
 use Rattle.sequence.specs.Work.{enterAnswer, tableAnswer, accepts}

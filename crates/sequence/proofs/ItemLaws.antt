@@ -10,14 +10,14 @@ use borrow.Author.Tests.{leb-true, le-leb, lt-ltb, ne-eqb}
 use lib.Dec.{ltb, leb, eqb}
 use lib.ListN.{length, drop}
 use Rattle.text.proofs.Bools.{and-both, or-either}
-use Rattle.cif.specs.Value.{isBare, isQuotedBy, isQuoted, isValue}
-use Rattle.cif.specs.Items.{rowOf, passes}
-use Rattle.cif.specs.Line.{lineMost}
-use Rattle.cif.specs.Fits.{fits}
+use Rattle.values.specs.Value.{isBare, isQuotedBy, isQuoted, isValue}
+use Rattle.items.specs.Items.{rowOf, passes}
+use Rattle.items.specs.Typed.{lineMost}
+use Rattle.items.specs.Fits.{fits}
 use Rattle.cif.proofs.Entries.{IsEntry}
 use Rattle.state.specs.Sheets.{filled, valueIn}
 use Rattle.state.specs.Desks.{benchCount}
-use Rattle.state.specs.Sound.{zeros, soundEmpty, soundFilled, soundItem}
+use Rattle.soundness.specs.Sound.{zeros, soundEmpty, soundFilled, soundItem}
 use Rattle.state.specs.declared.sheet.Item.{Item}
 use Rattle.sequence.proofs.Choices.{and-true-true, and-map, cond-map}
 use Rattle.sequence.proofs.LineLaws.{padded-zeros, typed-lineOf}

@@ -12,9 +12,10 @@ use lib.ListN.{length, getD, take, drop, set, length-set, length-append, length-
 use lib.Seq.{getD-set-same, getD-set-other}
 use Rattle.text.specs.Run.{all}
 use Rattle.text.proofs.Bools.{and-both}
-use Rattle.cif.specs.Items.{itemCount}
-use Rattle.cif.specs.Line.{lineMost, isTyped, classOf}
-use Rattle.cif.specs.Fits.{fits}
+use Rattle.items.specs.Items.{itemCount}
+use Rattle.items.specs.Typed.{lineMost, isTyped}
+use Rattle.cif.specs.Line.{classOf}
+use Rattle.items.specs.Fits.{fits}
 use Rattle.cif.specs.declared.line.Class.{Class}
 use Rattle.cif.specs.declared.line.Class.the-variants as class
 use Rattle.cif.proofs.Entries.{entry-is}
@@ -23,13 +24,13 @@ use Rattle.log.proofs.Records.{record-length}
 use Rattle.state.specs.Lines.{typed, lineOf, emptyLine, appended, erased}
 use Rattle.state.specs.Sheets.{filled, noItem}
 use Rattle.state.specs.Desks.{benchCount, noLine, lineAt, withLine}
-use Rattle.state.specs.Sound.{logMost, soundLine, soundLines, soundItem, soundSheet, soundDesk, soundLog}
+use Rattle.soundness.specs.Sound.{logMost, soundLine, soundLines, soundItem, soundSheet, soundDesk, soundLog}
 use Rattle.state.specs.declared.line.Line.{Line}
 use Rattle.state.specs.declared.sheet.Item.{Item}
 use Rattle.state.specs.declared.desk.Desk.{Desk}
 use Rattle.state.specs.declared.answer.Answer.{Answer}
 use Rattle.state.specs.declared.answer.Answer.the-variants as answer
-use Rattle.state.proofs.Everys.{every-each}
+use Rattle.soundness.proofs.Everys.{every-each}
 use Rattle.calls.specs.Key.{After, refused, edited, withEntry, entered, stored, enteredAs, appendKey, keyStep, keyOf}
 use Rattle.sequence.specs.Shaped.{Shaped}
 use Rattle.sequence.proofs.Choices.{cond-keeps, and-true-true}

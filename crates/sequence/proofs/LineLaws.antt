@@ -12,9 +12,9 @@ use lib.Seq.{set-at, take-at, drop-at, length-take-le, split-at}
 use Rattle.text.specs.Run.{all, between}
 use Rattle.text.proofs.Bools.{and-both}
 use Rattle.text.proofs.Runs.{all-append, all-take, all-replicate}
-use Rattle.cif.specs.Line.{lineMost, isTyped}
+use Rattle.items.specs.Typed.{lineMost, isTyped}
 use Rattle.state.specs.Lines.{padded, typed, lineOf, appended, erased}
-use Rattle.state.specs.Sound.{zeros, soundLine}
+use Rattle.soundness.specs.Sound.{zeros, soundLine}
 use Rattle.state.specs.declared.line.Line.{Line}
 use Rattle.sequence.proofs.Choices.{and-true-true}
 

@@ -7,7 +7,7 @@ use Prim.Native.Nat.{ℕ, zero, suc, _+_, _<_}
 use native.Mathlib.Nat.{add-zero, add-suc, suc-add, not-suc-le-zero, le-of-suc-le-suc}
 use lib.ListN.{length, getD, set}
 use Rattle.text.proofs.Bools.{and-both}
-use Rattle.state.specs.Sound.{every}
+use Rattle.soundness.specs.Sound.{every}
 use Rattle.sequence.proofs.Choices.{and-true-true}
 
 pub every-set : {A : Type 0} (p : ℕ → A → Bool) (s : List A) (n i : ℕ) (x : A) → every p n s ≡ true → p (n + i) x ≡ true → every p n (set s i x) ≡ true

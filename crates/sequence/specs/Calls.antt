@@ -5,15 +5,15 @@ use Prim.Native.Nat.{ℕ}
 use mathlib.Core.Bool.{cond}
 use mathlib.Core.List.{List, [], _∷_}
 use Rattle.state.specs.Desks.{freshDesk}
-use Rattle.state.specs.Sound.{soundDesk}
+use Rattle.soundness.specs.Sound.{soundDesk}
 use Rattle.state.specs.declared.sheet.Sheet.{Sheet}
 use Rattle.state.specs.declared.desk.Desk.{Desk}
 use Rattle.state.specs.declared.answer.Answer.{Answer}
 use Rattle.calls.specs.Key.{After, keyOf}
-use Rattle.calls.specs.Who.{whoOf}
-use Rattle.calls.specs.declared.question.Asked.{Asked}
-use Rattle.calls.specs.declared.question.Asked.the-variants.{Answered, Unsound}
-use Rattle.calls.specs.declared.who.Told.{Told}
+use Rattle.questions.specs.Who.{whoOf}
+use Rattle.questions.specs.declared.question.Asked.{Asked}
+use Rattle.questions.specs.declared.question.Asked.the-variants.{Answered, Unsound}
+use Rattle.questions.specs.declared.who.Told.{Told}
 
 -- "Two questions": Report, and Who with an item number
 pub data Question : Type 0 where

@@ -18,14 +18,14 @@ use mathlib.Core.Bool.{true, cond, _&&_}
 use mathlib.Core.List.{List, [], _∷_, _++_, map}
 use lib.Dec.{leb, eqb}
 use lib.ListN.{length, take, drop, set}
-use Rattle.cif.specs.Items.{itemCount, IsName}
+use Rattle.items.specs.Items.{itemCount, IsName}
 use Rattle.cif.specs.Wording.{IsLine}
 use Rattle.state.specs.Lines.{lineOf}
 use Rattle.state.specs.Sheets.{itemAt}
-use Rattle.state.specs.Sound.{logMost, soundDesk, soundLog}
+use Rattle.soundness.specs.Sound.{logMost, soundDesk, soundLog}
 use Rattle.state.specs.declared.sheet.Sheet.{Sheet}
 use Rattle.state.specs.declared.answer.Answer.the-variants.{Accepted}
-use Rattle.calls.specs.declared.question.Asked.the-variants.{Answered}
+use Rattle.questions.specs.declared.question.Asked.the-variants.{Answered}
 use Rattle.sequence.specs.Calls.{Call, key, ask, report, who, Reply, keyed, reported, told, State, freshState, step, answered, final}
 use Rattle.sequence.specs.Gather.{gather, gatherAnswered, Regrouped}
 use Rattle.sequence.specs.Work.{Entry, Work, noWork, typedBy, recordsOf, lastOf, sheetOf, accepts, whoLast, workStep}

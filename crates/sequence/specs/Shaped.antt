@@ -3,8 +3,8 @@
 use Prim.Native.Nat.{ℕ, _<_}
 use mathlib.Core.Path.{_≡_}
 use lib.ListN.{length, getD}
-use Rattle.cif.specs.Line.{lineMost}
-use Rattle.cif.specs.Items.{itemCount}
+use Rattle.items.specs.Typed.{lineMost}
+use Rattle.items.specs.Items.{itemCount}
 use Rattle.state.specs.Sheets.{noItem}
 use Rattle.state.specs.Desks.{benchCount, lineAt}
 use Rattle.state.specs.declared.desk.Desk.{Desk}

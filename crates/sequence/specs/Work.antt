@@ -6,21 +6,22 @@ use mathlib.Core.Bool.{Bool, cond, _&&_}
 use mathlib.Core.List.{List, [], _∷_, _++_}
 use lib.Dec.{ltb, leb, eqb}
 use lib.ListN.{length, getD, take, drop, set, replicate}
-use Rattle.cif.specs.Line.{lineMost, isTyped, classOf}
-use Rattle.cif.specs.Items.{itemCount}
+use Rattle.items.specs.Typed.{lineMost, isTyped}
+use Rattle.cif.specs.Line.{classOf}
+use Rattle.items.specs.Items.{itemCount}
 use Rattle.cif.specs.declared.line.Class.{Class}
 use Rattle.cif.specs.declared.line.Class.the-variants as class
 use Rattle.log.specs.Record.{recordLength, recordOf}
 use Rattle.state.specs.Sheets.{filled, emptyItem}
 use Rattle.state.specs.Desks.{benchCount, answerNumber}
-use Rattle.state.specs.Sound.{logMost}
+use Rattle.soundness.specs.Sound.{logMost}
 use Rattle.state.specs.declared.sheet.Item.{Item}
 use Rattle.state.specs.declared.sheet.Sheet.{Sheet}
 use Rattle.state.specs.declared.answer.Answer.{Answer}
 use Rattle.state.specs.declared.answer.Answer.the-variants.{Accepted, NoBench, Unsound, NoKey, LineFull, BadForm, UnknownName, WrongKind, NoRoom}
-use Rattle.calls.specs.Who.{nobody}
-use Rattle.calls.specs.declared.question.Asked.the-variants.{Answered, NoItem}
-use Rattle.calls.specs.declared.who.Told.{Told}
+use Rattle.questions.specs.Who.{nobody}
+use Rattle.questions.specs.declared.question.Asked.the-variants.{Answered, NoItem}
+use Rattle.questions.specs.declared.who.Told.{Told}
 use Rattle.sequence.specs.Calls.{Call, key, ask, report, who, Reply, keyed, reported, told}
 
 -- an accepted entry: its bench, the item that its name has, its value, and the whole line

@@ -1,6 +1,2 @@
 pub mod Pairs
-pub mod Pages
-pub mod Digits
-pub mod RowNames
-pub mod Prints
 pub mod Samples

@@ -1,5 +1,2 @@
-// A session of the program `desk`: the pairs that it reads, and the report that it prints (document 01, "Measured examples").
-// play: pairs of a bench digit and a key byte. print: the printed report. page: a text under way.
-mod page;
+// A session of the program `desk`: the pairs that it reads (document 01, "Measured examples").
 pub mod play;
-pub mod print;

@@ -5,7 +5,7 @@ use mathlib.Core.Bool.{cond, _&&_}
 use mathlib.Core.List.{List, _++_}
 use lib.Dec.{ltb, leb}
 use lib.ListN.{length, take, set, replicate}
-use Rattle.cif.specs.Line.{lineMost}
+use Rattle.items.specs.Typed.{lineMost}
 use Rattle.state.specs.declared.line.Line.{Line}
 
 -- the text, and zeros to the longest line: "unused bytes are zero"

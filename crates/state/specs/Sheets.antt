@@ -3,8 +3,8 @@
 use Prim.Native.Nat.{ℕ, _-_}
 use mathlib.Core.List.{List, []}
 use lib.ListN.{length, getD, take, replicate}
-use Rattle.cif.specs.Line.{lineMost}
-use Rattle.cif.specs.Items.{itemCount}
+use Rattle.items.specs.Typed.{lineMost}
+use Rattle.items.specs.Items.{itemCount}
 use Rattle.state.specs.Lines.{padded}
 use Rattle.state.specs.declared.sheet.Item.{Item}
 use Rattle.state.specs.declared.sheet.Sheet.{Sheet}

@@ -1,7 +1,7 @@
 // One unfinished line: its bytes, of which the first len are typed and the others zero.
 ghost use mathlib.Core.Path.{_≡_};
 ghost use Rattle.state.specs.Lines.{emptyLine, appended, erased};
-use cif::line::LINE_MOST;
+use items::LINE_MOST;
 
 #[repr(C)]
 pub struct Line {

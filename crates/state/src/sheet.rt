@@ -1,8 +1,8 @@
 // The sheet: ten items and the count of accepted entries.
 ghost use mathlib.Core.Path.{_≡_};
 ghost use Rattle.state.specs.Sheets.{emptySheet};
-use cif::items::ITEM_COUNT;
-use cif::line::LINE_MOST;
+use items::ITEM_COUNT;
+use items::LINE_MOST;
 
 // A value as typed, of which the first len bytes count, its entry number and its bench. An empty item is zero.
 #[repr(C)]

@@ -2,3 +2,4 @@ pub mod Quote
 pub mod Run
 pub mod Same
 pub mod Copy
+pub mod Each

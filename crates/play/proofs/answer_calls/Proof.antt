@@ -10,9 +10,9 @@ use lib.ListN.{length, drop, length-take, length-drop, length-map}
 use Rattle.text.proofs.Parts.{rest-part}
 use Rattle.state.specs.declared.desk.Desk.{Desk}
 use Rattle.sequence.specs.Calls.{freshState}
-use Rattle.play.specs.CallBytes.{callLength, callIn, callsIn}
-use Rattle.play.specs.ReplyBytes.{replyLength, replyBytes}
-use Rattle.play.specs.OneCall.{One, stateOf, deskStep, oneOf}
+use Rattle.replies.specs.CallBytes.{callLength, callIn, callsIn}
+use Rattle.replies.specs.ReplyBytes.{replyLength, replyBytes}
+use Rattle.replies.specs.OneCall.{One, stateOf, deskStep, oneOf}
 use Rattle.play.proofs.CallLaws.{calls-next, none-left}
 use Rattle.play.proofs.Runs.{Ran, ran-none, ran-next, ran-all}
 use Rattle.play.proofs.answer_calls.Statement.{statement}

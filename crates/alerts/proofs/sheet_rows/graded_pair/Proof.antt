@@ -7,7 +7,7 @@ use Prim.Native.Nat.{ℕ}
 use lib.ListN.{length, take, length-take}
 use Rattle.state.specs.Sheets.{valueIn}
 use Rattle.alerts.specs.Groups.{GradedPairOf}
-use Rattle.alerts.proofs.Judged.{clamped}
+use Rattle.alerts.proofs.Items.{clamped}
 use borrow.Author.Needs.{needs}
 use Rattle.alerts.proofs.sheet_rows.graded_pair.Statement.{statement}
 use Rattle.alerts.proofs.sheet_rows.graded_pair.Tie as tie

@@ -4,8 +4,8 @@ use native.Mathlib.Omega.{arith}
 use mathlib.Core.Path.{_≡_, _∙_, ap}
 use Prim.Native.Nat.{ℕ}
 use lib.ListN.{length, take, length-take}
-use Rattle.alerts.specs.Threshold.{row12}
-use Rattle.alerts.proofs.Judged.{clamped}
+use Rattle.threshold.specs.Threshold.{row12}
+use Rattle.alerts.proofs.Items.{clamped}
 use borrow.Author.Needs.{needs}
 use Rattle.alerts.proofs.sheet_rows.threshold_of.Statement.{statement}
 use Rattle.alerts.proofs.sheet_rows.threshold_of.Tie as tie

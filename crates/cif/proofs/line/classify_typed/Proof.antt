@@ -5,10 +5,10 @@ use mathlib.Core.Path.{_≡_, sym, _∙_, ap}
 use Prim.Native.Nat.{_≤_}
 use lib.ListN.{length, take, drop, length-take}
 use Rattle.text.proofs.Parts.{rest-part}
-use Rattle.cif.specs.Items.{itemOf, passes}
+use Rattle.items.specs.Items.{itemOf, passes}
 use Rattle.cif.specs.Line.{splitOf, splitClass, namedClass}
-use Rattle.cif.specs.declared.items.Named.{Named}
-use Rattle.cif.specs.declared.items.Named.the-variants.{Item}
+use Rattle.items.specs.declared.Named.{Named}
+use Rattle.items.specs.declared.Named.the-variants.{Item}
 use Rattle.cif.specs.declared.line.Split.{Split}
 use Rattle.cif.specs.declared.line.Split.the-variants.{Parts}
 use Rattle.cif.proofs.Splits.{split-within}

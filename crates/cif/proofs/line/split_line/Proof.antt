@@ -7,7 +7,7 @@ use borrow.Author.Tests.{le-leb, lt-leb, not-true, not-false}
 use lib.ListN.{drop}
 use Rattle.text.specs.Run.{runOf, between, hasAt}
 use Rattle.text.proofs.Parts.{rest-part}
-use Rattle.cif.specs.Value.{isValue}
+use Rattle.values.specs.Value.{isValue}
 use Rattle.cif.specs.Line.{splitOf}
 use borrow.Author.Needs.{needs}
 use Rattle.cif.proofs.line.split_line.Statement.{statement}

@@ -5,9 +5,9 @@ use mathlib.Core.Path.{_≡_, sym, ap, _∙_}
 use mathlib.Core.Bool.{true, false}
 use Prim.Native.Nat.{_+_, _-_}
 use lib.ListN.{length}
-use Rattle.formula.specs.Terms.{some}
+use Rattle.terms.specs.Terms.{some}
 use Rattle.formula.specs.Class.{isSymbol, hasSymbol}
-use Rattle.formula.proofs.Steps.{termsFrom, from-start, Stepped, step-next, step-end, falls, some-next, some-end}
+use Rattle.terms.proofs.Steps.{termsFrom, from-start, Stepped, step-next, step-end, falls, some-next, some-end}
 use Rattle.formula.proofs.class.has_symbol.Statement.{statement}
 use Rattle.formula.proofs.class.has_symbol.Tie as tie
 

@@ -8,8 +8,8 @@ use Prim.Native.Nat.{_+_, _-_}
 use borrow.Author.Tests.{lt-ltb, le-ltb}
 use lib.ListN.{length}
 use Rattle.formula.specs.Order.{keysOf, rising, inOrder}
-use Rattle.formula.specs.declared.term.Term.{Term}
-use Rattle.formula.proofs.Steps.{termsFrom, from-start, Stepped, step-next, step-end, falls}
+use Rattle.terms.specs.declared.term.Term.{Term}
+use Rattle.terms.proofs.Steps.{termsFrom, from-start, Stepped, step-next, step-end, falls}
 use Rattle.formula.proofs.Orders.{order-skip, order-next, order-end}
 use Rattle.formula.proofs.order.in_order.Statement.{statement}
 use Rattle.formula.proofs.order.in_order.Tie as tie

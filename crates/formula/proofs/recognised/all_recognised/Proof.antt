@@ -6,9 +6,9 @@ use mathlib.Core.Bool.{true, false}
 use Prim.Native.Nat.{_+_, _-_}
 use borrow.Author.Tests.{not-true, not-false}
 use lib.ListN.{length}
-use Rattle.formula.specs.Terms.{every}
+use Rattle.terms.specs.Terms.{every}
 use Rattle.formula.specs.Recognised.{isRecognised, allRecognised}
-use Rattle.formula.proofs.Steps.{termsFrom, from-start, Stepped, step-next, step-end, falls, every-next, every-end}
+use Rattle.terms.proofs.Steps.{termsFrom, from-start, Stepped, step-next, step-end, falls, every-next, every-end}
 use Rattle.formula.proofs.recognised.all_recognised.Statement.{statement}
 use Rattle.formula.proofs.recognised.all_recognised.Tie as tie
 

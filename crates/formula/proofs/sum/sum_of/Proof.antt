@@ -6,11 +6,12 @@ use mathlib.Core.Path.{_≡_, sym, subst, _∙_}
 use Prim.Native.Nat.{_+_, _-_, _*_, _≤_}
 use borrow.Author.Tests.{le-leb, lt-leb}
 use lib.ListN.{length}
-use Rattle.formula.specs.Term.{mostCount}
-use Rattle.formula.specs.Terms.{termsOf}
-use Rattle.formula.specs.Sum.{heaviest, SmallWeight, plus, total, sumOf}
-use Rattle.formula.specs.declared.elements.Weight.the-variants.{Thousandths}
-use Rattle.formula.proofs.Steps.{termsFrom, Stepped, step-next, step-end, falls}
+use Rattle.terms.specs.Term.{mostCount}
+use Rattle.terms.specs.Terms.{termsOf}
+use Rattle.elements.specs.Elements.{heaviest}
+use Rattle.formula.specs.Sum.{SmallWeight, plus, total, sumOf}
+use Rattle.elements.specs.declared.Weight.the-variants.{Thousandths}
+use Rattle.terms.proofs.Steps.{termsFrom, Stepped, step-next, step-end, falls}
 use Rattle.formula.proofs.Sums.{sum-start, step-small, sum-next, sum-none, sum-end}
 use Rattle.formula.proofs.sum.sum_of.Statement.{statement}
 use Rattle.formula.proofs.sum.sum_of.Tie as tie

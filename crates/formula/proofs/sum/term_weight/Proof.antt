@@ -3,9 +3,10 @@
 use native.Mathlib.Omega.{arith}
 use mathlib.Core.Path.{_≡_, sym, ap, subst, _∙_}
 use Prim.Native.Nat.{_≤_, _*_}
-use Rattle.formula.specs.Term.{mostCount}
-use Rattle.formula.specs.Sum.{SmallCount, heaviest, times, termWeight}
-use Rattle.formula.proofs.Weights.{Light, weight-light}
+use Rattle.terms.specs.Term.{mostCount}
+use Rattle.elements.specs.Elements.{heaviest}
+use Rattle.formula.specs.Sum.{SmallCount, times, termWeight}
+use Rattle.elements.proofs.Weights.{Light, weight-light}
 use Rattle.formula.proofs.Sums.{product-small}
 use borrow.Author.Needs.{needs}
 use Rattle.formula.proofs.sum.term_weight.Statement.{statement}

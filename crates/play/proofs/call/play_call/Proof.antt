@@ -6,9 +6,9 @@ use Prim.Native.Nat.{ℕ}
 use denote.Ref.{now}
 use lib.ListN.{getD, take, length-take, length-drop}
 use Rattle.text.proofs.Parts.{rest-part}
-use Rattle.play.specs.Number.{numberOf}
-use Rattle.play.specs.CallBytes.{callOf}
-use Rattle.play.specs.OneCall.{stateOf, oneOf}
+use Rattle.replies.specs.Number.{numberOf}
+use Rattle.replies.specs.CallBytes.{callOf}
+use Rattle.replies.specs.OneCall.{stateOf, oneOf}
 use borrow.Author.Needs.{needs}
 use Rattle.play.proofs.call.play_call.Statement.{statement}
 use Rattle.play.proofs.call.play_call.Tie as tie

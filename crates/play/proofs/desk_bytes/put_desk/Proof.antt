@@ -7,12 +7,12 @@ use mathlib.Core.List.{List, _++_, flatMap, append-assoc}
 use Prim.Native.Nat.{ℕ, _+_, _*_}
 use denote.Ref.{now}
 use lib.ListN.{length, length-append}
-use Rattle.cif.specs.Items.{itemCount}
+use Rattle.items.specs.Items.{itemCount}
 use Rattle.state.specs.Desks.{benchCount}
 use Rattle.text.specs.Copy.{copied}
-use Rattle.play.specs.Number.{numberLength, numberBytes}
+use Rattle.replies.specs.Number.{numberLength, numberBytes}
 use Rattle.play.specs.DeskBytes.{lineLength, itemLength, lineBytes, itemBytes}
-use Rattle.play.proofs.Copied.{copied-next}
+use Rattle.text.proofs.Copies.{copied-next}
 use Rattle.play.proofs.desk_bytes.put_desk.Statement.{statement}
 use Rattle.play.proofs.desk_bytes.put_desk.Tie as tie
 

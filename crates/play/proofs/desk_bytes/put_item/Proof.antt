@@ -6,10 +6,10 @@ use mathlib.Core.List.{List, [], _∷_, _++_, append-assoc}
 use Prim.Native.Nat.{ℕ, _+_, _*_}
 use denote.Ref.{now}
 use lib.ListN.{length, length-append}
-use Rattle.cif.specs.Line.{lineMost}
+use Rattle.items.specs.Typed.{lineMost}
 use Rattle.text.specs.Copy.{copied}
-use Rattle.play.specs.Number.{numberLength, numberBytes}
-use Rattle.play.proofs.Copied.{copied-next}
+use Rattle.replies.specs.Number.{numberLength, numberBytes}
+use Rattle.text.proofs.Copies.{copied-next}
 use borrow.Author.Needs.{needs}
 use Rattle.play.proofs.desk_bytes.put_item.Statement.{statement}
 use Rattle.play.proofs.desk_bytes.put_item.Tie as tie

@@ -6,10 +6,10 @@ use mathlib.Core.Path.{_≡_, sym, _∙_}
 use Prim.Native.Nat.{_≤_, _-_}
 use denote.Ref.{now}
 use lib.ListN.{length, length-map}
-use Rattle.cif.specs.Items.{itemCount}
+use Rattle.items.specs.Items.{itemCount}
 use Rattle.state.specs.Sheets.{noItem}
 use Rattle.play.specs.DeskBytes.{itemLength, itemBytes}
-use Rattle.play.proofs.Puts.{Put, put-none, put-next, put-all}
+use Rattle.replies.proofs.Puts.{Put, put-none, put-next, put-all}
 use Rattle.play.proofs.desk_bytes.put_items.Statement.{statement}
 use Rattle.play.proofs.desk_bytes.put_items.Tie as tie
 

@@ -5,9 +5,9 @@ use mathlib.Core.Path.{_≡_}
 use Prim.Native.Nat.{_+_}
 use denote.Ref.{now}
 use lib.ListN.{length, length-append}
-use Rattle.cif.specs.Line.{lineMost}
-use Rattle.play.specs.Number.{numberBytes}
-use Rattle.play.proofs.Copied.{copied-next}
+use Rattle.items.specs.Typed.{lineMost}
+use Rattle.replies.specs.Number.{numberBytes}
+use Rattle.text.proofs.Copies.{copied-next}
 use borrow.Author.Needs.{needs}
 use Rattle.play.proofs.desk_bytes.put_line.Statement.{statement}
 use Rattle.play.proofs.desk_bytes.put_line.Tie as tie

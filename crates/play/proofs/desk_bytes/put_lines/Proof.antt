@@ -8,7 +8,7 @@ use denote.Ref.{now}
 use lib.ListN.{length, length-map}
 use Rattle.state.specs.Desks.{benchCount, noLine}
 use Rattle.play.specs.DeskBytes.{lineLength, lineBytes}
-use Rattle.play.proofs.Puts.{Put, put-none, put-next, put-all}
+use Rattle.replies.proofs.Puts.{Put, put-none, put-next, put-all}
 use Rattle.play.proofs.desk_bytes.put_lines.Statement.{statement}
 use Rattle.play.proofs.desk_bytes.put_lines.Tie as tie
 

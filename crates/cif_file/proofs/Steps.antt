@@ -1,0 +1,59 @@
+-- The cases of `fileStep`, one law each.
+-- Assumes nothing.
+use mathlib.Core.Path.{_≡_, ap, _∙_}
+use mathlib.Core.Bool.{true, false, _&&_}
+use mathlib.Core.List.{List}
+use Prim.Native.Nat.{ℕ, _≤_, _<_}
+use borrow.Author.Tests.{le-leb, lt-leb, leb-true}
+use lib.Dec.{leb}
+use lib.ListN.{length}
+use Rattle.text.specs.Copy.{copied}
+use Rattle.text.specs.Run.{all}
+use Rattle.text.proofs.Bools.{and-both}
+use Rattle.text.proofs.Copies.{copied-start}
+use Rattle.soundness.specs.Sound.{soundDesk}
+use Rattle.state.specs.declared.desk.Desk.{Desk}
+use Rattle.cif_file.specs.Block.{blockMost, isBlockByte, isBlockName}
+use Rattle.cif_file.specs.File.{fileOf}
+use Rattle.cif_file.specs.Answers.{after, refused, fileStep}
+use Rattle.cif_file.specs.declared.answer.FileAnswer.{FileAnswer}
+use Rattle.cif_file.specs.declared.answer.FileAnswer.the-variants.{Written, Unsound, BadBlockName, NoRoom}
+use Rattle.cif_file.specs.declared.file.Filed.{Filed}
+
+-- a name is short
+pub block-short : (name : List ℕ) → isBlockName name ≡ true → length name ≤ blockMost
+unfolding isBlockName
+block-short name h =
+    let b = and-both (leb 1 (length name)) (leb (length name) blockMost && all isBlockByte name) h in
+    leb-true (length name) blockMost (and-both (leb (length name) blockMost) (all isBlockByte name) (b .1) .0)
+
+-- a refusal's result
+refused-is : (r : Filed) (a : FileAnswer) (out : List ℕ) → (r .answer ≡ a) × (r .count ≡ 0) → after r out ≡ refused a out
+refused-is r a out e =
+    ap (λ (x : FileAnswer). record { answer = x; count = r .count; out = out }) (e .0) ∙ ap (λ (n : ℕ). record { answer = a; count = n; out = out }) (e .1)
+
+module _ (d : Desk) (name out : List ℕ) (r : Filed) where
+  pub step-unsound : soundDesk d ≡ false → (r .answer ≡ Unsound) × (r .count ≡ 0) → after r out ≡ fileStep d name out
+  unfolding fileStep
+  step-unsound s e = refused-is r Unsound out e ∙ simp s
+
+  module _ (s : soundDesk d ≡ true) where
+    pub step-bad-name : isBlockName name ≡ false → (r .answer ≡ BadBlockName) × (r .count ≡ 0) → after r out ≡ fileStep d name out
+    unfolding fileStep
+    step-bad-name b e = refused-is r BadBlockName out e ∙ simp (s, b)
+
+    module _ (b : isBlockName name ≡ true) where
+      pub step-no-room : length out < length (fileOf name (d .sheet)) → (r .answer ≡ NoRoom) × (r .count ≡ 0) → after r out ≡ fileStep d name out
+      unfolding fileStep
+      step-no-room h e = refused-is r NoRoom out e ∙ simp (s, b, lt-leb (length (fileOf name (d .sheet))) (length out) h)
+
+      pub step-written : {last : List ℕ} → length (fileOf name (d .sheet)) ≤ length out → last ≡ copied out 0 (fileOf name (d .sheet)) → r .answer ≡ Written
+          → r .count ≡ length (fileOf name (d .sheet)) → after r last ≡ fileStep d name out
+      unfolding fileStep
+      step-written {last} h e a n =
+          let file = fileOf name (d .sheet) in
+          let bytes = e ∙ copied-start out file h in
+          ap (λ (x : FileAnswer). record { answer = x; count = r .count; out = last }) a
+          ∙ ap (λ (m : ℕ). record { answer = Written; count = m; out = last }) n
+          ∙ ap (λ (l : List ℕ). record { answer = Written; count = length file; out = l }) bytes
+          ∙ simp (s, b, le-leb (length file) (length out) h)

@@ -1,0 +1,42 @@
+-- `cif_file::block::is_block_byte` meets its contract: each return has the tests of `isBlockByte` on its way.
+-- Assumes nothing.
+use mathlib.Core.Path.{sym, _∙_}
+use borrow.Author.Needs.{needs}
+use Rattle.cif_file.specs.Block.{isBlockByte}
+use Rattle.cif_file.proofs.block.is_block_byte.Statement.{statement}
+use Rattle.cif_file.proofs.block.is_block_byte.Tie as tie
+
+is-between-requires : tie.Need-is-between-requires
+is-between-requires c κs = search needs
+
+returns : tie.Need-returns
+unfolding isBlockByte
+returns c = simp (sym (c .before .is-between .ensures) ∙ c .if1 .taken)
+
+is-between-requires-2 : tie.Need-is-between-requires-2
+is-between-requires-2 c κs = search needs
+
+returns-2 : tie.Need-returns-2
+unfolding isBlockByte
+returns-2 c = let f = c .before .before in simp (sym (f .before .is-between .ensures) ∙ f .if1 .left, sym (c .before .is-between2 .ensures) ∙ c .if2 .taken)
+
+is-between-requires-3 : tie.Need-is-between-requires-3
+is-between-requires-3 c κs = search needs
+
+returns-3 : tie.Need-returns-3
+unfolding isBlockByte
+returns-3 c =
+    let g = c .before .before in
+    let f = g .before .before in
+    simp (sym (f .before .is-between .ensures) ∙ f .if1 .left, sym (g .before .is-between2 .ensures) ∙ g .if2 .left, sym (c .before .is-between3 .ensures) ∙ c .if3 .taken)
+
+returns-4 : tie.Need-returns-4
+unfolding isBlockByte
+returns-4 c =
+    let g = c .before .before in
+    let f = g .before .before in
+    simp (sym (f .before .is-between .ensures) ∙ f .if1 .left, sym (g .before .is-between2 .ensures) ∙ g .if2 .left, sym (c .before .is-between3 .ensures) ∙ c .if3 .left)
+
+pub is-block-byte-spec : {M : Type 1} → statement M
+is-block-byte-spec =
+    tie.close (tie.spec is-between-requires returns is-between-requires-2 returns-2 is-between-requires-3 returns-3 returns-4)

@@ -1,0 +1,116 @@
+-- `cif_file::file::put_filled` meets its contract: the name, a space, the value and the end byte, one after the other.
+-- Assumes nothing.
+use borrow.Author.Needs.{needs}
+use native.Mathlib.Omega.{arith}
+use mathlib.Core.Path.{_≡_, refl, sym, ap, _∙_}
+use Prim.Native.Nat.{_+_}
+use denote.Ref.{now}
+use lib.ListN.{length}
+use lib.Seq.{length-take-le}
+use Rattle.text.specs.Copy.{copied}
+use Rattle.items.specs.Typed.{lineMost}
+use Rattle.items.specs.Items.{nameOf}
+use Rattle.state.specs.Sheets.{valueIn}
+use Rattle.cif_file.specs.File.{ended, itemText}
+use Rattle.cif_file.proofs.Files.{ended-length, line-copied, value-part}
+use Rattle.cif_file.proofs.file.put_filled.Statement.{statement}
+use Rattle.cif_file.proofs.file.put_filled.Tie as tie
+
+long : (s : tie.Start) → length (s .args .item .value) ≡ lineMost
+long s = search needs
+
+size : (s : tie.Start) → length (ended (itemText (s .args .k + 1) (valueIn (s .args .item)))) ≡ length (nameOf (s .args .k + 1)) + 1 + length (valueIn (s .args .item)) + 1
+size s = ended-length (s .args .k + 1) (valueIn (s .args .item))
+
+add-name-length : tie.Need-add-name-length
+add-name-length c = search needs
+
+name-length-requires : tie.Need-name-length-requires
+name-length-requires c κs = search needs
+
+add-space : tie.Need-add-space
+add-space c = omega (arith, size (c .before .before), c .name-length .ensures)
+
+add-start : tie.Need-add-start
+add-start c = omega (arith, size (c .before .before), c .name-length .ensures)
+
+value-length-requires : tie.Need-value-length-requires
+value-length-requires c κs = search needs
+
+add-end : tie.Need-add-end
+add-end c = omega (arith, size (c .before .before .before), c .before .name-length .ensures, c .value-length .ensures)
+
+add-copy-name : tie.Need-add-copy-name
+add-copy-name c = search needs
+
+copy-name-requires : tie.Need-copy-name-requires
+copy-name-requires c κs = search needs
+
+slice-aggregate-copy-in : tie.Need-slice-aggregate-copy-in
+slice-aggregate-copy-in c = search needs
+
+copy-in-requires : tie.Need-copy-in-requires
+copy-in-requires c κs = search needs
+
+array-share-prefix-value : tie.Need-array-share-prefix-value
+array-share-prefix-value c = omega (arith, long (c .before .before .before .before .before .before .before .before .before .before .before .before .before .before), c .before .before .before .before .before .before .before .before .before .before .before .value-length .ensures)
+
+slice-aggregate-copy-in-2 : tie.Need-slice-aggregate-copy-in-2
+slice-aggregate-copy-in-2 c =
+    let s = c .before .before .before .before .before .before .before .before .before .before .before .before .before .before .before in
+    sym (length-take-le _ (s .args .item .value) (omega (arith, long s, c .before .before .before .before .before .before .before .before .before .before .before .before .value-length .ensures)))
+
+copy-in-requires-2 : tie.Need-copy-in-requires-2
+copy-in-requires-2 c κs = search needs
+
+slice-aggregate-copy-in-3 : tie.Need-slice-aggregate-copy-in-3
+slice-aggregate-copy-in-3 c = search needs
+
+copy-in-requires-3 : tie.Need-copy-in-requires-3
+copy-in-requires-3 c κs = search needs
+
+add-result : tie.Need-add-result
+add-result c =
+    let s = c .before .before .before .before .before .before .before .before .before .before .before .before .before .before .before .before .before .before .before .before .before .before .before in
+    omega (arith, size s, c .before .before .before .before .before .before .before .before .before .before .before .before .before .before .before .before .before .before .before .before .before .name-length .ensures, c .before .before .before .before .before .before .before .before .before .before .before .before .before .before .before .before .before .before .before .before .value-length .ensures)
+
+same-length : tie.Need-same-length
+same-length c = search needs
+
+returns : tie.Need-returns
+returns c =
+    let p₄ = c .before .before in
+    let p₃ = p₄ .before .before .before .before .before in
+    let p₂ = p₃ .before .before .before .before .before in
+    let p₁ = p₂ .before .before .before .before .before in
+    let s = c .before .before .before .before .before .before .before .before .before .before .before .before .before .before .before .before .before .before .before .before .before .before .before in
+    let a = s .args in
+    let name = c .before .before .before .before .before .before .before .before .before .before .before .before .before .before .before .before .before .before .before .before .before .name-length .ensures in
+    let n = c .before .before .before .before .before .before .before .before .before .before .before .before .before .before .before .before .before .before .before .before .value-length .ensures in
+    let part = value-part (a .item) (n .0) in
+    let wrote : p₄ .copy-in3 .last .0 ≡ copied (now (a .out)) (a .at) (ended (itemText (a .k + 1) (valueIn (a .item))))
+    = line-copied (now (a .out)) (a .at) (a .k + 1) (valueIn (a .item)) _ _ _ (p₁ .copy-name .ensures) (p₂ .copy-in .ensures) (p₃ .copy-in2 .ensures ∙ ap (copied (p₂ .copy-in .last .0) _) part) (p₄ .copy-in3 .ensures) (omega (arith, name)) refl (omega (arith, n)) (s .pre .0) in
+    (wrote, omega (arith, size s, name, n))
+
+pub put-filled-spec : {M : Type 1} → statement M
+put-filled-spec =
+    tie.close
+    (tie.spec
+    add-name-length
+    name-length-requires
+    add-space
+    add-start
+    value-length-requires
+    add-end
+    add-copy-name
+    copy-name-requires
+    slice-aggregate-copy-in
+    copy-in-requires
+    array-share-prefix-value
+    slice-aggregate-copy-in-2
+    copy-in-requires-2
+    slice-aggregate-copy-in-3
+    copy-in-requires-3
+    add-result
+    same-length
+    returns)

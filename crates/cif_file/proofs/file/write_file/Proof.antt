@@ -1,0 +1,107 @@
+-- `cif_file::file::write_file` meets its contract: each return has the tests of `fileStep` on its way.
+-- Assumes nothing.
+use borrow.Author.Needs.{needs}
+use borrow.Author.Tests.{not-true, not-false}
+use native.Mathlib.Omega.{arith}
+use mathlib.Core.Path.{_≡_, refl, sym, _∙_}
+use mathlib.Core.Bool.{true}
+use denote.Ref.{now}
+use Rattle.soundness.specs.Sound.{soundDesk}
+use Rattle.cif_file.specs.Block.{isBlockName}
+use Rattle.cif_file.specs.Answers.{fileStep}
+use Rattle.cif_file.proofs.Files.{file-length}
+use Rattle.cif_file.proofs.Steps.{block-short, step-unsound, step-bad-name, step-no-room, step-written}
+use Rattle.cif_file.proofs.file.write_file.Statement.{statement}
+use Rattle.cif_file.proofs.file.write_file.Tie as tie
+
+sound : (e : tie.Else1) → soundDesk (e .before .before .before .before .args .d) ≡ true
+sound e = sym (e .before .is-sound .ensures) ∙ not-false _ (e .if1 .left)
+
+named : (e : tie.Else2) → isBlockName (now (e .before .before .before .before .before .before .args .name)) ≡ true
+named e = sym (e .before .is-block-name .ensures) ∙ not-false _ (e .if2 .left)
+
+is-sound-requires : tie.Need-is-sound-requires
+is-sound-requires c κs = search needs
+
+refuse-requires : tie.Need-refuse-requires
+refuse-requires c κs = search needs
+
+returns : tie.Need-returns
+returns c =
+    let i = c .before in
+    let a = i .before .before .before .before .args in
+    step-unsound (a .d) (now (a .name)) (now (a .out)) _ (sym (i .before .is-sound .ensures) ∙ not-true _ (i .if1 .taken)) (c .refuse .ensures)
+
+is-block-name-requires : tie.Need-is-block-name-requires
+is-block-name-requires c κs = search needs
+
+refuse-requires-2 : tie.Need-refuse-requires-2
+refuse-requires-2 c κs = search needs
+
+returns-2 : tie.Need-returns-2
+returns-2 c =
+    let i = c .before in
+    let n = i .before in
+    let e = n .before in
+    let a = e .before .before .before .before .args in
+    step-bad-name (a .d) (now (a .name)) (now (a .out)) _ (sound e) (sym (n .is-block-name .ensures) ∙ not-true _ (i .if2 .taken)) (c .refuse2 .ensures)
+
+add-count : tie.Need-add-count
+add-count c = let e = c .before in omega (arith, block-short (now (e .before .before .before .before .before .before .args .name)) (named e))
+
+lines-length-requires : tie.Need-lines-length-requires
+lines-length-requires c κs = search needs
+
+add-count-2 : tie.Need-add-count-2
+add-count-2 c = let e = c .before .before in omega (arith, block-short (now (e .before .before .before .before .before .before .args .name)) (named e), c .lines-length .ensures)
+
+refuse-requires-3 : tie.Need-refuse-requires-3
+refuse-requires-3 c κs = search needs
+
+returns-3 : tie.Need-returns-3
+returns-3 c =
+    let i = c .before in
+    let l = i .before in
+    let e = l .before .before in
+    let a = e .before .before .before .before .before .before .args in
+    let n = file-length (now (a .name)) (a .d .sheet) in
+    step-no-room (a .d) (now (a .name)) (now (a .out)) _ (sound (e .before .before)) (named e) (omega (arith, n, l .lines-length .ensures, i .if3 .taken)) (c .refuse3 .ensures)
+
+put-file-requires : tie.Need-put-file-requires
+put-file-requires c κs =
+    let i = c .before in
+    let l = i .before in
+    let a = l .before .before .before .before .before .before .before .before .args in
+    omega (arith, file-length (now (a .name)) (a .d .sheet), l .lines-length .ensures, i .if3 .left)
+
+same-length : tie.Need-same-length
+same-length c = search needs
+
+returns-4 : tie.Need-returns-4
+returns-4 c =
+    let p = c .before .before in
+    let i = p .before .before in
+    let l = i .before in
+    let e = l .before .before in
+    let a = e .before .before .before .before .before .before .args in
+    let n = file-length (now (a .name)) (a .d .sheet) in
+    step-written (a .d) (now (a .name)) (now (a .out)) _ (sound (e .before .before)) (named e) (omega (arith, n, l .lines-length .ensures, i .if3 .left)) (p .put-file .ensures) refl (omega (arith, n, l .lines-length .ensures))
+
+pub write-file-spec : {M : Type 1} → statement M
+write-file-spec =
+    tie.close
+    (tie.spec
+    is-sound-requires
+    refuse-requires
+    returns
+    is-block-name-requires
+    refuse-requires-2
+    returns-2
+    add-count
+    lines-length-requires
+    add-count-2
+    refuse-requires-3
+    returns-3
+    put-file-requires
+    same-length
+    returns-4)

@@ -1,0 +1,48 @@
+-- What writing the file answers and leaves, for every desk, block name and lent bytes (document 02, No. 1).
+-- Assumes nothing.
+use Prim.Native.Nat.{ℕ}
+use mathlib.Core.Bool.{cond}
+use mathlib.Core.List.{List, _++_}
+use lib.Dec.{leb}
+use lib.ListN.{length, drop}
+use Rattle.soundness.specs.Sound.{soundDesk}
+use Rattle.state.specs.declared.desk.Desk.{Desk}
+use Rattle.cif_file.specs.Block.{isBlockName}
+use Rattle.cif_file.specs.File.{fileOf}
+use Rattle.cif_file.specs.declared.answer.FileAnswer.{FileAnswer}
+use Rattle.cif_file.specs.declared.answer.FileAnswer.the-variants.{Written, Unsound, BadBlockName, NoRoom}
+use Rattle.cif_file.specs.declared.file.Filed.{Filed}
+
+-- "Refusals: 2 as for questions, then 11 bad block name, then 10 no room"
+abbrev pub fileNumber : FileAnswer → ℕ
+fileNumber Written = 0
+fileNumber Unsound = 2
+fileNumber BadBlockName = 11
+fileNumber NoRoom = 10
+
+-- everything that writing leaves: the answer, "how many bytes it wrote", and the whole of the lent bytes
+pub record After : Type 0 where
+  pub answer : FileAnswer
+  pub count : ℕ
+  pub out : List ℕ
+
+-- the function's result and what the lent bytes then hold
+abbrev pub after : Filed → List ℕ → After
+after r out = record { answer = r .answer; count = r .count; out = out }
+
+-- "with a refusal, 0 and none at all"
+abbrev pub refused : FileAnswer → List ℕ → After
+refused a out = record { answer = a; count = 0; out = out }
+
+-- "It says how many bytes it wrote and touches none after them"
+abbrev pub written : List ℕ → List ℕ → After
+written file out = record { answer = Written; count = length file; out = file ++ drop (length file) out }
+
+-- the file in the lent bytes; no room "exactly when the whole file is longer than the lent bytes"
+abbrev pub writtenIn : List ℕ → List ℕ → After
+writtenIn file out = cond (leb (length file) (length out)) (written file out) (refused NoRoom out)
+
+-- "Refusal numbers .. each given exactly when its condition is the first that applies"
+unfoldable pub fileStep : Desk → List ℕ → List ℕ → After
+fileStep d name out =
+    cond (soundDesk d) (cond (isBlockName name) (writtenIn (fileOf name (d .sheet)) out) (refused BadBlockName out)) (refused Unsound out)

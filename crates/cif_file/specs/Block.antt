@@ -1,0 +1,20 @@
+-- The name of a block (document 02, No. 1).
+-- Assumes nothing.
+use Prim.Native.Nat.{ℕ}
+use mathlib.Core.Bool.{Bool, _&&_, _||_}
+use mathlib.Core.List.{List}
+use lib.Dec.{leb, eqb}
+use lib.ListN.{length}
+use Rattle.text.specs.Run.{all, between}
+
+-- the longest name
+abbrev pub blockMost : ℕ
+blockMost = 32
+
+-- "letters, digits or -"
+unfoldable pub isBlockByte : ℕ → Bool
+isBlockByte b = between 65 90 b || (between 97 122 b || (between 48 57 b || eqb b 45))
+
+-- "a block name (1 to 32 letters, digits or -)"
+unfoldable pub isBlockName : List ℕ → Bool
+isBlockName name = leb 1 (length name) && (leb (length name) blockMost && all isBlockByte name)

@@ -1,0 +1,48 @@
+// How long a sheet's file is.
+ghost use mathlib.Core.Path.{_≡_};
+ghost use Prim.Native.Nat.{_≤_, _<_, _+_, _*_};
+ghost use lib.ListN.{length};
+ghost use Rattle.text.specs.Each.{linesFrom};
+ghost use Rattle.items.specs.Typed.{lineMost};
+ghost use Rattle.items.specs.Items.{itemCount};
+ghost use Rattle.state.specs.Sheets.{valueIn};
+ghost use Rattle.cif_file.specs.File.{itemLine};
+use items::ITEM_COUNT;
+use items::LINE_MOST;
+use state::sheet::Item;
+use state::sheet::Sheet;
+
+// The length of an item's value; no more than all bytes of the array count.
+pub(crate) fn value_length(item: Item) -> usize
+    ensures { λ r. ⌜ (r ≡ length (valueIn item)) × (r ≤ lineMost) ⌝ }
+{
+    if LINE_MOST < item.len {
+        return LINE_MOST;
+    }
+    item.len
+}
+
+// The length of the line of item k + 1; 0 for an empty item.
+fn line_length(k: usize, item: Item) -> usize
+    requires { ⌜ k < itemCount ⌝ }
+    ensures { λ r. ⌜ (r ≡ length (itemLine (k + 1) item)) × (r ≤ 110) ⌝ }
+{
+    if item.len == 0 {
+        return 0;
+    }
+    items::name_length(k + 1) + 1 + value_length(item) + 1
+}
+
+// The length of all lines of a sheet's items.
+pub(crate) fn lines_length(sheet: Sheet) -> usize
+    ensures { λ r. ⌜ (r ≡ length (linesFrom itemLine 1 (sheet .items))) × (r ≤ 110 * itemCount) ⌝ }
+{
+    let mut n = 0;
+    let mut i = 0;
+    while i < ITEM_COUNT {
+        let item = sheet.items[i];
+        n += line_length(i, item);
+        i += 1;
+    }
+    n
+}

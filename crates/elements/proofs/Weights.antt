@@ -1,0 +1,70 @@
+-- The code's tables of weights: the symbols in one, the weights in another. That they are the table of weights is a test that antt computes.
+-- Assumes nothing.
+use mathlib.Core.Path.{_≡_, refl, _∙_}
+use mathlib.Core.Bool.{Bool, true, false, cond, _&&_}
+use mathlib.Core.List.{List, [], _∷_}
+use Prim.Native.Nat.{ℕ, _≤_}
+use borrow.Author.Tests.{leb-true}
+use lib.Dec.{leb}
+use lib.ListN.{getD}
+use Rattle.text.proofs.Bools.{and-both}
+use Rattle.elements.specs.Elements.{sameSymbol, after, placeOf, WeightRow, weights, weightIn, weightOf, heaviest}
+use Rattle.elements.specs.declared.Place.{Place}
+use Rattle.elements.specs.declared.Place.the-variants.{At, Nowhere}
+use Rattle.elements.specs.declared.Weight.{Weight}
+use Rattle.elements.specs.declared.Weight.the-variants.{Thousandths, NoWeight}
+
+-- the symbols of a table of weights, two bytes each
+unfoldable pub symbolsIn : List WeightRow → List ℕ
+symbolsIn [] = []
+symbolsIn (w ∷ ws) = getD (w .symbol) 0 0 ∷ (getD (w .symbol) 1 0 ∷ symbolsIn ws)
+
+-- its weights
+unfoldable pub valuesIn : List WeightRow → List ℕ
+valuesIn [] = []
+valuesIn (w ∷ ws) = w .thousandths ∷ valuesIn ws
+
+-- the weight at a place
+abbrev pub weightAt : List ℕ → Place → Weight
+weightAt vs (At k) = Thousandths (getD vs k 0)
+weightAt vs Nowhere = NoWeight
+
+weight-after : (v : ℕ) (vs : List ℕ) (p : Place) → weightAt vs p ≡ weightAt (v ∷ vs) (after p)
+weight-after v vs (At k) = refl
+weight-after v vs Nowhere = refl
+
+found-by : (v : ℕ) (vs : List ℕ) (p : Place) (u : Weight) (t : Bool) → u ≡ weightAt vs p → cond t (Thousandths v) u ≡ weightAt (v ∷ vs) (cond t (At 0) (after p))
+found-by v vs p u true e = refl
+found-by v vs p u false e = e ∙ weight-after v vs p
+
+-- the weight of a symbol stands where its symbol does
+pub weight-place : (ws : List WeightRow) (a b : ℕ) → weightIn ws a b ≡ weightAt (valuesIn ws) (placeOf (symbolsIn ws) a b)
+unfolding weightIn symbolsIn valuesIn placeOf
+weight-place [] a b = refl
+weight-place (w ∷ ws) a b =
+    found-by (w .thousandths) (valuesIn ws) (placeOf (symbolsIn ws) a b) (weightIn ws a b)
+    (sameSymbol (getD (w .symbol) 0 0) (getD (w .symbol) 1 0) a b) (weight-place ws a b)
+
+-- no weight is above the heaviest
+abbrev pub Light : Weight → Type 0
+Light (Thousandths w) = w ≤ heaviest
+Light NoWeight = Unit {0}
+
+allLight : List WeightRow → Bool
+allLight [] = true
+allLight (w ∷ ws) = leb (w .thousandths) heaviest && allLight ws
+
+light-by : (v : ℕ) (u : Weight) (t : Bool) → v ≤ heaviest → Light u → Light (cond t (Thousandths v) u)
+light-by v u true h l = h
+light-by v u false h l = l
+
+light : (ws : List WeightRow) (a b : ℕ) → allLight ws ≡ true → Light (weightIn ws a b)
+unfolding weightIn allLight
+light [] a b e = tt
+light (w ∷ ws) a b e =
+    let h = and-both (leb (w .thousandths) heaviest) (allLight ws) e in
+    light-by (w .thousandths) (weightIn ws a b) (sameSymbol (getD (w .symbol) 0 0) (getD (w .symbol) 1 0) a b) (leb-true _ _ (h .0)) (light ws a b (h .1))
+
+pub weight-light : (a b : ℕ) → Light (weightOf a b)
+unfolding weightOf weights allLight
+weight-light a b = light weights a b refl

@@ -1,0 +1,28 @@
+-- `elements::is_element` meets its contract: each return is a case of `isSomewhere`.
+-- Assumes nothing.
+use mathlib.Core.Path.{sym, ap, _∙_}
+use Rattle.elements.specs.Elements.{isSomewhere, isElement}
+use borrow.Author.Needs.{needs}
+use Rattle.elements.proofs.is_element.Statement.{statement}
+use Rattle.elements.proofs.is_element.Tie as tie
+
+find-element-requires : tie.Need-find-element-requires
+find-element-requires c κs = search needs
+
+enum-told : tie.Need-enum-told
+enum-told c = search needs
+
+enum-told-2 : tie.Need-enum-told-2
+enum-told-2 c = search needs
+
+returns : tie.Need-returns
+unfolding isElement
+returns c = sym (ap isSomewhere (sym (c .before .before .find-element .ensures) ∙ c .enum-told2 .given .1))
+
+returns-2 : tie.Need-returns-2
+unfolding isElement
+returns-2 c = sym (ap isSomewhere (sym (c .before .before .find-element .ensures) ∙ c .enum-told .given .1))
+
+pub is-element-spec : {M : Type 1} → statement M
+is-element-spec =
+    tie.close (tie.spec find-element-requires enum-told enum-told-2 returns returns-2)

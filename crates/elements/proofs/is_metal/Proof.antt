@@ -1,0 +1,58 @@
+-- `elements::is_metal` meets its contract: the code's table of symbols that are no metals is the definition's.
+-- Assumes nothing.
+use mathlib.Core.Path.{_≡_, sym, ap, _∙_}
+use mathlib.Core.Bool.{Bool, true, false, _&&_, not}
+use borrow.Author.Tests.{not-true, not-false}
+use Rattle.elements.specs.Elements.{isSomewhere, isElement, placeOf, notMetals, isMetal}
+use borrow.Author.Needs.{needs}
+use Rattle.elements.proofs.is_metal.Statement.{statement}
+use Rattle.elements.proofs.is_metal.Tie as tie
+
+-- a recognised symbol is that of a metal where the table of the others has it nowhere
+metal : (c : tie.After-find) (x : Bool) → isSomewhere (c .find .result) ≡ x → not x ≡ isMetal (c .before .before .before .before .args .a) (c .before .before .before .before .args .b)
+unfolding isMetal notMetals
+metal c x e =
+    let s = c .before .before in
+    let a = s .before .before .args .a in
+    let b = s .before .before .args .b in
+    let known : isElement a b ≡ true = sym (s .before .is-element .ensures) ∙ not-false _ (s .if1 .left) in
+    let there : isSomewhere (placeOf notMetals a b) ≡ x = ap isSomewhere (sym (c .find .ensures)) ∙ e in
+    sym (ap (λ (y : Bool). y && not (isSomewhere (placeOf notMetals a b))) known ∙ ap not there)
+
+is-element-requires : tie.Need-is-element-requires
+is-element-requires c κs = search needs
+
+returns : tie.Need-returns
+unfolding isMetal
+returns c = simp (sym (c .before .is-element .ensures) ∙ not-true _ (c .if1 .taken))
+
+slice-aggregate-find : tie.Need-slice-aggregate-find
+slice-aggregate-find c = search needs
+
+find-requires : tie.Need-find-requires
+find-requires c κs = search needs
+
+enum-told : tie.Need-enum-told
+enum-told c = search needs
+
+enum-told-2 : tie.Need-enum-told-2
+enum-told-2 c = search needs
+
+returns-2 : tie.Need-returns-2
+returns-2 c = metal (c .before .before) false (ap isSomewhere (c .enum-told2 .given .1))
+
+returns-3 : tie.Need-returns-3
+returns-3 c = metal (c .before .before) true (ap isSomewhere (c .enum-told .given .1))
+
+pub is-metal-spec : {M : Type 1} → statement M
+is-metal-spec =
+    tie.close
+    (tie.spec
+    is-element-requires
+    returns
+    slice-aggregate-find
+    find-requires
+    enum-told
+    enum-told-2
+    returns-2
+    returns-3)

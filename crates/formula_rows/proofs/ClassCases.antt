@@ -1,0 +1,34 @@
+-- The cases of row 3's definition, each with the tests that lead to it.
+-- Assumes nothing.
+use mathlib.Core.Path.{_≡_}
+use mathlib.Core.Bool.{true, false}
+use mathlib.Core.List.{List}
+use Prim.Native.Nat.{ℕ}
+use Rattle.values.specs.Value.{textOf}
+use Rattle.formula.specs.Recognised.{allRecognised}
+use Rattle.formula.specs.Class.{classOf}
+use Rattle.rows.specs.Rows.{rowOf, noAlert, missing}
+use Rattle.formula_rows.specs.FormulaRows.{inClass, row3}
+
+module _ (f c : List ℕ) where
+  pub class-formula : missing f ≡ true → row3 f c ≡ rowOf 1 1
+  unfolding row3
+  class-formula p = simp p
+
+  module _ (p : missing f ≡ false) where
+    pub class-category : missing c ≡ true → row3 f c ≡ rowOf 1 1
+    unfolding row3
+    class-category q = simp (p, q)
+
+    module _ (q : missing c ≡ false) where
+      pub class-unread : allRecognised (textOf f) ≡ false → row3 f c ≡ rowOf 1 2
+      unfolding row3
+      class-unread r = simp (p, q, r)
+
+      pub class-match : allRecognised (textOf f) ≡ true → inClass (classOf (textOf f)) (textOf c) ≡ true → row3 f c ≡ noAlert
+      unfolding row3
+      class-match r s = simp (p, q, r, s)
+
+      pub class-mismatch : allRecognised (textOf f) ≡ true → inClass (classOf (textOf f)) (textOf c) ≡ false → row3 f c ≡ rowOf 1 0
+      unfolding row3
+      class-mismatch r s = simp (p, q, r, s)

@@ -1,0 +1,128 @@
+-- `formula_rows::class_row` meets its contract: each return is a case of `row3`.
+-- Assumes nothing.
+use mathlib.Core.Path.{_≡_, sym, _∙_, ap}
+use mathlib.Core.Bool.{Bool, true, false}
+use mathlib.Core.List.{List}
+use Prim.Native.Nat.{ℕ}
+use denote.Ref.{now}
+use borrow.Author.Tests.{not-true, not-false}
+use Rattle.values.specs.Value.{textOf}
+use Rattle.formula.specs.Recognised.{allRecognised}
+use Rattle.formula.specs.Class.{classOf}
+use Rattle.formula.specs.declared.class.Class.{Class}
+use Rattle.formula_rows.specs.FormulaRows.{inClass}
+use Rattle.formula_rows.proofs.ClassCases.{class-formula, class-category, class-unread, class-match, class-mismatch}
+use borrow.Author.Needs.{needs}
+use Rattle.formula_rows.proofs.class_row.Statement.{statement}
+use Rattle.formula_rows.proofs.class_row.Tie as tie
+
+is-missing-requires : tie.Need-is-missing-requires
+is-missing-requires c κs = search needs
+
+make-row-requires : tie.Need-make-row-requires
+make-row-requires c κs = search needs
+
+returns : tie.Need-returns
+returns c = let a = c .before .before .before .before .before .args in c .make-row .ensures ∙ sym (class-formula (now (a .formula)) (now (a .category)) (sym (c .before .before .is-missing .ensures) ∙ c .before .if1 .taken))
+
+is-missing-requires-2 : tie.Need-is-missing-requires-2
+is-missing-requires-2 c κs = search needs
+
+make-row-requires-2 : tie.Need-make-row-requires-2
+make-row-requires-2 c κs = search needs
+
+returns-2 : tie.Need-returns-2
+returns-2 c =
+    let e1 = c .before .before .before in
+    let a = e1 .before .before .before .before .args in
+    c .make-row2 .ensures
+    ∙ sym (class-category (now (a .formula)) (now (a .category)) (sym (e1 .before .is-missing .ensures) ∙ e1 .if1 .left) (sym (c .before .before .is-missing2 .ensures) ∙ c .before .if2 .taken))
+
+text-of-requires : tie.Need-text-of-requires
+text-of-requires c κs = search needs
+
+all-recognised-requires : tie.Need-all-recognised-requires
+all-recognised-requires c κs = search needs
+
+make-row-requires-3 : tie.Need-make-row-requires-3
+make-row-requires-3 c κs = search needs
+
+returns-3 : tie.Need-returns-3
+returns-3 c =
+    let e3 = c .before in
+    let t = e3 .before .before in
+    let e2 = t .before in
+    let e1 = e2 .before .before in
+    let a = e1 .before .before .before .before .args in
+    c .make-row3 .ensures
+    ∙ sym (class-unread (now (a .formula)) (now (a .category)) (sym (e1 .before .is-missing .ensures) ∙ e1 .if1 .left) (sym (e2 .before .is-missing2 .ensures) ∙ e2 .if2 .left)
+    (ap allRecognised (sym (t .text-of .ensures)) ∙ sym (e3 .before .all-recognised .ensures) ∙ not-true _ (e3 .if3 .taken)))
+
+class-of-requires : tie.Need-class-of-requires
+class-of-requires c κs = search needs
+
+text-of-requires-2 : tie.Need-text-of-requires-2
+text-of-requires-2 c κs = search needs
+
+is-in-class-requires : tie.Need-is-in-class-requires
+is-in-class-requires c κs = search needs
+
+make-row-requires-4 : tie.Need-make-row-requires-4
+make-row-requires-4 c κs = search needs
+
+make-row-requires-5 : tie.Need-make-row-requires-5
+make-row-requires-5 c κs = search needs
+
+returns-4 : tie.Need-returns-4
+returns-4 c =
+    let e4 = c .before in
+    let t2 = e4 .before .before in
+    let k = t2 .before in
+    let e3 = k .before in
+    let t = e3 .before .before in
+    let e2 = t .before in
+    let e1 = e2 .before .before in
+    let a = e1 .before .before .before .before .args in
+    let cls = k .class-of .ensures ∙ ap classOf (t .text-of .ensures) in
+    let inside = ap (λ (x : List ℕ). inClass (classOf (textOf (now (a .formula)))) x) (sym (t2 .text-of2 .ensures)) ∙ ap (λ (x : Class). inClass x (now (t2 .text-of2 .result))) (sym cls) ∙ sym (e4 .before .is-in-class .ensures) ∙ e4 .if4 .taken in
+    c .make-row4 .ensures
+    ∙ sym (class-match (now (a .formula)) (now (a .category)) (sym (e1 .before .is-missing .ensures) ∙ e1 .if1 .left) (sym (e2 .before .is-missing2 .ensures) ∙ e2 .if2 .left)
+    (ap allRecognised (sym (t .text-of .ensures)) ∙ sym (e3 .before .all-recognised .ensures) ∙ not-false _ (e3 .if3 .left)) inside)
+
+returns-5 : tie.Need-returns-5
+returns-5 c =
+    let e4 = c .before in
+    let t2 = e4 .before .before in
+    let k = t2 .before in
+    let e3 = k .before in
+    let t = e3 .before .before in
+    let e2 = t .before in
+    let e1 = e2 .before .before in
+    let a = e1 .before .before .before .before .args in
+    let cls = k .class-of .ensures ∙ ap classOf (t .text-of .ensures) in
+    let inside = ap (λ (x : List ℕ). inClass (classOf (textOf (now (a .formula)))) x) (sym (t2 .text-of2 .ensures)) ∙ ap (λ (x : Class). inClass x (now (t2 .text-of2 .result))) (sym cls) ∙ sym (e4 .before .is-in-class .ensures) ∙ e4 .if4 .left in
+    c .make-row5 .ensures
+    ∙ sym (class-mismatch (now (a .formula)) (now (a .category)) (sym (e1 .before .is-missing .ensures) ∙ e1 .if1 .left) (sym (e2 .before .is-missing2 .ensures) ∙ e2 .if2 .left)
+    (ap allRecognised (sym (t .text-of .ensures)) ∙ sym (e3 .before .all-recognised .ensures) ∙ not-false _ (e3 .if3 .left)) inside)
+
+pub class-row-spec : {M : Type 1} → statement M
+class-row-spec =
+    tie.close
+    (tie.spec
+    is-missing-requires
+    make-row-requires
+    returns
+    is-missing-requires-2
+    make-row-requires-2
+    returns-2
+    text-of-requires
+    all-recognised-requires
+    make-row-requires-3
+    returns-3
+    class-of-requires
+    text-of-requires-2
+    is-in-class-requires
+    make-row-requires-4
+    make-row-requires-5
+    returns-4
+    returns-5)

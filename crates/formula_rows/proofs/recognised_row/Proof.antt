@@ -1,0 +1,62 @@
+-- `formula_rows::recognised_row` meets its contract: each return has the tests of `row1` on its way.
+-- Assumes nothing.
+use mathlib.Core.Path.{sym, _∙_, ap}
+use Rattle.formula.specs.Recognised.{allRecognised}
+use Rattle.formula_rows.specs.FormulaRows.{row1}
+use borrow.Author.Needs.{needs}
+use Rattle.formula_rows.proofs.recognised_row.Statement.{statement}
+use Rattle.formula_rows.proofs.recognised_row.Tie as tie
+
+is-missing-requires : tie.Need-is-missing-requires
+is-missing-requires c κs = search needs
+
+make-row-requires : tie.Need-make-row-requires
+make-row-requires c κs = search needs
+
+returns : tie.Need-returns
+unfolding row1
+returns c = c .make-row .ensures ∙ simp (sym (c .before .before .is-missing .ensures) ∙ c .before .if1 .taken)
+
+text-of-requires : tie.Need-text-of-requires
+text-of-requires c κs = search needs
+
+all-recognised-requires : tie.Need-all-recognised-requires
+all-recognised-requires c κs = search needs
+
+make-row-requires-2 : tie.Need-make-row-requires-2
+make-row-requires-2 c κs = search needs
+
+make-row-requires-3 : tie.Need-make-row-requires-3
+make-row-requires-3 c κs = search needs
+
+returns-2 : tie.Need-returns-2
+unfolding row1
+returns-2 c =
+    let a = c .before in
+    let t = a .before .before in
+    let e = t .before in
+    c .make-row2 .ensures
+    ∙ simp (sym (e .before .is-missing .ensures) ∙ e .if1 .left, ap allRecognised (sym (t .text-of .ensures)) ∙ sym (a .before .all-recognised .ensures) ∙ a .if2 .taken)
+
+returns-3 : tie.Need-returns-3
+unfolding row1
+returns-3 c =
+    let a = c .before in
+    let t = a .before .before in
+    let e = t .before in
+    c .make-row3 .ensures
+    ∙ simp (sym (e .before .is-missing .ensures) ∙ e .if1 .left, ap allRecognised (sym (t .text-of .ensures)) ∙ sym (a .before .all-recognised .ensures) ∙ a .if2 .left)
+
+pub recognised-row-spec : {M : Type 1} → statement M
+recognised-row-spec =
+    tie.close
+    (tie.spec
+    is-missing-requires
+    make-row-requires
+    returns
+    text-of-requires
+    all-recognised-requires
+    make-row-requires-2
+    make-row-requires-3
+    returns-2
+    returns-3)

@@ -1,0 +1,78 @@
+// Rows 1 to 3: the formula by itself, and against the category (document 01, "The twelve rows").
+ghost use mathlib.Core.Path.{_≡_};
+ghost use mathlib.Core.Bool.{_||_};
+ghost use Rattle.text.specs.Same.{exact, sameBy};
+ghost use Rattle.formula_rows.specs.FormulaRows.{row1, row2, inClass, row3};
+use formula::class::Class;
+use rows::Row;
+use rows::is_missing;
+use rows::make_row;
+
+// Row 1: every term is well formed and recognised.
+pub fn recognised_row(formula: &[u8]) -> Row
+    ensures { λ r. ⌜ r ≡ row1 (now (formula .entry)) ⌝ }
+{
+    if is_missing(formula) {
+        return make_row(2, 1);
+    }
+    if formula::recognised::all_recognised(values::text_of(formula)) {
+        make_row(0, 0)
+    } else {
+        make_row(4, 0)
+    }
+}
+
+// Row 2: the symbols stand in order.
+pub fn order_row(formula: &[u8]) -> Row
+    ensures { λ r. ⌜ r ≡ row2 (now (formula .entry)) ⌝ }
+{
+    if is_missing(formula) {
+        return make_row(2, 1);
+    }
+    if formula::order::in_order(values::text_of(formula)) {
+        make_row(0, 0)
+    } else {
+        make_row(3, 0)
+    }
+}
+
+// Whether the text of a category is one of a class.
+pub fn is_in_class(class: Class, t: &[u8]) -> bool
+    ensures { λ r. ⌜ r ≡ inClass class (now (t .entry)) ⌝ }
+{
+    match class {
+        Class::Inorganic => is_either(t, b"FI", b"CI"),
+        Class::MetalOrganic => is_either(t, b"FM", b"CM"),
+        Class::Organic => is_either(t, b"FO", b"CO"),
+    }
+}
+
+fn is_either(t: &[u8], a: &[u8], b: &[u8]) -> bool
+    ensures { λ r. ⌜ r ≡ (sameBy exact (now (t .entry)) (now (a .entry)) || sameBy exact (now (t .entry)) (now (b .entry))) ⌝ }
+{
+    if text::same(t, a) {
+        return true;
+    }
+    text::same(t, b)
+}
+
+// Row 3: the class of the formula against the category.
+pub fn class_row(formula: &[u8], category: &[u8]) -> Row
+    ensures { λ r. ⌜ r ≡ row3 (now (formula .entry)) (now (category .entry)) ⌝ }
+{
+    if is_missing(formula) {
+        return make_row(1, 1);
+    }
+    if is_missing(category) {
+        return make_row(1, 1);
+    }
+    let t = values::text_of(formula);
+    if !formula::recognised::all_recognised(t) {
+        return make_row(1, 2);
+    }
+    if is_in_class(formula::class::class_of(t), values::text_of(category)) {
+        make_row(0, 0)
+    } else {
+        make_row(1, 0)
+    }
+}

@@ -1,0 +1,29 @@
+-- `graded_rows::row_of_grade` meets its contract: each arm is a case of `gradeRow`.
+-- Assumes nothing.
+use mathlib.Core.Path.{sym, ap}
+use Rattle.graded_rows.specs.GradedRows.{gradeRow}
+use borrow.Author.Needs.{needs}
+use Rattle.graded_rows.proofs.row_of_grade.Statement.{statement}
+use Rattle.graded_rows.proofs.row_of_grade.Tie as tie
+
+enum-known-g : tie.Need-enum-known-g
+enum-known-g c = search needs
+
+enum-told : tie.Need-enum-told
+enum-told c = search needs
+
+enum-told-2 : tie.Need-enum-told-2
+enum-told-2 c = search needs
+
+returns : tie.Need-returns
+returns c = sym (ap gradeRow (c .before .g .given .1))
+
+returns-2 : tie.Need-returns-2
+returns-2 c = sym (ap gradeRow (c .enum-told .given .1))
+
+returns-3 : tie.Need-returns-3
+returns-3 c = sym (ap gradeRow (c .enum-told2 .given .1))
+
+pub row-of-grade-spec : {M : Type 1} → statement M
+row-of-grade-spec =
+    tie.close (tie.spec enum-known-g enum-told enum-told-2 returns returns-2 returns-3)

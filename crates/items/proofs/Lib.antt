@@ -1,0 +1,5 @@
+pub mod NameTable
+pub mod NameOf
+pub mod KindTable
+pub mod Passes
+pub mod Names

@@ -1,0 +1,30 @@
+-- `items::kind_at` meets its contract: the letter at k is that of the kind of item k + 1.
+-- Assumes nothing.
+use mathlib.Core.Path.{_≡_, sym, _∙_}
+use Prim.Native.Nat.{_+_}
+use lib.ListN.{getD}
+use Rattle.items.specs.Items.{rowOf}
+use Rattle.items.proofs.KindTable.{letterOf, letters, letter-at, is-number, is-category, is-text}
+use borrow.Author.Needs.{needs}
+use Rattle.items.proofs.kind_at.Statement.{statement}
+use Rattle.items.proofs.kind_at.Tie as tie
+
+array-read-letter : tie.Need-array-read-letter
+array-read-letter c = search needs
+
+returns : tie.Need-returns
+unfolding letters
+returns c = sym (is-number _ (sym (letter-at (c .before .args .k) (c .before .pre)) ∙ c .match .keys1))
+
+returns-2 : tie.Need-returns-2
+unfolding letters
+returns-2 c = sym (is-category _ (sym (letter-at (c .before .args .k) (c .before .pre)) ∙ c .match .keys2))
+
+returns-3 : tie.Need-returns-3
+unfolding letters
+returns-3 c =
+    let e = letter-at (c .before .args .k) (c .before .pre) in
+    sym (is-text _ (λ h. c .match .rest .0 .1 (e ∙ h)) (λ h. c .match .rest .1 (e ∙ h)))
+
+pub kind-at-spec : {M : Type 1} → statement M
+kind-at-spec = tie.close (tie.spec array-read-letter returns returns-2 returns-3)

@@ -1,0 +1,86 @@
+-- The ten items, their names and kinds (document 01, "What the desk holds"), and which values an item takes.
+-- Assumes nothing.
+use Prim.Native.Nat.{ℕ, suc, _-_, _≤_}
+use Prim.Native.String.{String}
+use mathlib.Core.Path.{_≡_}
+use mathlib.Core.Bool.{Bool, true, cond, _&&_, _||_}
+use mathlib.Core.List.{List, [], _∷_, map}
+use lib.Dec.{leb}
+use lib.ListN.{length, getD}
+use Rattle.text.specs.Quote.{bytes}
+use Rattle.text.specs.Same.{lower, exact, sameBy, sameFolded}
+use Rattle.decimal.specs.Reading.{isNumber}
+use Rattle.values.specs.Value.{isUnassigned, textOf}
+use Rattle.items.specs.declared.Kind.{Kind}
+use Rattle.items.specs.declared.Kind.the-variants.{Text, Number, Category}
+use Rattle.items.specs.declared.Named.{Named}
+use Rattle.items.specs.declared.Named.the-variants.{Item, Unknown}
+
+-- a row of the table of items
+pub record ItemRow : Type 0 where
+  pub name : List ℕ
+  pub kind : Kind
+
+abbrev row : String → Kind → ItemRow
+row name kind = record { name = bytes name; kind = kind }
+
+-- the table of items; the first is item 1
+unfoldable pub items : List ItemRow
+items =
+    row "_chemical_formula_sum" Text ∷
+    row "_chemical_formula_weight" Number ∷
+    row "_publ_requested_category" Category ∷
+    row "_refine_ls_R_factor_gt" Number ∷
+    row "_refine_ls_R_factor_obs" Number ∷
+    row "_refine_ls_wR_factor_ref" Number ∷
+    row "_refine_ls_wR_factor_obs" Number ∷
+    row "_refine_ls_shift/su_max" Number ∷
+    row "_refine_ls_shift/esd_max" Number ∷
+    row "_reflns_threshold_expression" Text ∷ []
+
+-- how many items there are
+abbrev pub itemCount : ℕ
+itemCount = 10
+
+-- no row of the table
+abbrev pub noRow : ItemRow
+noRow = record { name = []; kind = Text }
+
+-- the row of an item
+abbrev pub rowOf : ℕ → ItemRow
+rowOf item = getD items (item - 1) noRow
+
+-- the name of an item; none for an item that is not there
+unfoldable pub nameOf : ℕ → List ℕ
+nameOf item = cond (leb 1 item && leb item itemCount) (rowOf item .name) []
+
+-- "Names are compared without regard to the case of A to Z": the first row of the table with that name, counted from n
+unfoldable pub findFrom : ℕ → List ItemRow → List ℕ → Named
+findFrom n [] s = Unknown
+findFrom n (r ∷ rs) s = cond (sameFolded s (r .name)) (Item n) (findFrom (suc n) rs s)
+
+-- the item of a name
+abbrev pub itemOf : List ℕ → Named
+itemOf s = findFrom 1 items s
+
+-- the text s is the name of item k, "without regard to the case of A to Z"
+pub record IsName (s : List ℕ) (k : ℕ) : Type 0 where
+  pub first : 1 ≤ k
+  pub last : k ≤ itemCount
+  pub same : map lower s ≡ map lower (rowOf k .name)
+
+-- "A category is FI, CI, FM, CM, FO or CO, bare or quoted, capitals only"
+unfoldable pub isCategory : List ℕ → Bool
+isCategory t =
+    sameBy exact t (bytes "FI") || (sameBy exact t (bytes "CI") || (sameBy exact t (bytes "FM")
+    || (sameBy exact t (bytes "CM") || (sameBy exact t (bytes "FO") || sameBy exact t (bytes "CO")))))
+
+-- a value is of a kind
+abbrev pub ofKind : Kind → List ℕ → Bool
+ofKind Text v = true
+ofKind Number v = isNumber v
+ofKind Category v = isCategory (textOf v)
+
+-- a value passes an item's kind; unassigned "passes every kind". No value passes that of an item that is not there.
+unfoldable pub passes : ℕ → List ℕ → Bool
+passes item v = leb 1 item && (leb item itemCount && (isUnassigned v || ofKind (rowOf item .kind) v))

@@ -1,0 +1,176 @@
+// The ten items: their names, and the values that each takes (document 01, "What the desk holds").
+ghost use mathlib.Core.Path.{_≡_};
+ghost use Prim.Native.Nat.{_≤_, _<_, _+_};
+ghost use lib.ListN.{length, take, drop};
+ghost use Rattle.text.specs.Copy.{copied};
+ghost use Rattle.text.specs.Same.{sameFolded};
+ghost use Rattle.items.specs.Fits.{fits};
+ghost use Rattle.items.specs.Items.{itemCount, rowOf, nameOf, itemOf, isCategory, ofKind, passes};
+
+// The longest line.
+pub const LINE_MOST: usize = 80;
+
+// The bytes that a line can hold.
+pub const FIRST_TYPED: u8 = 32;
+
+pub const LAST_TYPED: u8 = 126;
+
+// What a value must be.
+pub enum Kind {
+    Text,
+    Number,
+    Category,
+}
+
+// What a name names: an item, counted from 1, or none. Document 01 refuses an unknown name with 6.
+pub enum Named {
+    Item(usize),
+    Unknown,
+}
+
+pub const ITEM_COUNT: usize = 10;
+
+// The names one after the other, where each begins, and the kinds: t text, n number, c category.
+const NAMES: [u8; 237] = *b"_chemical_formula_sum\
+    _chemical_formula_weight\
+    _publ_requested_category\
+    _refine_ls_R_factor_gt\
+    _refine_ls_R_factor_obs\
+    _refine_ls_wR_factor_ref\
+    _refine_ls_wR_factor_obs\
+    _refine_ls_shift/su_max\
+    _refine_ls_shift/esd_max\
+    _reflns_threshold_expression";
+
+const STARTS: [usize; 11] = [0, 21, 45, 69, 91, 114, 138, 162, 185, 209, 237];
+
+const KINDS: [u8; 10] = *b"tncnnnnnnt";
+
+// Whether s is the name of item k + 1, without regard to the case of A to Z.
+fn is_name(k: usize, s: &[u8]) -> bool
+    requires { ⌜ k < itemCount ⌝ }
+    ensures { λ r. ⌜ r ≡ sameFolded (now (s .entry)) (rowOf (k + 1) .name) ⌝ }
+{
+    let from = STARTS[k];
+    let to = STARTS[k + 1];
+    text::same_folded(s, &NAMES[from..to])
+}
+
+// The item of a name.
+pub fn item_named(s: &[u8]) -> Named
+    ensures { λ r. ⌜ r ≡ itemOf (now (s .entry)) ⌝ }
+{
+    let mut k = 0;
+    while k < ITEM_COUNT {
+        if is_name(k, s) {
+            return Named::Item(k + 1);
+        }
+        k += 1;
+    }
+    Named::Unknown
+}
+
+// The kind of item k + 1.
+fn kind_at(k: usize) -> Kind
+    requires { ⌜ k < itemCount ⌝ }
+    ensures { λ r. ⌜ r ≡ rowOf (k + 1) .kind ⌝ }
+{
+    let letter = KINDS[k];
+    match letter {
+        b'n' => Kind::Number,
+        b'c' => Kind::Category,
+        _ => Kind::Text,
+    }
+}
+
+// Whether a text is one of the six categories.
+fn is_category(t: &[u8]) -> bool
+    ensures { λ r. ⌜ r ≡ isCategory (now (t .entry)) ⌝ }
+{
+    if text::same(t, b"FI") {
+        return true;
+    }
+    if text::same(t, b"CI") {
+        return true;
+    }
+    if text::same(t, b"FM") {
+        return true;
+    }
+    if text::same(t, b"CM") {
+        return true;
+    }
+    if text::same(t, b"FO") {
+        return true;
+    }
+    text::same(t, b"CO")
+}
+
+fn is_of_kind(kind: Kind, v: &[u8]) -> bool
+    ensures { λ r. ⌜ r ≡ ofKind kind (now (v .entry)) ⌝ }
+{
+    match kind {
+        Kind::Text => true,
+        Kind::Number => decimal::is_number(v),
+        Kind::Category => is_category(values::text_of(v)),
+    }
+}
+
+// Whether the value v passes the kind of an item; none does where there is no such item.
+pub fn passes_kind(item: usize, v: &[u8]) -> bool
+    ensures { λ r. ⌜ r ≡ passes item (now (v .entry)) ⌝ }
+{
+    if item < 1 {
+        return false;
+    }
+    if ITEM_COUNT < item {
+        return false;
+    }
+    if values::is_unassigned(v) {
+        return true;
+    }
+    is_of_kind(kind_at(item - 1), v)
+}
+
+// The length of an item's name; 0 where there is no such item.
+pub fn name_length(item: usize) -> usize
+    ensures { λ r. ⌜ r ≡ length (nameOf item) ⌝ }
+{
+    if item < 1 {
+        return 0;
+    }
+    if ITEM_COUNT < item {
+        return 0;
+    }
+    STARTS[item] - STARTS[item - 1]
+}
+
+// Copies an item's name into out from a place on, where it fits; else, and where there is no such item, nothing.
+pub fn copy_name(out: &mut [u8], at: usize, item: usize)
+    ensures { λ _. ⌜ now (out .exit) ≡ copied (now (out .entry)) at (nameOf item) ⌝ }
+{
+    if item < 1 {
+        return;
+    }
+    if ITEM_COUNT < item {
+        return;
+    }
+    let from = STARTS[item - 1];
+    let to = STARTS[item];
+    text::copy_in(out, at, &NAMES[from..to]);
+}
+
+// Whether an item can hold the value v: form, bytes, kind, and the length of its line.
+pub fn fits_item(item: usize, v: &[u8]) -> bool
+    ensures { λ r. ⌜ r ≡ fits item (now (v .entry)) ⌝ }
+{
+    if !passes_kind(item, v) {
+        return false;
+    }
+    if !values::is_value(v) {
+        return false;
+    }
+    if !text::all_between(v, FIRST_TYPED, LAST_TYPED) {
+        return false;
+    }
+    name_length(item) + 1 + v.len() <= LINE_MOST
+}

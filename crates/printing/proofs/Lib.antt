@@ -1,0 +1,5 @@
+pub mod Pages
+pub mod Digits
+pub mod RowNames
+pub mod Prints
+pub mod Samples

@@ -1,0 +1,29 @@
+-- `printing::print_report` meets its contract: what is written on the page is the printed text.
+-- Assumes nothing.
+use native.Mathlib.Omega.{arith}
+use mathlib.Core.Path.{ap, _∙_}
+use denote.Ref.{now}
+use Rattle.printing.specs.Print.{printedIn, outAfter}
+use borrow.Author.Needs.{needs}
+use Rattle.printing.proofs.print_report.Statement.{statement}
+use Rattle.printing.proofs.print_report.Tie as tie
+
+report-page-requires : tie.Need-report-page-requires
+report-page-requires c κs = search needs
+
+copy-out-requires : tie.Need-copy-out-requires
+copy-out-requires c κs = search needs
+
+same-length : tie.Need-same-length
+same-length c = search needs
+
+returns : tie.Need-returns
+returns c =
+    let k = c .before .before in
+    let p = k .before .before in
+    let out = now (p .before .before .args .out) in
+    let text = p .report-page .ensures .0 in
+    (k .copy-out .ensures .0 ∙ ap (printedIn out) text, k .copy-out .ensures .1 ∙ ap (outAfter out) text, omega arith)
+
+pub print-report-spec : {M : Type 1} → statement M
+print-report-spec = tie.close (tie.spec report-page-requires copy-out-requires same-length returns)

@@ -1,0 +1,68 @@
+-- `printing::put_items` meets its contract. The loop's invariant: the lines of the first i items are added.
+-- The measure is what is left of the items. Assumes nothing.
+use borrow.Author.Needs.{needs}
+use native.Mathlib.Omega.{arith}
+use mathlib.Core.Path.{_≡_, sym, _∙_}
+use Prim.Native.Nat.{ℕ, _+_, _*_, _-_, _≤_}
+use lib.ListN.{length, length-map}
+use Rattle.state.specs.Sheets.{noItem}
+use Rattle.printing.specs.Print.{itemLine}
+use Rattle.printing.proofs.Pages.{Listed, listed-none, listed-next, listed-all}
+use Rattle.printing.proofs.put_items.Statement.{statement}
+use Rattle.printing.proofs.put_items.Tie as tie
+
+abbrev Inv-loop : tie.InvT-loop
+Inv-loop sheet page₀ i₀ page i = (i ≤ 10) × (page .len ≤ page₀ .len + 143 * i) × Listed itemLine (sheet .items) page₀ page i
+
+abbrev μ-loop : tie.MeasureT-loop
+μ-loop sheet page₀ i₀ page i = 10 - i
+
+ten : (c : tie.Start Inv-loop μ-loop) → length (c .args .t2 .items) ≡ 10
+ten c = sym (length-map (c .args .t2 .items) _) ∙ c .good .1 .0 .1 .1 .0 .1 .0 .1
+
+loop-holds : tie.Need-loop-holds Inv-loop μ-loop
+loop-holds c = (omega arith, omega arith, listed-none _ _ _)
+
+mul-item : tie.Need-mul-item Inv-loop μ-loop
+mul-item c = omega arith
+
+element-copy-out-item : tie.Need-element-copy-out-item Inv-loop μ-loop
+element-copy-out-item c = search needs
+
+put-item-requires : tie.Need-put-item-requires Inv-loop μ-loop
+put-item-requires c κs = omega arith
+
+add-i : tie.Need-add-i Inv-loop μ-loop
+add-i c = omega arith
+
+loop-less : tie.Need-loop-less Inv-loop μ-loop
+loop-less c = omega arith
+
+loop-again : tie.Need-loop-again Inv-loop μ-loop
+loop-again c =
+    let l = c .before .before .before .loop in
+    let s = c .before .before .before .before in
+    let e = c .put-item .ensures in
+    let next = listed-next itemLine (s .args .t2 .items) (l .i) noItem (omega (arith, ten s)) (l .inv .2) (e .0) in
+    (omega arith, omega arith, next)
+
+returns : tie.Need-returns Inv-loop μ-loop
+returns c =
+    let l = c .before .loop in
+    let s = c .before .before in
+    (listed-all itemLine (s .args .t2 .items) (l .i) (omega (arith, ten s)) (l .inv .2), omega arith)
+
+pub put-items-spec : {M : Type 1} → statement M
+put-items-spec =
+    tie.close
+    (tie.spec
+    Inv-loop
+    μ-loop
+    loop-holds
+    mul-item
+    element-copy-out-item
+    put-item-requires
+    add-i
+    loop-less
+    loop-again
+    returns)

@@ -1,0 +1,100 @@
+-- `printing::put_row` meets its contract: the pieces of the line one after the other.
+-- Assumes nothing.
+use native.Mathlib.Omega.{arith}
+use mathlib.Core.Path.{ap}
+use mathlib.Core.List.{List, [], _∷_}
+use Prim.Native.Nat.{ℕ}
+use Rattle.printing.specs.Print.{decimalText}
+use Rattle.printing.proofs.Pages.{adds-as, adds-then}
+use borrow.Author.Needs.{needs}
+use Rattle.printing.proofs.put_row.Statement.{statement}
+use Rattle.printing.proofs.put_row.Tie as tie
+
+add-put-two-digits : tie.Need-add-put-two-digits
+add-put-two-digits c = search needs
+
+put-two-digits-requires : tie.Need-put-two-digits-requires
+put-two-digits-requires c κs = search needs
+
+slice-aggregate-put : tie.Need-slice-aggregate-put
+slice-aggregate-put c = search needs
+
+put-requires : tie.Need-put-requires
+put-requires c κs = search needs
+
+put-name-requires : tie.Need-put-name-requires
+put-name-requires c κs = search needs
+
+slice-aggregate-put-2 : tie.Need-slice-aggregate-put-2
+slice-aggregate-put-2 c = search needs
+
+put-requires-2 : tie.Need-put-requires-2
+put-requires-2 c κs = search needs
+
+letter-of-requires : tie.Need-letter-of-requires
+letter-of-requires c κs = search needs
+
+put-byte-requires : tie.Need-put-byte-requires
+put-byte-requires c κs = search needs
+
+slice-aggregate-put-3 : tie.Need-slice-aggregate-put-3
+slice-aggregate-put-3 c = search needs
+
+put-requires-3 : tie.Need-put-requires-3
+put-requires-3 c κs = search needs
+
+wide-requires : tie.Need-wide-requires
+wide-requires c κs = search needs
+
+put-decimal-requires : tie.Need-put-decimal-requires
+put-decimal-requires c κs = search needs
+
+slice-aggregate-put-4 : tie.Need-slice-aggregate-put-4
+slice-aggregate-put-4 c = search needs
+
+put-requires-4 : tie.Need-put-requires-4
+put-requires-4 c κs =
+    let c₄ = c .before .before .before .before .before .before .before in
+    omega arith
+
+returns : tie.Need-returns
+returns c =
+    let c₇ = c .before .before in
+    let c₆ = c₇ .before .before in
+    let c₅ = c₆ .before .before in
+    let c₄ = c₅ .before .before in
+    let c₃ = c₄ .before .before in
+    let c₂ = c₃ .before in
+    let c₁ = c₂ .before .before in
+    let letter = ap (λ (b : ℕ). b ∷ []) (c₅ .before .letter-of .ensures) in
+    let reason = ap decimalText (c₇ .before .wide .ensures) in
+    let all =
+    adds-then (c₁ .put-two-digits .ensures)
+    (adds-then (c₂ .put .ensures)
+    (adds-then (c₃ .put-name .ensures .0)
+    (adds-then (c₄ .put2 .ensures)
+    (adds-then (adds-as letter (c₅ .put-byte .ensures))
+    (adds-then (c₆ .put3 .ensures)
+    (adds-then (adds-as reason (c₇ .put-decimal .ensures .0)) (c .put4 .ensures))))))) in
+    (all, omega arith)
+
+pub put-row-spec : {M : Type 1} → statement M
+put-row-spec =
+    tie.close
+    (tie.spec
+    add-put-two-digits
+    put-two-digits-requires
+    slice-aggregate-put
+    put-requires
+    put-name-requires
+    slice-aggregate-put-2
+    put-requires-2
+    letter-of-requires
+    put-byte-requires
+    slice-aggregate-put-3
+    put-requires-3
+    wide-requires
+    put-decimal-requires
+    slice-aggregate-put-4
+    put-requires-4
+    returns)

@@ -1,0 +1,58 @@
+-- `printing::report_page` meets its contract: the head, the rows and the items one after the other.
+-- Assumes nothing.
+use native.Mathlib.Omega.{arith}
+use mathlib.Core.Path.{ap}
+use mathlib.Core.List.{List, [], _∷_, _++_}
+use Rattle.text.specs.Quote.{bytes}
+use Rattle.questions.specs.declared.report.Reported.{Reported}
+use Rattle.text.specs.Each.{linesFrom}
+use Rattle.printing.specs.Print.{line, rowLine, itemLine, printedOf}
+use Rattle.printing.proofs.Pages.{adds-as, adds-then, adds-first}
+use borrow.Author.Needs.{needs}
+use Rattle.printing.proofs.report_page.Statement.{statement}
+use Rattle.printing.proofs.report_page.Tie as tie
+
+report-requires : tie.Need-report-requires
+report-requires c κs = search needs
+
+empty-page-requires : tie.Need-empty-page-requires
+empty-page-requires c κs = search needs
+
+slice-aggregate-put : tie.Need-slice-aggregate-put
+slice-aggregate-put c = search needs
+
+put-requires : tie.Need-put-requires
+put-requires c κs = search needs
+
+put-rows-requires : tie.Need-put-rows-requires
+put-rows-requires c κs = search needs
+
+put-items-requires : tie.Need-put-items-requires
+put-items-requires c κs = search needs
+
+returns : tie.Need-returns
+unfolding printedOf
+returns c =
+    let r = c .before in
+    let h = r .before in
+    let e = h .before .before in
+    let n = e .before .before .before in
+    let s = n .before in
+    let rows = ap
+    (λ (x : Reported). line (bytes "REPORT 12" ∷ []) ++ (linesFrom rowLine 1 (x .rows .rows) ++ linesFrom itemLine 1 (s .args .d .sheet .items)))
+    (n .report .ensures) in
+    let all = adds-then (h .put .ensures) (adds-then (r .put-rows .ensures .0) (c .put-items .ensures .0)) in
+    let first = adds-first (e .empty-page .ensures .0) (e .empty-page .ensures .1) (adds-as rows all) in
+    (first .0, first .1, omega arith)
+
+pub report-page-spec : {M : Type 1} → statement M
+report-page-spec =
+    tie.close
+    (tie.spec
+    report-requires
+    empty-page-requires
+    slice-aggregate-put
+    put-requires
+    put-rows-requires
+    put-items-requires
+    returns)

@@ -1,0 +1,26 @@
+-- `probe_file::probe_file` meets its contract: the writer's, with the answer's number.
+-- Assumes nothing.
+use mathlib.Core.Path.{_≡_, _∙_, ap}
+use denote.Ref.{now}
+use Rattle.cif_file.specs.Answers.{After, after}
+use Rattle.probe_file.specs.Told.{FileTold, told, numbered}
+use borrow.Author.Needs.{needs}
+use Rattle.probe_file.proofs.probe_file.Statement.{statement}
+use Rattle.probe_file.proofs.probe_file.Tie as tie
+
+write-file-requires : tie.Need-write-file-requires
+write-file-requires c κs = search needs
+
+file-number-requires : tie.Need-file-number-requires
+file-number-requires c κs = search needs
+
+same-length : tie.Need-same-length
+same-length c = search needs
+
+returns : tie.Need-returns
+returns c =
+    let k = c .before .before .before in
+    simp (c .file-number .ensures) (ap numbered (k .write-file .ensures))
+
+pub probe-file-spec : {M : Type 1} → statement M
+probe-file-spec = tie.close (tie.spec write-file-requires file-number-requires same-length returns)

@@ -1,0 +1,35 @@
+-- `questions::report::report` meets its contract: sound or not.
+-- Assumes nothing.
+use mathlib.Core.Path.{sym, _∙_, ap}
+use borrow.Author.Tests.{not-true, not-false}
+use Rattle.rows.specs.declared.Rows.{Rows}
+use Rattle.questions.specs.Report.{reportedAs, reportedOf}
+use Rattle.questions.specs.declared.question.Asked.the-variants.{Answered, Unsound}
+use borrow.Author.Needs.{needs}
+use Rattle.questions.proofs.report.report.Statement.{statement}
+use Rattle.questions.proofs.report.report.Tie as tie
+
+is-sound-requires : tie.Need-is-sound-requires
+is-sound-requires c κs = search needs
+
+no-rows-requires : tie.Need-no-rows-requires
+no-rows-requires c κs = search needs
+
+returns : tie.Need-returns
+unfolding reportedOf
+returns c =
+    let e = c .before in
+    ap (reportedAs Unsound) (c .no-rows .ensures) ∙ simp (sym (e .before .is-sound .ensures) ∙ not-true _ (e .if1 .taken))
+
+sheet-rows-requires : tie.Need-sheet-rows-requires
+sheet-rows-requires c κs = search needs
+
+returns-2 : tie.Need-returns-2
+unfolding reportedOf
+returns-2 c =
+    let e = c .before .before in
+    ap (reportedAs Answered) (c .sheet-rows .ensures) ∙ simp (sym (e .before .is-sound .ensures) ∙ not-false _ (e .if1 .left))
+
+pub report-spec : {M : Type 1} → statement M
+report-spec =
+    tie.close (tie.spec is-sound-requires no-rows-requires returns sheet-rows-requires returns-2)

@@ -1,0 +1,26 @@
+-- Who typed an item (document 01, "Keys and their refusals", "Two questions").
+-- Assumes nothing.
+use Prim.Native.Nat.{ℕ}
+use mathlib.Core.Bool.{Bool, cond, _&&_}
+use lib.Dec.{leb, eqb}
+use Rattle.items.specs.Items.{itemCount}
+use Rattle.state.specs.Sheets.{itemAt}
+use Rattle.soundness.specs.Sound.{soundDesk}
+use Rattle.state.specs.declared.sheet.Item.{Item}
+use Rattle.state.specs.declared.desk.Desk.{Desk}
+use Rattle.questions.specs.declared.question.Asked.{Asked}
+use Rattle.questions.specs.declared.question.Asked.the-variants.{Answered, Unsound, NoItem}
+use Rattle.questions.specs.declared.who.Told.{Told}
+
+-- "For an empty item, and with any refusal, bench is 255 and entry 0"
+abbrev pub nobody : Asked → Told
+nobody a = record { answer = a; entry = 0; bench = 255 }
+
+-- "bench and entry number" of an item
+unfoldable pub toldOf : Item → Told
+toldOf i = cond (eqb (i .len) 0) (nobody Answered) (record { answer = Answered; entry = i .entry; bench = i .bench })
+
+-- "Who takes an item number: 2 if unsound, else 6 if not 1 to 10; else 0 with bench and entry number"
+unfoldable pub whoOf : Desk → ℕ → Told
+whoOf d item =
+    cond (soundDesk d) (cond (leb 1 item && leb item itemCount) (toldOf (itemAt (d .sheet) item)) (nobody NoItem)) (nobody Unsound)

@@ -1,0 +1,61 @@
+// Who typed an item.
+ghost use mathlib.Core.Path.{_≡_};
+ghost use Rattle.questions.specs.Who.{nobody, toldOf, whoOf};
+use crate::question::Asked;
+use items::ITEM_COUNT;
+use state::desk::Desk;
+use state::sheet::Item;
+
+// The answer, the number of the item's last entry, and its bench.
+pub struct Told {
+    pub answer: Asked,
+    pub entry: usize,
+    pub bench: u8,
+}
+
+// The bench that stands for none.
+const NO_BENCH: u8 = 255;
+
+fn tell_nobody(answer: Asked) -> Told
+    ensures { λ r. ⌜ r ≡ nobody answer ⌝ }
+{
+    Told {
+        answer,
+        entry: 0,
+        bench: NO_BENCH,
+    }
+}
+
+fn tell(i: Item) -> Told
+    ensures { λ r. ⌜ r ≡ toldOf i ⌝ }
+{
+    if i.len == 0 {
+        return tell_nobody(Asked::Answered);
+    }
+    let entry = i.entry;
+    let bench = i.bench;
+    Told {
+        answer: Asked::Answered,
+        entry,
+        bench,
+    }
+}
+
+// Who typed the item of that number.
+pub fn who(d: Desk, item: u64) -> Told
+    ensures { λ r. ⌜ r ≡ whoOf d item ⌝ }
+{
+    if !soundness::is_sound(d) {
+        return tell_nobody(Asked::Unsound);
+    }
+    if item < 1 {
+        return tell_nobody(Asked::NoItem);
+    }
+    if (ITEM_COUNT as u64) < item {
+        return tell_nobody(Asked::NoItem);
+    }
+    let sheet = d.sheet;
+    let at = (item - 1) as usize;
+    let i = sheet.items[at];
+    tell(i)
+}

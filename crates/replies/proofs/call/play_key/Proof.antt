@@ -1,0 +1,32 @@
+-- `replies::call::play_key` meets its contract: the key call's, with its answer in bytes.
+-- Assumes nothing.
+use mathlib.Core.Path.{_≡_, _∙_, ap}
+use denote.Ref.{now}
+use Rattle.calls.specs.Key.{After}
+use Rattle.sequence.specs.Calls.{keyed, left}
+use Rattle.replies.specs.ReplyBytes.{replyBytes}
+use Rattle.replies.specs.OneCall.{One}
+use borrow.Author.Needs.{needs}
+use Rattle.replies.proofs.call.play_key.Statement.{statement}
+use Rattle.replies.proofs.call.play_key.Tie as tie
+
+-- what a key call leaves, with the answer in bytes
+abbrev oneAfter : After → One
+oneAfter k = record { reply = replyBytes (keyed (k .answer)); state = left k }
+
+key-requires : tie.Need-key-requires
+key-requires c κs = search needs
+
+key-reply-requires : tie.Need-key-reply-requires
+key-reply-requires c κs = search needs
+
+same-length : tie.Need-same-length
+same-length c = search needs
+
+returns : tie.Need-returns
+returns c =
+    let k = c .before .before .before .before in
+    simp (c .key-reply .ensures) (ap oneAfter (k .key .ensures))
+
+pub play-key-spec : {M : Type 1} → statement M
+play-key-spec = tie.close (tie.spec key-requires key-reply-requires same-length returns)

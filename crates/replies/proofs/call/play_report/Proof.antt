@@ -1,0 +1,35 @@
+-- `replies::call::play_report` meets its contract: Report's answer and rows in bytes, and nothing changed.
+-- Assumes nothing.
+use mathlib.Core.Path.{_≡_, _∙_, ap, sym}
+use mathlib.Core.List.{List}
+use Prim.Native.Nat.{ℕ}
+use Rattle.state.specs.declared.desk.Desk.{Desk}
+use Rattle.alerts.specs.Sheet.{rowsOf, noRows}
+use Rattle.questions.specs.declared.report.Reported.{Reported}
+use Rattle.sequence.specs.Calls.{reported, reportOf}
+use Rattle.sequence.proofs.Desk.{report-is}
+use Rattle.replies.specs.ReplyBytes.{replyBytes}
+use Rattle.replies.specs.OneCall.{One, stateOf}
+use borrow.Author.Needs.{needs}
+use Rattle.replies.proofs.call.play_report.Statement.{statement}
+use Rattle.replies.proofs.call.play_report.Tie as tie
+
+-- the bytes of an answer, and a state
+abbrev with-state : Desk → ℕ → List ℕ → List ℕ → One
+with-state d used log b = record { reply = b; state = stateOf d used log }
+
+report-requires : tie.Need-report-requires
+report-requires c κs = search needs
+
+report-reply-requires : tie.Need-report-reply-requires
+report-reply-requires c κs = search needs
+
+returns : tie.Need-returns
+returns c =
+    let a = c .before .before .args in
+    let e : c .report-reply .result ≡ replyBytes (reportOf rowsOf noRows (a .d))
+    = c .report-reply .ensures ∙ ap (λ (r : Reported). replyBytes (reported (r .answer) (r .rows))) (c .before .report .ensures) ∙ ap replyBytes (sym (report-is (a .d))) in
+    λ log. ap (with-state (a .d) (a .used) log) e
+
+pub play-report-spec : {M : Type 1} → statement M
+play-report-spec = tie.close (tie.spec report-requires report-reply-requires returns)

@@ -1,0 +1,33 @@
+-- `replies::call::play_who` meets its contract: Who's answer in bytes, and nothing changed.
+-- Assumes nothing.
+use mathlib.Core.Path.{_≡_, _∙_, ap}
+use mathlib.Core.List.{List}
+use Prim.Native.Nat.{ℕ}
+use Rattle.state.specs.declared.desk.Desk.{Desk}
+use Rattle.questions.specs.Who.{whoOf}
+use Rattle.questions.specs.declared.who.Told.{Told}
+use Rattle.sequence.specs.Calls.{told}
+use Rattle.replies.specs.ReplyBytes.{replyBytes}
+use Rattle.replies.specs.OneCall.{One, stateOf}
+use borrow.Author.Needs.{needs}
+use Rattle.replies.proofs.call.play_who.Statement.{statement}
+use Rattle.replies.proofs.call.play_who.Tie as tie
+
+-- the bytes of an answer, and a state
+abbrev with-state : Desk → ℕ → List ℕ → List ℕ → One
+with-state d used log b = record { reply = b; state = stateOf d used log }
+
+who-requires : tie.Need-who-requires
+who-requires c κs = search needs
+
+who-reply-requires : tie.Need-who-reply-requires
+who-reply-requires c κs = search needs
+
+returns : tie.Need-returns
+returns c =
+    let a = c .before .before .args in
+    let e : c .who-reply .result ≡ replyBytes (told (whoOf (a .d) (a .item))) = c .who-reply .ensures ∙ ap (λ (t : Told). replyBytes (told t)) (c .before .who .ensures) in
+    λ log. ap (with-state (a .d) (a .used) log) e
+
+pub play-who-spec : {M : Type 1} → statement M
+play-who-spec = tie.close (tie.spec who-requires who-reply-requires returns)

@@ -1,0 +1,96 @@
+-- `replies::reply::report_reply` meets its contract. The loop's invariant: the rows passed are written, one after the other.
+-- The measure is what is left of the rows. Assumes nothing.
+use native.Mathlib.Omega.{arith}
+use mathlib.Core.Path.{_≡_, refl, sym, ap, _∙_}
+use mathlib.Core.List.{List, _∷_, flatMap}
+use Prim.Native.Nat.{ℕ, _*_, _≤_, _-_}
+use lib.ListN.{length, replicate, length-map}
+use Rattle.alerts.specs.Sheet.{rowCount}
+use Rattle.rows.specs.Rows.{noAlert}
+use Rattle.replies.specs.ReplyBytes.{replyLength, rowBytes}
+use Rattle.text.proofs.Copies.{copied-after}
+use Rattle.replies.proofs.Puts.{Put, put-none, put-next, put-all}
+use Rattle.replies.proofs.reply.report_reply.Statement.{statement}
+use Rattle.replies.proofs.reply.report_reply.Tie as tie
+
+abbrev Inv-loop : tie.InvT-loop
+Inv-loop rows bytes₀ i₀ bytes i = (i ≤ rowCount) × (length bytes ≡ replyLength) × Put rowBytes 2 (rows .rows) bytes₀ 1 i bytes
+
+abbrev μ-loop : tie.MeasureT-loop
+μ-loop rows bytes₀ i₀ bytes i = rowCount - i
+
+twelve : (c : tie.Start Inv-loop μ-loop) → length (c .args .p .rows .rows) ≡ rowCount
+twelve c = sym (length-map (c .args .p .rows .rows) _) ∙ c .good .0 .1 .1 .1 .0 .1 .1 .0 .1 .0 .1
+
+asked-number-requires : tie.Need-asked-number-requires Inv-loop μ-loop
+asked-number-requires c κs = omega arith
+
+array-write-bytes : tie.Need-array-write-bytes Inv-loop μ-loop
+array-write-bytes c = omega arith
+
+loop-holds : tie.Need-loop-holds Inv-loop μ-loop
+loop-holds c = (omega arith, refl, put-none rowBytes 2 _ _ 1)
+
+mul-row : tie.Need-mul-row Inv-loop μ-loop
+mul-row c = omega arith
+
+element-copy-out-row : tie.Need-element-copy-out-row Inv-loop μ-loop
+element-copy-out-row c = omega arith
+
+slice-aggregate-copy-in : tie.Need-slice-aggregate-copy-in Inv-loop μ-loop
+slice-aggregate-copy-in c = omega arith
+
+mul-copy-in : tie.Need-mul-copy-in Inv-loop μ-loop
+mul-copy-in c = omega arith
+
+add-copy-in : tie.Need-add-copy-in Inv-loop μ-loop
+add-copy-in c = omega arith
+
+slice-aggregate-copy-in-2 : tie.Need-slice-aggregate-copy-in-2 Inv-loop μ-loop
+slice-aggregate-copy-in-2 c = omega arith
+
+copy-in-requires : tie.Need-copy-in-requires Inv-loop μ-loop
+copy-in-requires c κs = omega arith
+
+add-i : tie.Need-add-i Inv-loop μ-loop
+add-i c = omega arith
+
+loop-less : tie.Need-loop-less Inv-loop μ-loop
+loop-less c = omega arith
+
+loop-again : tie.Need-loop-again Inv-loop μ-loop
+loop-again c =
+    let p = c .before in
+    let l = p .before .before .before .before .before in
+    let s = l .before .before .before in
+    let q = put-next rowBytes 2 (s .args .p .rows .rows) (l .before .asked-number .result ∷ replicate (2 * rowCount) 0) 1 (l .loop .i) (l .loop .bytes) _ noAlert (l .loop .inv .2) (omega (arith, twelve s)) (omega arith) refl (p .copy-in .ensures) in
+    (omega arith, q .same, q)
+
+returns : tie.Need-returns Inv-loop μ-loop
+returns c =
+    let l = c .before in
+    let s = l .before .before .before in
+    let rows = s .args .p .rows .rows in
+    let q = put-all rowBytes 2 rows (l .before .asked-number .result ∷ replicate (2 * rowCount) 0) 1 rowCount (l .loop .i) (l .loop .bytes) (l .loop .inv .2) (omega arith) (omega (arith, twelve s)) in
+    q .0 ∙ copied-after (l .before .asked-number .result) (replicate (2 * rowCount) 0) (flatMap rowBytes rows) (q .1) ∙ ap (λ (k : ℕ). k ∷ flatMap rowBytes rows) (l .before .asked-number .ensures)
+
+pub report-reply-spec : {M : Type 1} → statement M
+report-reply-spec =
+    tie.close
+    (tie.spec
+    Inv-loop
+    μ-loop
+    asked-number-requires
+    array-write-bytes
+    loop-holds
+    mul-row
+    element-copy-out-row
+    slice-aggregate-copy-in
+    mul-copy-in
+    add-copy-in
+    slice-aggregate-copy-in-2
+    copy-in-requires
+    add-i
+    loop-less
+    loop-again
+    returns)

@@ -1,0 +1,4 @@
+pub mod Number
+pub mod CallBytes
+pub mod ReplyBytes
+pub mod OneCall

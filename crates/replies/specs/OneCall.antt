@@ -1,0 +1,29 @@
+-- One call on the desk: its answer in bytes, and what it leaves.
+-- Assumes nothing.
+use Prim.Native.Nat.{ℕ}
+use mathlib.Core.List.{List}
+use Rattle.state.specs.declared.desk.Desk.{Desk}
+use Rattle.alerts.specs.Sheet.{rowsOf, noRows}
+use Rattle.rows.specs.declared.Rows.{Rows}
+use Rattle.sequence.specs.Calls.{Call, Reply, State, step}
+use Rattle.replies.specs.ReplyBytes.{replyBytes}
+use Rattle.replies.specs.declared.call.Stepped.{Stepped}
+
+-- a desk, a used number and a log
+abbrev pub stateOf : Desk → ℕ → List ℕ → State
+stateOf d used log = record { desk = d; used = used; log = log }
+
+-- the desk's step, with the twelve rows of document 01
+abbrev pub deskStep : Call → State → Reply Rows × State
+deskStep = step rowsOf noRows
+
+pub record One : Type 0 where
+  pub reply : List ℕ
+  pub state : State
+
+abbrev pub oneOf : Call → State → One
+oneOf c s = record { reply = replyBytes (deskStep c s .0); state = deskStep c s .1 }
+
+-- the function's result and what the log then holds
+abbrev pub one : Stepped → List ℕ → One
+one r log = record { reply = r .reply; state = stateOf (r .desk) (r .used) log }

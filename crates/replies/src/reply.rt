@@ -1,0 +1,53 @@
+// A call's whole answer in bytes.
+ghost use mathlib.Core.Path.{_≡_};
+ghost use Rattle.sequence.specs.Calls.{keyed, reported, told};
+ghost use Rattle.replies.specs.ReplyBytes.{replyBytes};
+use crate::number::number_bytes;
+use questions::question::asked_number;
+use questions::report::Reported;
+use questions::who::Told;
+use rows::ROW_COUNT;
+use state::answer::Answer;
+use state::answer::answer_number;
+
+pub const REPLY_BYTES: usize = 1 + 2 * ROW_COUNT;
+
+// The answer of a key call.
+pub fn key_reply(a: Answer) -> [u8; REPLY_BYTES]
+    ensures { λ r. ⌜ r ≡ replyBytes (keyed a) ⌝ }
+{
+    let mut bytes = [0u8; REPLY_BYTES];
+    bytes[0] = answer_number(a);
+    bytes
+}
+
+// The answer of Report: its rows, each as level and reason.
+pub fn report_reply(p: Reported) -> [u8; REPLY_BYTES]
+    ensures { λ r. ⌜ r ≡ replyBytes (reported (p .answer) (p .rows)) ⌝ }
+{
+    let answer = p.answer;
+    let rows = p.rows;
+    let mut bytes = [0u8; REPLY_BYTES];
+    bytes[0] = asked_number(answer);
+    let mut i = 0;
+    while i < ROW_COUNT {
+        let row = rows.rows[i];
+        let pair = [row.level, row.reason];
+        text::copy_in(&mut bytes, 1 + 2 * i, &pair);
+        i += 1;
+    }
+    bytes
+}
+
+// The answer of Who: the bench and the entry number.
+pub fn who_reply(t: Told) -> [u8; REPLY_BYTES]
+    ensures { λ r. ⌜ r ≡ replyBytes (told t) ⌝ }
+{
+    let answer = t.answer;
+    let entry = number_bytes(t.entry as u64);
+    let mut bytes = [0u8; REPLY_BYTES];
+    bytes[0] = asked_number(answer);
+    bytes[1] = t.bench;
+    text::copy_in(&mut bytes, 2, &entry);
+    bytes
+}

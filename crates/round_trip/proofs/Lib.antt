@@ -1,0 +1,6 @@
+pub mod Lines
+pub mod Fitting
+pub mod Plays
+pub mod Items
+pub mod Room
+pub mod Trip

@@ -1,0 +1,22 @@
+-- A row of the report, and when an item is missing (document 01, "The twelve rows").
+-- A value stands here as typed; that of an empty item is the empty text.
+-- Assumes nothing.
+use Prim.Native.Nat.{ℕ}
+use mathlib.Core.Bool.{Bool, _||_}
+use mathlib.Core.List.{List}
+use lib.Dec.{eqb}
+use lib.ListN.{length}
+use Rattle.values.specs.Value.{isUnassigned}
+use Rattle.rows.specs.declared.Row.{Row}
+
+-- a level and a reason: "Level 0 none, 1 General, 2 C, 3 B, 4 A. Reason 0 judged, 1 an item missing, 2 not judgeable."
+abbrev pub rowOf : ℕ → ℕ → Row
+rowOf level reason = record { level = level; reason = reason }
+
+-- "judged", and no alert
+abbrev pub noAlert : Row
+noAlert = rowOf 0 0
+
+-- ""Missing" is empty or unassigned"
+unfoldable pub missing : List ℕ → Bool
+missing v = eqb (length v) 0 || isUnassigned v

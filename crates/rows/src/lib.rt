@@ -1,0 +1,34 @@
+// A row of the report, and when the value of an item is missing (document 01, "The twelve rows").
+ghost use mathlib.Core.Path.{_≡_};
+ghost use Rattle.rows.specs.Rows.{rowOf, missing};
+
+pub const ROW_COUNT: usize = 12;
+
+// Level 0 none, 1 General, 2 C, 3 B, 4 A. Reason 0 judged, 1 an item missing, 2 not judgeable.
+#[repr(C)]
+pub struct Row {
+    pub level: u8,
+    pub reason: u8,
+}
+
+#[repr(C)]
+pub struct Rows {
+    pub rows: [Row; ROW_COUNT],
+}
+
+// A row of that level and reason.
+pub fn make_row(level: u8, reason: u8) -> Row
+    ensures { λ r. ⌜ r ≡ rowOf level reason ⌝ }
+{
+    Row { level, reason }
+}
+
+// Whether the value of an item is missing: empty or unassigned.
+pub fn is_missing(v: &[u8]) -> bool
+    ensures { λ r. ⌜ r ≡ missing (now (v .entry)) ⌝ }
+{
+    if v.len() == 0 {
+        return true;
+    }
+    values::is_unassigned(v)
+}

@@ -1,0 +1,51 @@
+-- `sheet_file::sheet_file` meets its contract: the session's, and then the writer's with the answer's number.
+-- Assumes nothing.
+use mathlib.Core.Path.{_≡_, _∙_, ap}
+use denote.Ref.{now}
+use Rattle.state.specs.declared.desk.Desk.{Desk}
+use Rattle.sequence.specs.Calls.{State}
+use Rattle.session.specs.Play.{stands, played}
+use Rattle.sheet_file.specs.Told.{numbered, filedFrom}
+use borrow.Author.Needs.{needs}
+use Rattle.sheet_file.proofs.sheet_file.Statement.{statement}
+use Rattle.sheet_file.proofs.sheet_file.Tie as tie
+
+fresh-desk-requires : tie.Need-fresh-desk-requires
+fresh-desk-requires c κs = search needs
+
+play-pairs-requires : tie.Need-play-pairs-requires
+play-pairs-requires c κs = search needs
+
+write-file-requires : tie.Need-write-file-requires
+write-file-requires c κs = search needs
+
+file-number-requires : tie.Need-file-number-requires
+file-number-requires c κs = search needs
+
+same-length : tie.Need-same-length
+same-length c = search needs
+
+same-length-2 : tie.Need-same-length-2
+same-length-2 c = search needs
+
+returns : tie.Need-returns
+returns c =
+    let w = c .before .before .before in
+    let p = w .before .before .before .before .before in
+    let f = p .before .before in
+    let a = c .before .before .before .before .before .before .before .before .before .before .before .before .before .before .before .args in
+    let start = ap (λ (d : Desk). played (stands d 0 (now (a .log))) (now (a .input))) (f .fresh-desk .ensures) in
+    simp (c .file-number .ensures)
+    (ap (numbered (p .play-pairs .last .1 .1 .0)) (w .write-file .ensures) ∙ ap (λ (s : State). filedFrom s (now (a .name)) (now (a .out))) (p .play-pairs .ensures ∙ start))
+
+pub sheet-file-spec : {M : Type 1} → statement M
+sheet-file-spec =
+    tie.close
+    (tie.spec
+    fresh-desk-requires
+    play-pairs-requires
+    write-file-requires
+    file-number-requires
+    same-length
+    same-length-2
+    returns)

@@ -1,0 +1,35 @@
+-- `soundness::is_sound_item` meets its contract: an item with no value is empty.
+-- Assumes nothing.
+use mathlib.Core.Path.{_∙_}
+use borrow.Author.Tests.{eq-eqb, ne-eqb}
+use Rattle.soundness.specs.Sound.{soundItem}
+use borrow.Author.Needs.{needs}
+use Rattle.soundness.proofs.is_sound_item.Statement.{statement}
+use Rattle.soundness.proofs.is_sound_item.Tie as tie
+
+is-sound-empty-requires : tie.Need-is-sound-empty-requires
+is-sound-empty-requires c κs = search needs
+
+add-is-sound-filled : tie.Need-add-is-sound-filled
+add-is-sound-filled c = search needs
+
+is-sound-filled-requires : tie.Need-is-sound-filled-requires
+is-sound-filled-requires c κs = search needs
+
+returns : tie.Need-returns
+unfolding soundItem
+returns c = c .is-sound-empty .ensures ∙ simp (eq-eqb _ 0 (c .before .if1 .taken))
+
+returns-2 : tie.Need-returns-2
+unfolding soundItem
+returns-2 c = c .is-sound-filled .ensures ∙ simp (ne-eqb _ 0 (c .before .if1 .left))
+
+pub is-sound-item-spec : {M : Type 1} → statement M
+is-sound-item-spec =
+    tie.close
+    (tie.spec
+    is-sound-empty-requires
+    add-is-sound-filled
+    is-sound-filled-requires
+    returns
+    returns-2)

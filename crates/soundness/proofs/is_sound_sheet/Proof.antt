@@ -1,0 +1,79 @@
+-- `soundness::is_sound_sheet` meets its contract. The loop's invariant: the items passed are sound, so the rest decides.
+-- The measure is what is left of the items. Assumes nothing.
+use borrow.Author.Needs.{needs}
+use native.Mathlib.Omega.{arith}
+use mathlib.Core.Path.{_≡_, refl, sym, _∙_}
+use mathlib.Core.Bool.{true, false}
+use Prim.Native.Nat.{ℕ, _≤_, _-_}
+use borrow.Author.Tests.{not-true, not-false}
+use lib.ListN.{length, getD, drop, length-map}
+use Rattle.state.specs.Sheets.{noItem}
+use Rattle.soundness.specs.Sound.{every, soundItem, soundSheet}
+use Rattle.soundness.proofs.Everys.{every-at, every-end}
+use Rattle.soundness.proofs.is_sound_sheet.Statement.{statement}
+use Rattle.soundness.proofs.is_sound_sheet.Tie as tie
+
+abbrev Inv-loop : tie.InvT-loop
+Inv-loop s count i₀ i = (i ≤ 10) × (every (soundItem (s .count)) 0 (s .items) ≡ every (soundItem (s .count)) i (drop i (s .items)))
+
+abbrev μ-loop : tie.MeasureT-loop
+μ-loop s count i₀ i = 10 - i
+
+ten : (c : tie.Start Inv-loop μ-loop) → length (c .args .t1 .items) ≡ 10
+ten c = sym (length-map (c .args .t1 .items) _) ∙ c .good .0 .1 .1 .0 .1 .0 .1
+
+loop-holds : tie.Need-loop-holds Inv-loop μ-loop
+loop-holds c = (omega arith, refl)
+
+mul-item : tie.Need-mul-item Inv-loop μ-loop
+mul-item c = search needs
+
+element-copy-out-item : tie.Need-element-copy-out-item Inv-loop μ-loop
+element-copy-out-item c = search needs
+
+is-sound-item-requires : tie.Need-is-sound-item-requires Inv-loop μ-loop
+is-sound-item-requires c κs = omega arith
+
+returns : tie.Need-returns Inv-loop μ-loop
+unfolding soundSheet
+returns c =
+    let l = c .before .before .before .before .loop in
+    let b = c .before .before .before .before .before in
+    let s = b .args .t1 in
+    let e : soundItem (s .count) (l .i) (getD (s .items) (l .i) noItem) ≡ false = sym (c .before .is-sound-item .ensures) ∙ not-true _ (c .if1 .taken) in
+    sym (l .inv .1 ∙ every-at (soundItem (s .count)) (s .items) (l .i) noItem (omega (arith, ten b)) ∙ rw e)
+
+add-i : tie.Need-add-i Inv-loop μ-loop
+add-i c = omega arith
+
+loop-less : tie.Need-loop-less Inv-loop μ-loop
+loop-less c = omega arith
+
+loop-again : tie.Need-loop-again Inv-loop μ-loop
+unfolding soundSheet
+loop-again c =
+    let l = c .before .before .before .before .loop in
+    let b = c .before .before .before .before .before in
+    let s = b .args .t1 in
+    let e : soundItem (s .count) (l .i) (getD (s .items) (l .i) noItem) ≡ true = sym (c .before .is-sound-item .ensures) ∙ not-false _ (c .if1 .left) in
+    (omega arith, l .inv .1 ∙ every-at (soundItem (s .count)) (s .items) (l .i) noItem (omega (arith, ten b)) ∙ rw e)
+
+returns-2 : tie.Need-returns-2 Inv-loop μ-loop
+unfolding soundSheet
+returns-2 c = sym (c .before .loop .inv .1 ∙ every-end _ (c .before .before .args .t1 .items) (c .before .loop .i) (omega (arith, ten (c .before .before))))
+
+pub is-sound-sheet-spec : {M : Type 1} → statement M
+is-sound-sheet-spec =
+    tie.close
+    (tie.spec
+    Inv-loop
+    μ-loop
+    loop-holds
+    mul-item
+    element-copy-out-item
+    is-sound-item-requires
+    returns
+    add-i
+    loop-less
+    loop-again
+    returns-2)

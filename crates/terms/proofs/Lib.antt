@@ -1,0 +1,4 @@
+pub mod Counts
+pub mod TermCases
+pub mod Steps
+pub mod Wording

@@ -1,0 +1,110 @@
+-- `threshold::read_multiplier` meets its contract: each return has the tests of `multiplierOf` on its way.
+-- Assumes nothing.
+use native.Mathlib.Omega.{arith}
+use mathlib.Core.Path.{_≡_, sym, _∙_, ap}
+use mathlib.Core.Bool.{true, false}
+use Prim.Native.Nat.{_^_, _<_}
+use lib.IntN.{ℤ, pos, natAbs}
+use lib.Signed.{mag}
+use mir.Syntax.{w64}
+use mir.Val.{SFits}
+use Rattle.decimal.specs.Reading.{readingOf}
+use Rattle.decimal.specs.declared.Reading.the-variants.{Number}
+use Rattle.decimal.proofs.Signs.{back, small-fits, above}
+use Rattle.decimal.proofs.Small.{number-small}
+use Rattle.threshold.specs.Threshold.{unsignedReading, multiplierOf}
+use Rattle.threshold.specs.declared.Multiplier.the-variants.{Times}
+use Rattle.rows.proofs.Zero.{zero-test}
+use Rattle.threshold.proofs.Shapes.{unsigned-below-zero}
+use borrow.Author.Needs.{needs}
+use Rattle.threshold.proofs.read_multiplier.Statement.{statement}
+use Rattle.threshold.proofs.read_multiplier.Tie as tie
+
+-- no sign and no bracket
+plain : (c : tie.Else3) → let x = c .before .before .before .before .before .before .before .args .x .now in multiplierOf x ≡ unsignedReading (readingOf x)
+unfolding multiplierOf
+plain c =
+    let e2 = c .before .before in
+    let e1 = e2 .before .before in
+    simp (sym (e1 .before .has .ensures) ∙ e1 .if1 .left, sym (e2 .before .has2 .ensures) ∙ e2 .if2 .left, sym (c .before .ends-with .ensures) ∙ c .if3 .left)
+
+read : (c : tie.After-v) → readingOf (c .before .before .before .before .before .before .before .before .before .before .args .x .now) ≡ Number (c .v .given .0 .0)
+read c = sym (c .before .before .read-number .ensures) ∙ c .v .given .1
+
+fits : (c : tie.After-v) → SFits w64 (c .v .given .0 .0)
+fits c = let h = number-small _ _ (read c) in small-fits _ (omega arith)
+
+has-requires : tie.Need-has-requires
+has-requires c κs = search needs
+
+returns : tie.Need-returns
+unfolding multiplierOf
+returns c = simp (sym (c .before .has .ensures) ∙ c .if1 .taken)
+
+has-requires-2 : tie.Need-has-requires-2
+has-requires-2 c κs = search needs
+
+returns-2 : tie.Need-returns-2
+unfolding multiplierOf
+returns-2 c =
+    let e1 = c .before .before in
+    simp (sym (e1 .before .has .ensures) ∙ e1 .if1 .left, sym (c .before .has2 .ensures) ∙ c .if2 .taken)
+
+ends-with-requires : tie.Need-ends-with-requires
+ends-with-requires c κs = search needs
+
+returns-3 : tie.Need-returns-3
+unfolding multiplierOf
+returns-3 c =
+    let e2 = c .before .before in
+    let e1 = e2 .before .before in
+    simp (sym (e1 .before .has .ensures) ∙ e1 .if1 .left, sym (e2 .before .has2 .ensures) ∙ e2 .if2 .left, sym (c .before .ends-with .ensures) ∙ c .if3 .taken)
+
+read-number-requires : tie.Need-read-number-requires
+read-number-requires c κs = search needs
+
+enum-known-v : tie.Need-enum-known-v
+enum-known-v c = search needs
+
+enum-told : tie.Need-enum-told
+enum-told c = search needs
+
+returns-4 : tie.Need-returns-4
+returns-4 c =
+    let n = c .before .before in
+    sym (plain (n .before) ∙ ap unsignedReading (sym (n .read-number .ensures) ∙ c .enum-told .given .1))
+
+returns-5 : tie.Need-returns-5
+returns-5 c =
+    let v = c .before .before in
+    let z = v .v .given .0 .0 in
+    unsigned-below-zero z (zero-test z true (fits v) (c .if4 .taken)) ∙ sym (plain (v .before .before .before) ∙ ap unsignedReading (read v))
+
+magnitude-requires : tie.Need-magnitude-requires
+magnitude-requires c κs = search needs
+
+returns-6 : tie.Need-returns-6
+returns-6 c =
+    let e4 = c .before in
+    let v = e4 .before .before in
+    let z = v .v .given .0 .0 in
+    let at = above z (fits v) (e4 .if4 .left) in
+    ap Times (c .magnitude .ensures ∙ ap natAbs (back z (fits v))) ∙ sym (plain (v .before .before .before) ∙ ap unsignedReading (read v) ∙ ap (λ (y : ℤ). unsignedReading (Number y)) at)
+
+pub read-multiplier-spec : {M : Type 1} → statement M
+read-multiplier-spec =
+    tie.close
+    (tie.spec
+    has-requires
+    returns
+    has-requires-2
+    returns-2
+    ends-with-requires
+    returns-3
+    read-number-requires
+    enum-known-v
+    enum-told
+    returns-4
+    returns-5
+    magnitude-requires
+    returns-6)

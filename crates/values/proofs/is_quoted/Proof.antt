@@ -1,0 +1,25 @@
+-- `values::is_quoted` meets its contract: one mark or the other.
+-- Assumes nothing.
+use mathlib.Core.Path.{sym, _∙_}
+use Rattle.values.specs.Value.{isQuoted}
+use borrow.Author.Needs.{needs}
+use Rattle.values.proofs.is_quoted.Statement.{statement}
+use Rattle.values.proofs.is_quoted.Tie as tie
+
+is-quoted-by-requires : tie.Need-is-quoted-by-requires
+is-quoted-by-requires c κs = search needs
+
+returns : tie.Need-returns
+unfolding isQuoted
+returns c = simp (sym (c .before .is-quoted-by .ensures) ∙ c .if1 .taken)
+
+is-quoted-by-requires-2 : tie.Need-is-quoted-by-requires-2
+is-quoted-by-requires-2 c κs = search needs
+
+returns-2 : tie.Need-returns-2
+unfolding isQuoted
+returns-2 c = simp (sym (c .before .before .is-quoted-by .ensures) ∙ c .before .if1 .left, c .is-quoted-by2 .ensures)
+
+pub is-quoted-spec : {M : Type 1} → statement M
+is-quoted-spec =
+    tie.close (tie.spec is-quoted-by-requires returns is-quoted-by-requires-2 returns-2)

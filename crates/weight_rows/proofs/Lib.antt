@@ -1,0 +1,2 @@
+pub mod WeightCases
+mod Weights

@@ -1,0 +1,73 @@
+-- Rows 4 and 5, of formula, weight and category (document 01, "The twelve rows").
+-- Assumes nothing.
+use Prim.Native.Nat.{ℕ, suc, _+_, _*_}
+use mathlib.Core.Bool.{Bool, true, false, cond, _&&_, _||_}
+use mathlib.Core.List.{List}
+use lib.Dec.{ltb}
+use lib.IntN.{ℤ, pos, negsuc}
+use Rattle.decimal.specs.Reading.{readingOf}
+use Rattle.decimal.specs.declared.Reading.{Reading}
+use Rattle.decimal.specs.declared.Reading.the-variants.{Number, Nothing}
+use Rattle.values.specs.Value.{textOf}
+use Rattle.formula.specs.Recognised.{allRecognised}
+use Rattle.formula.specs.Sum.{sumOf}
+use Rattle.formula.specs.declared.class.Class.the-variants.{MetalOrganic, Organic}
+use Rattle.elements.specs.declared.Weight.{Weight}
+use Rattle.elements.specs.declared.Weight.the-variants.{Thousandths, NoWeight}
+use Rattle.levels.specs.Level.{levelOf}
+use Rattle.rows.specs.Rows.{rowOf, noAlert, missing}
+use Rattle.rows.specs.declared.Row.{Row}
+use Rattle.formula_rows.specs.FormulaRows.{inClass}
+
+-- a sum in thousandths, in millionths
+abbrev pub millionths : ℕ → ℕ
+millionths s = s * 1000
+
+-- RW = given / sum is below p hundredths, by cross-multiplication; a weight below zero is below them all. Both weights are in millionths.
+abbrev pub ratioBelow : ℕ → ℤ → ℕ → Bool
+ratioBelow p (pos given) sum = ltb (given * 100) (p * sum)
+ratioBelow p (negsuc given) sum = true
+
+-- RW is above p hundredths
+abbrev pub ratioAbove : ℕ → ℤ → ℕ → Bool
+ratioAbove p (pos given) sum = ltb (p * sum) (given * 100)
+ratioAbove p (negsuc given) sum = false
+
+abbrev pub ratioOutside : ℕ → ℕ → ℤ → ℕ → Bool
+ratioOutside lo hi given sum = ratioBelow lo given sum || ratioAbove hi given sum
+
+-- "Below 0.90 or above 1.10: A; below 0.95 or above 1.05: B; below 0.99 or above 1.01: C."
+unfoldable pub ratioLevel : ℤ → ℕ → ℕ
+ratioLevel given sum = levelOf (ratioOutside 90 110 given sum) (ratioOutside 95 105 given sum) (ratioOutside 99 101 given sum)
+
+-- a weight that is no number, which no sound sheet holds, cannot be judged
+abbrev pub ratioRow : Reading → Weight → Row
+ratioRow (Number given) (Thousandths s) = rowOf (ratioLevel given (millionths s)) 0
+ratioRow (Number given) NoWeight = rowOf 2 2
+ratioRow Nothing sum = rowOf 2 2
+
+-- "4. CHEMW_01r (002): RW = given / sum. .. Formula or weight missing: C, reason 1; else row 1 at A or a symbol without a weight: C, reason 2 (house)."
+unfoldable pub row4 : List ℕ → List ℕ → Row
+row4 formula weight =
+    cond (missing formula || missing weight) (rowOf 2 1)
+    (cond (allRecognised (textOf formula)) (ratioRow (readingOf weight) (sumOf (textOf formula))) (rowOf 2 2))
+
+-- "|given − sum| above 1.0", both in millionths
+unfoldable pub farApart : ℤ → ℕ → Bool
+farApart (pos given) sum = ltb (sum + 1000000) given || ltb (given + 1000000) sum
+farApart (negsuc given) sum = ltb 1000000 (suc given + sum)
+
+-- "category FO, FM, CO or CM"
+unfoldable pub isWeighedCategory : List ℕ → Bool
+isWeighedCategory t = inClass Organic t || inClass MetalOrganic t
+
+abbrev pub differenceRow : Reading → Weight → List ℕ → Row
+differenceRow (Number given) (Thousandths s) category = cond (farApart given (millionths s) && isWeighedCategory category) (rowOf 2 0) noAlert
+differenceRow (Number given) NoWeight category = rowOf 0 2
+differenceRow Nothing sum category = rowOf 0 2
+
+-- "5. CHEMW_01d (002): |given − sum| above 1.0 and category FO, FM, CO or CM: C. Formula, weight or category missing: level 0, reason 1; then as row 4: level 0, reason 2."
+unfoldable pub row5 : List ℕ → List ℕ → List ℕ → Row
+row5 formula weight category =
+    cond (missing formula || (missing weight || missing category)) (rowOf 0 1)
+    (cond (allRecognised (textOf formula)) (differenceRow (readingOf weight) (sumOf (textOf formula)) (textOf category)) (rowOf 0 2))
