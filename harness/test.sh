@@ -88,13 +88,15 @@ libraries() {
 }
 
 headers() {
-    local source='#include "wall.h"
+    local name source='#include "wall.h"
+#include "sheet_file.h"
 #include "probe.h"
 #include "rows.h"
 #include "keys.h"
 #include "play.h"
 #include "file.h"
 #include "wall.h"
+#include "sheet_file.h"
 #include "probe.h"
 #include "rows.h"
 #include "keys.h"
@@ -105,16 +107,18 @@ uint8_t ask(const uint8_t *text, probe_desk desk, uint8_t *log, uint8_t *out)
 {
     return (uint8_t)(wall_classify(text, 0) + probe_item(text, 0) + probe_rows(desk.sheet).rows[11].level +
                      probe_key(desk, log, 0, 0, 0, 10).answer + play_sequence(text, 0, log, 0, out, 1338).answer +
-                     probe_file(desk, text, 0, out, 0).answer);
+                     probe_file(desk, text, 0, out, 0).answer + sheet_file(text, 0, log, 0, text, 0, out, 0).answer);
 }'
     echo "$source" >"$work/headers.c"
     cp "$work/headers.c" "$work/headers.cc"
     compiles "headers as C" gcc -std=c11 "${warnings[@]}" -Iinclude -Iharness -c "$work/headers.c" -o "$work/headers.o"
-    compiles "client without warnings" gcc -std=c11 -O2 "${warnings[@]}" -Iinclude -c client/wall_screen.c -o "$work/client.o"
+    for name in wall_screen sheet_cif; do
+        compiles "$name without warnings" gcc -std=c11 -O2 "${warnings[@]}" -Iinclude -c client/$name.c -o "$work/client.o"
+    done
     if command -v g++ >/dev/null; then
         compiles "headers as C++" g++ -std=c++17 "${warnings[@]}" -Iinclude -Iharness -c "$work/headers.cc" -o "$work/headers++.o"
-        nm -u "$work/headers++.o" | awk '{ print $2 }' | grep -E '^(wall|probe|play)_' | sort >"$work/symbols"
-        printf '%s\n' play_sequence probe_file probe_item probe_key probe_rows wall_classify >"$work/want"
+        nm -u "$work/headers++.o" | awk '{ print $2 }' | grep -E '^(wall|probe|play|sheet)_' | sort >"$work/symbols"
+        printf '%s\n' play_sequence probe_file probe_item probe_key probe_rows sheet_file wall_classify >"$work/want"
         same "C names from C++" "$work/want" "$work/symbols"
     else
         echo "skipped: headers as C++ (no g++)"
@@ -483,11 +487,16 @@ sheet_cif_runs() {
     done
     summary "sheet_cif: 300 generated inputs" "$harness" cif-runs "$sheet_cif" 15 300
     cif_refuses "sheet_cif: no argument" 2 "$sheet_cif" <$first.in
+    cif_refuses "sheet_cif: FILE is empty" 2 "$sheet_cif" camp-1 '' <$first.in
     cif_refuses "sheet_cif: three arguments" 2 "$sheet_cif" a "$work/b" c <$first.in
     for word in '' "$(printf 'a%.0s' {1..33})" camp_1 'camp 1' camp/1 $'caf\xc3\xa9' $'camp\n' data_ .; do
         cif_refuses "sheet_cif: block name $(printf %q "$word")" 1 "$sheet_cif" "$word" <$first.in
     done
     runs "sheet_cif: block name of 32" 0 "data_$(printf 'a%.0s' {1..32})"$'\n' '' "$sheet_cif" "$(printf 'a%.0s' {1..32})" </dev/null
+    runs "sheet_cif: - for FILE" 0 "$(cat $first.cif)"$'\n' '' "$sheet_cif" camp-1 - <$first.in
+    runs "sheet_cif: help" 0 $'usage: sheet_cif BLOCK [FILE]\n' '' bash -c '"$1" --help | head -n 1' - "$sheet_cif" </dev/null
+    runs "sheet_cif: block name --help" 0 $'data_--help\n' '' "$sheet_cif" --help - </dev/null
+    cif_refuses "sheet_cif: input cannot be read" 1 "$sheet_cif" camp-1 <.
     if [ -c /dev/full ]; then
         cif_refuses "sheet_cif: output cannot be written" 1 bash -c '"$1" camp-1 >/dev/full' - "$sheet_cif" <$first.in
     fi
