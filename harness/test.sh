@@ -488,7 +488,7 @@ sheet_cif_runs() {
     summary "sheet_cif: 300 generated inputs" "$harness" cif-runs "$sheet_cif" 15 300
     cif_refuses "sheet_cif: no argument" 2 "$sheet_cif" <$first.in
     cif_refuses "sheet_cif: FILE is empty" 2 "$sheet_cif" camp-1 '' <$first.in
-    cif_refuses "sheet_cif: three arguments" 2 "$sheet_cif" a "$work/b" c <$first.in
+    cif_refuses "sheet_cif: three arguments" 2 "$sheet_cif" a "$work/b" $'c\nd' <$first.in
     for word in '' "$(printf 'a%.0s' {1..33})" camp_1 'camp 1' camp/1 $'caf\xc3\xa9' $'camp\n' data_ .; do
         cif_refuses "sheet_cif: block name $(printf %q "$word")" 1 "$sheet_cif" "$word" <$first.in
     done
@@ -526,6 +526,7 @@ sheet_cif_runs() {
     holds "sheet_cif: a refusal leaves FILE and nothing else" "$folder" a.cif harness/desk-sessions/empty.cif
     rm "$folder/a.cif"
     cif_refuses "sheet_cif: no such folder" 1 "$sheet_cif" camp-1 "$folder/none/a.cif" <$first.in
+    cif_refuses "sheet_cif: no such folder, in two lines" 1 "$sheet_cif" camp-1 "$folder/no"$'\n'"ne/a.cif" <$first.in
     cif_refuses "sheet_cif: FILE is a folder" 1 "$sheet_cif" camp-1 "$folder" <$first.in
     cif_refuses "sheet_cif: a folder of the system" 1 "$sheet_cif" camp-1 /proc/a.cif <$first.in
     if [ "$(id -u)" -ne 0 ]; then
