@@ -1,31 +1,21 @@
 // The name of a block: 1 to 32 letters, digits or `-`.
 ghost use mathlib.Core.Path.{_≡_};
-ghost use Rattle.text.specs.Run.{between};
 ghost use Rattle.cif_file.specs.Block.{isBlockByte, isBlockName};
 
 // The longest name of a block.
 pub const BLOCK_MOST: usize = 32;
 
-fn is_between(b: u8, lo: u8, hi: u8) -> bool
-    ensures { λ r. ⌜ r ≡ between lo hi b ⌝ }
-{
-    if b < lo {
-        return false;
-    }
-    b <= hi
-}
-
 // Whether a byte can stand in a block's name.
 fn is_block_byte(b: u8) -> bool
     ensures { λ r. ⌜ r ≡ isBlockByte b ⌝ }
 {
-    if is_between(b, b'A', b'Z') {
+    if text::is_between(b, b'A', b'Z') {
         return true;
     }
-    if is_between(b, b'a', b'z') {
+    if text::is_between(b, b'a', b'z') {
         return true;
     }
-    if is_between(b, b'0', b'9') {
+    if text::is_between(b, b'0', b'9') {
         return true;
     }
     b == b'-'

@@ -42,18 +42,29 @@ const NAMES: [u8; 237] = *b"_chemical_formula_sum\
     _refine_ls_shift/esd_max\
     _reflns_threshold_expression";
 
-const STARTS: [usize; 11] = [0, 21, 45, 69, 91, 114, 138, 162, 185, 209, 237];
+const STARTS: [u8; 11] = [0, 21, 45, 69, 91, 114, 138, 162, 185, 209, 237];
 
 const KINDS: [u8; 10] = *b"tncnnnnnnt";
 
-// Whether s is the name of item k + 1, without regard to the case of A to Z.
+// Whether s is the text of the table for item k + 1, without regard to the case of A to Z.
+fn is_in_table(k: usize, s: &[u8]) -> bool
+    requires { ⌜ k < itemCount ⌝ }
+    ensures { λ r. ⌜ r ≡ sameFolded (now (s .entry)) (rowOf (k + 1) .name) ⌝ }
+{
+    let from = STARTS[k] as usize;
+    let to = STARTS[k + 1] as usize;
+    text::same_folded(s, &NAMES[from..to])
+}
+
+// Whether s is the name of item k + 1, without regard to the case of A to Z. The table of names is not touched for a text of another length.
 fn is_name(k: usize, s: &[u8]) -> bool
     requires { ⌜ k < itemCount ⌝ }
     ensures { λ r. ⌜ r ≡ sameFolded (now (s .entry)) (rowOf (k + 1) .name) ⌝ }
 {
-    let from = STARTS[k];
-    let to = STARTS[k + 1];
-    text::same_folded(s, &NAMES[from..to])
+    if s.len() != name_length(k + 1) {
+        return false;
+    }
+    is_in_table(k, s)
 }
 
 // The item of a name.
@@ -141,7 +152,7 @@ pub fn name_length(item: usize) -> usize
     if ITEM_COUNT < item {
         return 0;
     }
-    STARTS[item] - STARTS[item - 1]
+    (STARTS[item] - STARTS[item - 1]) as usize
 }
 
 // Copies an item's name into out from a place on, where it fits; else, and where there is no such item, nothing.
@@ -154,8 +165,8 @@ pub fn copy_name(out: &mut [u8], at: usize, item: usize)
     if ITEM_COUNT < item {
         return;
     }
-    let from = STARTS[item - 1];
-    let to = STARTS[item];
+    let from = STARTS[item - 1] as usize;
+    let to = STARTS[item] as usize;
     text::copy_in(out, at, &NAMES[from..to]);
 }
 

@@ -1,7 +1,7 @@
 -- Laws of `runOf`, `all` and `hasAt`, for every kind of byte. A loop that has passed i bytes of the kind keeps `Passed p s i`.
 -- Assumes nothing.
 use mathlib.Core.Path.{_≡_, refl, sym, ap, _∙_}
-use mathlib.Core.Bool.{Bool, true, false, cond, _&&_, false≢true}
+use mathlib.Core.Bool.{Bool, true, false, cond, _&&_, false≢true, and-true, and-assoc}
 use mathlib.Core.List.{List, [], _∷_, _++_}
 use Prim.Native.Nat.{ℕ, zero, suc, _+_, _≤_, _<_}
 use native.Mathlib.Numerals.{add-one}
@@ -9,7 +9,7 @@ use native.Mathlib.Omega.{arith}
 use borrow.Author.Tests.{lt-ltb, ltb-true, eq-eqb, ne-eqb, eqb-true}
 use lib.Dec.{ltb, eqb, eqb·suc-suc, eqb·zero-suc}
 use lib.ListN.{length, getD, take, drop, replicate, drop-of-length-le, length-append, take-append-drop}
-use lib.Seq.{drop-cons, length-take-le, getD-append-seam}
+use lib.Seq.{drop-cons, length-take-le, getD-append-seam, take-suc, take-all}
 use Rattle.text.specs.Run.{runOf, all, hasAt}
 use Rattle.text.proofs.Bools.{and-both}
 
@@ -122,3 +122,27 @@ pub all-replicate : (p : ℕ → Bool) (n b : ℕ) → p b ≡ true → all p (r
 unfolding all
 all-replicate p zero b h = refl
 all-replicate p (suc n) b h = rw h (all-replicate p n b h)
+
+all-one : (p : ℕ → Bool) (a : List ℕ) (b : ℕ) → all p (a ++ (b ∷ [])) ≡ (all p a && p b)
+unfolding all
+all-one p [] b = and-true (p b)
+all-one p (x ∷ xs) b = ap (λ (t : Bool). p x && t) (all-one p xs b) ∙ sym (and-assoc (p x) (all p xs) (p b))
+
+-- a loop that looks at every byte: whether the first i are of the kind
+pub record Scanned (p : ℕ → Bool) (s : List ℕ) (i : ℕ) (so-far : Bool) : Type 0 where
+  pub within : i ≤ length s
+  pub firsts : so-far ≡ all p (take i s)
+
+module _ (p : ℕ → Bool) (s : List ℕ) where
+  pub scan-none : Scanned p s 0 true
+  unfolding all
+  scan-none = record { within = omega arith; firsts = refl }
+
+  pub scan-next : {i : ℕ} {a b t : Bool} → Scanned p s i a → i < length s → t ≡ p (getD s i 0) → b ≡ (a && t) → Scanned p s (i + 1) b
+  scan-next {i} {a} {b} {t} h l e q =
+      let more : all p (take (i + 1) s) ≡ (all p (take i s) && p (getD s i 0))
+      = ap (λ (n : ℕ). all p (take n s)) (add-one i) ∙ ap (all p) (take-suc s i 0 l) ∙ all-one p (take i s) (getD s i 0) in
+      record { within = omega arith; firsts = q ∙ ap (λ (x : Bool). x && t) (h .firsts) ∙ ap (λ (x : Bool). all p (take i s) && x) e ∙ sym more }
+
+  pub scan-all : {i : ℕ} {a : Bool} → Scanned p s i a → length s ≤ i → a ≡ all p s
+  scan-all {i} h l = h .firsts ∙ ap (all p) (take-all i s l)

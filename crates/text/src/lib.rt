@@ -40,18 +40,45 @@ pub fn run_other(s: &[u8], x: u8) -> usize
     i
 }
 
-// Whether every byte of s is from lo to hi.
+// Whether a byte is from lo to hi.
+pub fn is_between(b: u8, lo: u8, hi: u8) -> bool
+    ensures { λ r. ⌜ r ≡ between lo hi b ⌝ }
+{
+    if b < lo {
+        return false;
+    }
+    b <= hi
+}
+
+// Whether every byte of s is from lo to hi. It looks at all of them, many at a time.
 pub fn all_between(s: &[u8], lo: u8, hi: u8) -> bool
     ensures { λ r. ⌜ r ≡ all (between lo hi) (now (s .entry)) ⌝ }
 {
-    run_between(s, lo, hi) == s.len()
+    let mut so_far = true;
+    let mut i = 0;
+    while i < s.len() {
+        if !is_between(s[i], lo, hi) {
+            so_far = false;
+        }
+        i += 1;
+    }
+    so_far
 }
 
-// Whether no byte of s is x.
+// Whether no byte of s is x. It looks at all of them, many at a time.
 pub fn lacks(s: &[u8], x: u8) -> bool
     ensures { λ r. ⌜ r ≡ all (other x) (now (s .entry)) ⌝ }
 {
-    run_other(s, x) == s.len()
+    let mut so_far = true;
+    let mut i = 0;
+    while i < s.len() {
+        let byte = s[i];
+        if byte == x {
+            so_far = false;
+        }
+        i += 1;
+    }
+    so_far
 }
 
 // Whether the byte b stands in s at a place.
@@ -90,21 +117,22 @@ fn to_lower(b: u8) -> u8
     b + 32
 }
 
-// Whether two texts are the same but for the case of A to Z.
+// Whether two texts are the same but for the case of A to Z. Of two as long as each other it looks at all bytes, many at a time.
 pub fn same_folded(a: &[u8], b: &[u8]) -> bool
     ensures { λ r. ⌜ r ≡ sameFolded (now (a .entry)) (now (b .entry)) ⌝ }
 {
     if a.len() != b.len() {
         return false;
     }
+    let mut so_far = true;
     let mut i = 0;
     while i < a.len() {
         if to_lower(a[i]) != to_lower(b[i]) {
-            return false;
+            so_far = false;
         }
         i += 1;
     }
-    true
+    so_far
 }
 
 // Whether s begins with p, but for the case of A to Z.

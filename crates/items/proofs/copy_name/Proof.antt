@@ -19,17 +19,21 @@ returns-2 c =
     let a = c .before .before .before .args in
     sym (ap (copied (now (a .out)) (a .at)) (no-name-after (a .item) (omega arith) (c .if2 .taken)) ∙ copied-none (now (a .out)) (a .at))
 
-mul-from : tie.Need-mul-from
-mul-from c = search needs
-
 array-read-from : tie.Need-array-read-from
 array-read-from c = search needs
 
-mul-to : tie.Need-mul-to
-mul-to c = search needs
+cast-from : tie.Need-cast-from
+unfolding starts
+cast-from c =
+    let item = c .before .before .before .args .item in
+    omega (arith, item-ordered item (omega arith) (omega arith), item-within item (omega arith) (omega arith))
 
 array-read-to : tie.Need-array-read-to
 array-read-to c = search needs
+
+cast-to : tie.Need-cast-to
+unfolding starts
+cast-to c = omega (arith, item-within (c .before .before .before .args .item) (omega arith) (omega arith))
 
 sub-copy-in : tie.Need-sub-copy-in
 unfolding starts
@@ -63,10 +67,10 @@ copy-name-spec =
     (tie.spec
     returns
     returns-2
-    mul-from
     array-read-from
-    mul-to
+    cast-from
     array-read-to
+    cast-to
     sub-copy-in
     part-copy-in-start
     part-copy-in-end

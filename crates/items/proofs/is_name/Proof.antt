@@ -1,59 +1,35 @@
--- `items::is_name` meets its contract: the part of the flat table is the item's name.
+-- `items::is_name` meets its contract: a text of another length is no name.
 -- Assumes nothing.
-use mathlib.Core.Path.{_∙_, ap}
-use Rattle.text.specs.Same.{sameFolded}
-use Rattle.items.proofs.NameTable.{flat, starts, name-part, starts-ordered, starts-within}
+use native.Mathlib.Omega.{arith}
+use mathlib.Core.Path.{sym, ap, _∙_}
+use mathlib.Core.List.{List}
+use Prim.Native.Nat.{ℕ, _+_}
+use lib.ListN.{length}
+use Rattle.text.specs.Same.{lower}
+use Rattle.text.proofs.Sames.{other-length}
+use Rattle.items.proofs.NameOf.{name-of}
 use borrow.Author.Needs.{needs}
 use Rattle.items.proofs.is_name.Statement.{statement}
 use Rattle.items.proofs.is_name.Tie as tie
 
-mul-from : tie.Need-mul-from
-mul-from c = search needs
+add-name-length : tie.Need-add-name-length
+add-name-length c = search needs
 
-array-read-from : tie.Need-array-read-from
-array-read-from c = search needs
-
-add-to : tie.Need-add-to
-add-to c = search needs
-
-mul-to : tie.Need-mul-to
-mul-to c = search needs
-
-array-read-to : tie.Need-array-read-to
-array-read-to c = search needs
-
-sub-same-folded : tie.Need-sub-same-folded
-unfolding starts
-sub-same-folded c = starts-ordered (c .before .args .k) (c .before .pre)
-
-part-same-folded-start : tie.Need-part-same-folded-start
-unfolding starts
-part-same-folded-start c = starts-ordered (c .before .before .args .k) (c .before .before .pre)
-
-part-same-folded-end : tie.Need-part-same-folded-end
-unfolding starts
-part-same-folded-end c = starts-within (c .before .before .args .k) (c .before .before .pre)
-
-same-folded-requires : tie.Need-same-folded-requires
-same-folded-requires c κs = search needs
+name-length-requires : tie.Need-name-length-requires
+name-length-requires c κs = search needs
 
 returns : tie.Need-returns
-unfolding flat starts
 returns c =
-    let s = c .before .before .before .before in
-    c .same-folded .ensures ∙ ap (sameFolded (s .args .s .now)) (name-part (s .args .k) (s .pre))
+    let n = c .before in
+    let k = n .before .before .args .k in
+    let name = ap (λ (l : List ℕ). length l) (name-of (k + 1) (omega arith) (omega arith)) in
+    sym (other-length lower _ _ (λ e. c .if1 .taken (e ∙ sym (n .name-length .ensures ∙ name))))
+
+is-in-table-requires : tie.Need-is-in-table-requires
+is-in-table-requires c κs = search needs
+
+returns-2 : tie.Need-returns-2
+returns-2 c = search needs
 
 pub is-name-spec : {M : Type 1} → statement M
-is-name-spec =
-    tie.close
-    (tie.spec
-    mul-from
-    array-read-from
-    add-to
-    mul-to
-    array-read-to
-    sub-same-folded
-    part-same-folded-start
-    part-same-folded-end
-    same-folded-requires
-    returns)
+is-name-spec = tie.close (tie.spec add-name-length name-length-requires returns is-in-table-requires returns-2)

@@ -1,25 +1,30 @@
--- `text::same_folded` meets its contract. The loop's invariant: the bytes compared agree once folded, so the rests decide.
+-- `text::same_folded` meets its contract. The loop's invariant: whether the bytes passed agree once folded.
 -- The measure is what is left of the text. Assumes nothing.
 use native.Mathlib.Omega.{arith}
 use Prim.Native.Nat.{_-_}
-use mathlib.Core.Path.{sym, _∙_}
-use lib.ListN.{length}
+use mathlib.Core.Path.{sym, refl, _∙_}
+use mathlib.Core.Logic.{⊎-elim}
+use borrow.Author.Tests.{eq-eqb, ne-eqb}
+use borrow.Author.Needs.{needs}
+use denote.Ref.{now}
+use lib.ListN.{length, getD}
 use Rattle.text.specs.Same.{lower}
-use Rattle.text.proofs.Sames.{Compared, start, more, differ, end, other-length}
+use Rattle.text.proofs.Bools.{now-false, now-same}
+use Rattle.text.proofs.Sames.{Agreed, agree-none, agree-next, agree-all, other-length}
 use Rattle.text.proofs.same_folded.Statement.{statement}
 use Rattle.text.proofs.same_folded.Tie as tie
 
 abbrev Inv-loop : tie.InvT-loop
-Inv-loop a b i₀ i = Compared lower a b i
+Inv-loop a b so-far₀ i₀ so-far i = Agreed lower a b i so-far
 
 abbrev μ-loop : tie.MeasureT-loop
-μ-loop a b i₀ i = length a - i
+μ-loop a b so-far₀ i₀ so-far i = length a - i
 
 returns : tie.Need-returns Inv-loop μ-loop
 returns c = sym (other-length lower _ _ (c .if1 .taken))
 
 loop-holds : tie.Need-loop-holds Inv-loop μ-loop
-loop-holds c = start lower _ _ (c .if1 .left)
+loop-holds c = agree-none lower _ _ (c .if1 .left)
 
 shared-slice-read-to-lower : tie.Need-shared-slice-read-to-lower Inv-loop μ-loop
 shared-slice-read-to-lower c = omega arith
@@ -33,12 +38,6 @@ shared-slice-read-to-lower-2 c = omega arith
 to-lower-requires-2 : tie.Need-to-lower-requires-2 Inv-loop μ-loop
 to-lower-requires-2 c κs = omega arith
 
-returns-2 : tie.Need-returns-2 Inv-loop μ-loop
-returns-2 c =
-    let x = c .before .before .before .to-lower .ensures in
-    let y = c .before .to-lower2 .ensures in
-    sym (differ lower _ _ (c .before .before .before .before .before .before .loop .inv) (omega arith) (λ e. c .if2 .taken (x ∙ e ∙ sym y)))
-
 add-i : tie.Need-add-i Inv-loop μ-loop
 add-i c = omega arith
 
@@ -47,12 +46,21 @@ loop-less c = omega arith
 
 loop-again : tie.Need-loop-again Inv-loop μ-loop
 loop-again c =
-    let x = c .before .before .before .to-lower .ensures in
-    let y = c .before .to-lower2 .ensures in
-    more lower _ _ (c .before .before .before .before .before .before .loop .inv) (omega arith) (sym x ∙ c .if2 .left ∙ y)
+    let y = c .before in
+    let x = y .before .before in
+    let l = x .before .before .before in
+    let s = l .before .before .before .before in
+    let a = now (s .args .a) in
+    let b = now (s .args .b) in
+    let i = l .loop .i in
+    let next = agree-next lower a b (l .loop .inv) (omega arith) refl in
+    ⊎-elim
+    (λ w. next (now-false (l .loop .so-far) (w .1) (ne-eqb (lower (getD a i 0)) (lower (getD b i 0)) (λ e. w .0 .taken (x .to-lower .ensures ∙ e ∙ sym (y .to-lower2 .ensures))))))
+    (λ w. next (now-same (l .loop .so-far) (w .1) (eq-eqb (lower (getD a i 0)) (lower (getD b i 0)) (sym (x .to-lower .ensures) ∙ w .0 .left ∙ y .to-lower2 .ensures))))
+    (c .if2 .came)
 
-returns-3 : tie.Need-returns-3 Inv-loop μ-loop
-returns-3 c = sym (end lower _ _ (c .before .loop .inv) (c .loop-test .left))
+returns-2 : tie.Need-returns-2 Inv-loop μ-loop
+returns-2 c = agree-all lower _ _ (c .before .loop .inv) (c .loop-test .left)
 
 pub same-folded-spec : {M : Type 1} → statement M
 same-folded-spec =
@@ -66,8 +74,7 @@ same-folded-spec =
     to-lower-requires
     shared-slice-read-to-lower-2
     to-lower-requires-2
-    returns-2
     add-i
     loop-less
     loop-again
-    returns-3)
+    returns-2)
