@@ -23,7 +23,7 @@ use Rattle.threshold.specs.Threshold.{thresholdLevel, thresholdRow, row12}
 use Rattle.alerts.specs.Judged as judged
 use Rattle.alerts.specs.Judged.{Judged}
 use Rattle.rows.specs.declared.Row.{Row}
-use Rattle.weight_rows.proofs.WeightCases.{ratio-judged}
+use Rattle.weight_rows.proofs.WeightCases.{ratio-judged, weighed-both}
 
 -- a row is judged at a level
 JudgedAt : Bool → Bool → Bool → Row → Type 0
@@ -45,7 +45,7 @@ pub highest-broken : {a b c : Bool} {r : Row} → Judged a b c r → Highest a b
 unfolding JudgedAt ratioLevel gradedOf thresholdLevel
 highest-broken (judged.ratio f w given s p q k e g) =
     at-level (ratioLevel given (millionths s))
-    (ratio-judged f w p q k ∙ ap (λ (x : Reading). ratioRow x (sumOf (textOf f))) e ∙ ap (ratioRow (Number given)) g)
+    (ratio-judged f w p q ∙ ap ratioRow (weighed-both (textOf f) w given s e g))
     (level-highest _ _ _)
 highest-broken (judged.graded row place new old z p m e) =
     at-level (gradeOf place z)

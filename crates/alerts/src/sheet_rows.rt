@@ -18,8 +18,6 @@ use rows::Rows;
 use state::sheet::Item;
 use state::sheet::Sheet;
 use threshold::threshold_row;
-use weight_rows::difference_row;
-use weight_rows::ratio_row;
 
 // Rows 1 to 5.
 struct FormulaGroup {
@@ -49,8 +47,9 @@ fn formula_texts(f: &[u8], w: &[u8], c: &[u8]) -> FormulaGroup
     let first = recognised_row(f);
     let second = order_row(f);
     let third = class_row(f, c);
-    let fourth = ratio_row(f, w);
-    let fifth = difference_row(f, w, c);
+    let weighed = weight_rows::weight_rows(f, w, c);
+    let fourth = weighed.ratio;
+    let fifth = weighed.difference;
     FormulaGroup {
         first,
         second,

@@ -1,14 +1,14 @@
 -- The code's tables of weights: the symbols in one, the weights in another. That they are the table of weights is a test that antt computes.
 -- Assumes nothing.
-use mathlib.Core.Path.{_≡_, refl, _∙_}
+use mathlib.Core.Path.{_≡_, refl, sym, ap, subst, _∙_}
 use mathlib.Core.Bool.{Bool, true, false, cond, _&&_}
 use mathlib.Core.List.{List, [], _∷_}
 use Prim.Native.Nat.{ℕ, _≤_}
-use borrow.Author.Tests.{leb-true}
-use lib.Dec.{leb}
+use borrow.Author.Tests.{leb-true, eqb-true}
+use lib.Dec.{leb, eqb}
 use lib.ListN.{getD}
 use Rattle.text.proofs.Bools.{and-both}
-use Rattle.elements.specs.Elements.{sameSymbol, after, placeOf, WeightRow, weights, weightIn, weightOf, heaviest}
+use Rattle.elements.specs.Elements.{sameSymbol, after, placeOf, symbols, elementOf, isElement, WeightRow, weights, weightIn, weightOf, heaviest}
 use Rattle.elements.specs.declared.Place.{Place}
 use Rattle.elements.specs.declared.Place.the-variants.{At, Nowhere}
 use Rattle.elements.specs.declared.Weight.{Weight}
@@ -68,3 +68,42 @@ light (w ∷ ws) a b e =
 pub weight-light : (a b : ℕ) → Light (weightOf a b)
 unfolding weightOf weights allLight
 weight-light a b = light weights a b refl
+
+-- a symbol with a weight is recognised
+Known : ℕ → ℕ → Weight → Type 0
+Known a b (Thousandths w) = isElement a b ≡ true
+Known a b NoWeight = Unit {0}
+
+allKnown : List WeightRow → Bool
+allKnown [] = true
+allKnown (w ∷ ws) = isElement (getD (w .symbol) 0 0) (getD (w .symbol) 1 0) && allKnown ws
+
+same-known : (x y a b : ℕ) → sameSymbol x y a b ≡ true → isElement x y ≡ true → isElement a b ≡ true
+unfolding sameSymbol
+same-known x y a b e h =
+    let s = and-both (eqb x a) (eqb y b) e in
+    let ex = eqb-true x a (s .0) in
+    let ey = eqb-true y b (s .1) in
+    ap (λ (u : ℕ). isElement u b) (sym ex) ∙ ap (isElement x) (sym ey) ∙ h
+
+known-by : (x y a b v : ℕ) (u : Weight) (t : Bool) → sameSymbol x y a b ≡ t → isElement x y ≡ true → Known a b u → Known a b (cond t (Thousandths v) u)
+unfolding Known
+known-by x y a b v u true e h l = same-known x y a b e h
+known-by x y a b v u false e h l = l
+
+known : (ws : List WeightRow) (a b : ℕ) → allKnown ws ≡ true → Known a b (weightIn ws a b)
+unfolding weightIn allKnown Known
+known [] a b e = tt
+known (w ∷ ws) a b e =
+    let x = getD (w .symbol) 0 0 in
+    let y = getD (w .symbol) 1 0 in
+    let h = and-both (isElement x y) (allKnown ws) e in
+    known-by x y a b (w .thousandths) (weightIn ws a b) (sameSymbol x y a b) refl (h .0) (known ws a b (h .1))
+
+weights-known : allKnown weights ≡ true
+unfolding allKnown weights isElement elementOf placeOf sameSymbol symbols
+weights-known = refl
+
+pub weight-known : (a b w : ℕ) → weightOf a b ≡ Thousandths w → isElement a b ≡ true
+unfolding weightOf Known
+weight-known a b w e = subst (Known a b) e (known weights a b weights-known)

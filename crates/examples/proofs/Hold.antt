@@ -21,7 +21,7 @@ use Rattle.levels.specs.Bounds.{bounds, judgedOf, gradeOf, gradedOf}
 use Rattle.state.specs.Lines.{appended, erased}
 use Rattle.rows.specs.Rows.{missing}
 use Rattle.formula_rows.specs.FormulaRows.{row1, row2, row3}
-use Rattle.weight_rows.specs.WeightRows.{ratioLevel, row4, farApart, isWeighedCategory, row5}
+use Rattle.weight_rows.specs.WeightRows.{weighedOf, ratioLevel, row4, farApart, isWeighedCategory, row5}
 use Rattle.graded_rows.specs.GradedRows.{gradedRow, oldNameRow}
 use Rattle.threshold.specs.Threshold.{hasShape, multiplierOf, thresholdLevel, thresholdRow, row12}
 use Rattle.soundness.specs.Sound.{every, soundLine, soundEmpty, soundFilled, soundItem, soundLines, soundSheet, soundDesk, soundLog}
@@ -30,5 +30,5 @@ use Rattle.calls.specs.Key.{stored, keyStep, keyOf}
 use Rattle.examples.specs.Table.{Example, sheetWith, answerOf, examples}
 
 pub examples-hold : map (λ (e : Example). answerOf (e .asked)) examples ≡ map (λ (e : Example). e .answer) examples
-unfolding sheetWith answerOf examples between other runOf all hasAt lower sameBy beginsFolded valueFrom closes isTail sizeOf pointedOf unsignedOf readingOf isNumber mayBegin isReserved isBare isQuotedBy isQuoted isValue isUnassigned textOf items findFrom isCategory passes splitOf classOf kindAt isCount countOf termOf cut everyTerm some sameSymbol placeOf symbols elementOf isElement notMetals isMetal weights weightIn weightOf allRecognised rank key rising inOrder hasSymbol hasMetal formulaClass total sumOf bounds judgedOf gradeOf gradedOf appended erased missing row1 row2 row3 ratioLevel row4 farApart isWeighedCategory row5 gradedRow oldNameRow hasShape multiplierOf thresholdLevel thresholdRow row12 every soundLine soundEmpty soundFilled soundItem soundLines soundSheet soundDesk soundLog fits stored keyStep keyOf
+unfolding sheetWith answerOf examples between other runOf all hasAt lower sameBy beginsFolded valueFrom closes isTail sizeOf pointedOf unsignedOf readingOf isNumber mayBegin isReserved isBare isQuotedBy isQuoted isValue isUnassigned textOf items findFrom isCategory passes splitOf classOf kindAt isCount countOf termOf cut everyTerm some sameSymbol placeOf symbols elementOf isElement notMetals isMetal weights weightIn weightOf allRecognised rank key rising inOrder hasSymbol hasMetal formulaClass total sumOf bounds judgedOf gradeOf gradedOf appended erased missing row1 row2 row3 weighedOf ratioLevel row4 farApart isWeighedCategory row5 gradedRow oldNameRow hasShape multiplierOf thresholdLevel thresholdRow row12 every soundLine soundEmpty soundFilled soundItem soundLines soundSheet soundDesk soundLog fits stored keyStep keyOf
 examples-hold = refl

@@ -17,7 +17,7 @@ use Rattle.terms.specs.declared.term.Term.{Term}
 use Rattle.terms.specs.declared.term.Term.the-variants.{Well, Ill}
 use Rattle.elements.specs.declared.Weight.{Weight}
 use Rattle.elements.specs.declared.Weight.the-variants.{Thousandths, NoWeight}
-use Rattle.formula.proofs.Sums.{term-small, product-small}
+use Rattle.formula.proofs.Sums.{term-small, product-small, no-sum}
 use Rattle.elements.proofs.Weights.{Light, weight-light}
 
 times-small : (n : ℕ) (w : Weight) → n ≤ mostCount → Light w → SmallWeight (times n w)
@@ -57,9 +57,6 @@ cut-length : (s : List ℕ) → length (cut s) ≤ suc (length s)
 unfolding cut
 cut-length [] = omega arith
 cut-length (b ∷ bs) = cut-by (eqb b 32) b (suc (length bs)) (cut bs) (cut-length bs)
-
-no-sum : (n : ℕ) → NoWeight ≡ Thousandths n → ⊥
-no-sum n e = let z : _≡_ {A = ℕ} 0 1 = cc in omega arith
 
 pub sum-small : (s : List ℕ) (n : ℕ) → sumOf s ≡ Thousandths n → n < 10 ^ 13
 unfolding sumOf AtMost

@@ -1,8 +1,8 @@
 -- Laws of the sum of weights: a step over a term, and why no sum wraps.
 -- Assumes nothing.
 use mathlib.Core.Path.{_≡_, refl, sym, ap, subst, _∙_}
-use mathlib.Core.Bool.{Bool, true, false, cond, not}
-use mathlib.Core.List.{List, []}
+use mathlib.Core.Bool.{Bool, true, false, cond, not, _&&_}
+use mathlib.Core.List.{List, [], _∷_}
 use Prim.Native.Nat.{ℕ, _+_, _*_, _≤_}
 use native.Mathlib.Nat.{add-assoc, add-zero, zero-add, mul-le-mul}
 use native.Mathlib.Omega.{arith}
@@ -10,15 +10,18 @@ use borrow.Author.Tests.{leb-true}
 use lib.Dec.{leb, eqb}
 use lib.ListN.{length, getD, drop}
 use Rattle.text.specs.Run.{all}
-use Rattle.text.proofs.Bools.{and-both}
+use Rattle.text.proofs.Bools.{and-both, cond-first}
 use Rattle.decimal.specs.Digits.{isDigit, valueOf}
 use Rattle.terms.specs.Term.{mostCount, isCapital, isSmall, kindAt, isCount, countOf, counted, termOf}
-use Rattle.terms.specs.Terms.{termsOf}
-use Rattle.elements.specs.Elements.{heaviest}
-use Rattle.formula.specs.Sum.{plus, termWeight, total, SmallCount}
+use Rattle.terms.specs.Terms.{termsOf, every}
+use Rattle.elements.specs.Elements.{isElement, weightOf, heaviest}
+use Rattle.elements.proofs.Weights.{weight-known}
+use Rattle.formula.specs.Recognised.{isRecognised, allRecognised}
+use Rattle.formula.specs.Sum.{mostSummed, times, plus, termWeight, total, sumOf, SmallCount}
 use Rattle.terms.specs.declared.term.Count.{Count}
 use Rattle.terms.specs.declared.term.Count.the-variants.{Times, NoCount}
 use Rattle.terms.specs.declared.term.Term.{Term}
+use Rattle.terms.specs.declared.term.Term.the-variants.{Well, Ill}
 use Rattle.elements.specs.declared.Weight.{Weight}
 use Rattle.elements.specs.declared.Weight.the-variants.{Thousandths, NoWeight}
 use Rattle.terms.proofs.Steps.{termsFrom, from-start, Stepped}
@@ -96,3 +99,31 @@ module _ {s : List ℕ} {from : ℕ} {t : Term} {n : ℕ} (h : Stepped s from t 
 pub sum-end : {ts : List Term} (u : ℕ) → ts ≡ [] → plus (Thousandths u) (total ts) ≡ Thousandths u
 unfolding total
 sum-end u h = ap (λ (ts : List Term). plus (Thousandths u) (total ts)) h ∙ ap Thousandths (add-zero u)
+
+-- a formula that has a sum is recognised: its terms have weights
+weighed-term : (t : Term) (w : ℕ) → termWeight t ≡ Thousandths w → isRecognised t ≡ true
+weighed-term (Well a b n) w e = weighed-symbol a b n w (weightOf a b) refl e
+  where
+    weighed-symbol : (a b n w : ℕ) (u : Weight) → weightOf a b ≡ u → times n u ≡ Thousandths w → isElement a b ≡ true
+    weighed-symbol a b n w (Thousandths v) f e = weight-known a b v f
+    weighed-symbol a b n w NoWeight f e = let z : _≡_ {A = ℕ} 0 1 = cc in absurd (omega arith)
+weighed-term Ill w e = let z : _≡_ {A = ℕ} 0 1 = cc in absurd (omega arith)
+
+weighed-by : (t : Term) (ts : List Term) (w : ℕ) (u v : Weight) → termWeight t ≡ u → total ts ≡ v → plus u v ≡ Thousandths w
+    → ((x : ℕ) → total ts ≡ Thousandths x → every isRecognised ts ≡ true) → (isRecognised t && every isRecognised ts) ≡ true
+weighed-by t ts w (Thousandths x) (Thousandths y) e f g rest = rw (weighed-term t x e) (rest y f)
+weighed-by t ts w (Thousandths x) NoWeight e f g rest = let z : _≡_ {A = ℕ} 0 1 = cc in absurd (omega arith)
+weighed-by t ts w NoWeight v e f g rest = let z : _≡_ {A = ℕ} 0 1 = cc in absurd (omega arith)
+
+weighed-terms : (ts : List Term) (w : ℕ) → total ts ≡ Thousandths w → every isRecognised ts ≡ true
+unfolding total every
+weighed-terms [] w e = refl
+weighed-terms (t ∷ ts) w e = weighed-by t ts w (termWeight t) (total ts) refl refl e (weighed-terms ts)
+
+pub no-sum : (n : ℕ) → NoWeight ≡ Thousandths n → ⊥
+no-sum n e = let z : _≡_ {A = ℕ} 0 1 = cc in omega arith
+
+pub summed-recognised : (s : List ℕ) (n : ℕ) → sumOf s ≡ Thousandths n → allRecognised s ≡ true
+unfolding sumOf allRecognised
+summed-recognised s n e =
+    weighed-terms (termsOf s) n (cond-first (leb (length s) mostSummed) (total (termsOf s)) NoWeight (Thousandths n) (no-sum n) e .1)

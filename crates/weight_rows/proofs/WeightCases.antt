@@ -1,16 +1,47 @@
 -- The cases of the definitions of rows 4 and 5, each with the tests that lead to it.
 -- Assumes nothing.
-use mathlib.Core.Path.{_≡_}
-use mathlib.Core.Bool.{true, false}
+use mathlib.Core.Path.{_≡_, refl, ap, _∙_}
+use mathlib.Core.Bool.{Bool, true, false, cond}
 use mathlib.Core.List.{List}
 use Prim.Native.Nat.{ℕ}
+use lib.IntN.{ℤ}
 use Rattle.decimal.specs.Reading.{readingOf}
+use Rattle.decimal.specs.declared.Reading.{Reading}
+use Rattle.decimal.specs.declared.Reading.the-variants.{Number, Nothing}
 use Rattle.values.specs.Value.{textOf}
 use Rattle.formula.specs.Recognised.{allRecognised}
 use Rattle.formula.specs.Sum.{sumOf}
+use Rattle.formula.proofs.Sums.{summed-recognised}
+use Rattle.elements.specs.declared.Weight.{Weight}
+use Rattle.elements.specs.declared.Weight.the-variants.{Thousandths, NoWeight}
 use Rattle.rows.specs.Rows.{rowOf, missing}
-use Rattle.weight_rows.specs.WeightRows.{ratioRow, row4, differenceRow, row5}
+use Rattle.weight_rows.specs.WeightRows.{millionths, weighedBy, weighedOf, ratioRow, row4, differenceRow, row5}
+use Rattle.weight_rows.specs.declared.Weighed.{Weighed}
+use Rattle.weight_rows.specs.declared.Weighed.the-variants.{Both, NotBoth}
 
+-- what is judged of a formula's text and a weight
+neither : (t : Bool) → cond t NotBoth NotBoth ≡ NotBoth
+neither true = refl
+neither false = refl
+
+not-both : (r : Reading) (w : Weight) → w ≡ NoWeight → weighedBy r w ≡ NotBoth
+not-both (Number z) w e = ap (weighedBy (Number z)) e
+not-both Nothing w e = refl
+
+module _ (t w : List ℕ) where
+  pub weighed-unread : readingOf w ≡ Nothing → weighedOf t w ≡ NotBoth
+  unfolding weighedOf
+  weighed-unread e = ap (λ (r : Reading). cond (allRecognised t) (weighedBy r (sumOf t)) NotBoth) e ∙ neither (allRecognised t)
+
+  pub weighed-none : sumOf t ≡ NoWeight → weighedOf t w ≡ NotBoth
+  unfolding weighedOf
+  weighed-none e = ap (λ (x : Weighed). cond (allRecognised t) x NotBoth) (not-both (readingOf w) (sumOf t) e) ∙ neither (allRecognised t)
+
+  pub weighed-both : (z : ℤ) (s : ℕ) → readingOf w ≡ Number z → sumOf t ≡ Thousandths s → weighedOf t w ≡ Both z (millionths s)
+  unfolding weighedOf
+  weighed-both z s e f = simp (summed-recognised t s f, e, f)
+
+-- rows 4 and 5
 module _ (f w : List ℕ) where
   pub ratio-formula : missing f ≡ true → row4 f w ≡ rowOf 2 1
   unfolding row4
@@ -21,14 +52,9 @@ module _ (f w : List ℕ) where
     unfolding row4
     ratio-weight q = simp (p, q)
 
-    module _ (q : missing w ≡ false) where
-      pub ratio-unread : allRecognised (textOf f) ≡ false → row4 f w ≡ rowOf 2 2
-      unfolding row4
-      ratio-unread r = simp (p, q, r)
-
-      pub ratio-judged : allRecognised (textOf f) ≡ true → row4 f w ≡ ratioRow (readingOf w) (sumOf (textOf f))
-      unfolding row4
-      ratio-judged r = simp (p, q, r)
+    pub ratio-judged : missing w ≡ false → row4 f w ≡ ratioRow (weighedOf (textOf f) w)
+    unfolding row4
+    ratio-judged q = simp (p, q)
 
 module _ (f w c : List ℕ) where
   pub difference-formula : missing f ≡ true → row5 f w c ≡ rowOf 0 1
@@ -45,11 +71,6 @@ module _ (f w c : List ℕ) where
       unfolding row5
       difference-category r = simp (p, q, r)
 
-      module _ (r : missing c ≡ false) where
-        pub difference-unread : allRecognised (textOf f) ≡ false → row5 f w c ≡ rowOf 0 2
-        unfolding row5
-        difference-unread s = simp (p, q, r, s)
-
-        pub difference-judged : allRecognised (textOf f) ≡ true → row5 f w c ≡ differenceRow (readingOf w) (sumOf (textOf f)) (textOf c)
-        unfolding row5
-        difference-judged s = simp (p, q, r, s)
+      pub difference-judged : missing c ≡ false → row5 f w c ≡ differenceRow (weighedOf (textOf f) w) (textOf c)
+      unfolding row5
+      difference-judged r = simp (p, q, r)

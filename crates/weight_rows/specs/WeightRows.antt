@@ -1,10 +1,11 @@
 -- Rows 4 and 5, of formula, weight and category (document 01, "The twelve rows").
 -- Assumes nothing.
-use Prim.Native.Nat.{ℕ, suc, _+_, _*_}
+use Prim.Native.Nat.{ℕ, suc, _+_, _*_, _^_, _<_}
 use mathlib.Core.Bool.{Bool, true, false, cond, _&&_, _||_}
 use mathlib.Core.List.{List}
 use lib.Dec.{ltb}
 use lib.IntN.{ℤ, pos, negsuc}
+use lib.Signed.{mag}
 use Rattle.decimal.specs.Reading.{readingOf}
 use Rattle.decimal.specs.declared.Reading.{Reading}
 use Rattle.decimal.specs.declared.Reading.the-variants.{Number, Nothing}
@@ -18,10 +19,27 @@ use Rattle.levels.specs.Level.{levelOf}
 use Rattle.rows.specs.Rows.{rowOf, noAlert, missing}
 use Rattle.rows.specs.declared.Row.{Row}
 use Rattle.formula_rows.specs.FormulaRows.{inClass}
+use Rattle.weight_rows.specs.declared.Weighed.{Weighed}
+use Rattle.weight_rows.specs.declared.Weighed.the-variants.{Both, NotBoth}
 
 -- a sum in thousandths, in millionths
 abbrev pub millionths : ℕ → ℕ
 millionths s = s * 1000
+
+-- the given weight, as it is read, and the sum; a weight that is no number, which no sound sheet holds, cannot be judged
+abbrev pub weighedBy : Reading → Weight → Weighed
+weighedBy (Number given) (Thousandths s) = Both given (millionths s)
+weighedBy (Number given) NoWeight = NotBoth
+weighedBy Nothing sum = NotBoth
+
+-- what is judged of a formula's text and a weight: nothing where "row 1 at A or a symbol without a weight"
+unfoldable pub weighedOf : List ℕ → List ℕ → Weighed
+weighedOf t weight = cond (allRecognised t) (weighedBy (readingOf weight) (sumOf t)) NotBoth
+
+-- what the code's arithmetic rests on
+abbrev pub SmallWeighed : Weighed → Type 0
+SmallWeighed (Both given sum) = (mag given < 10 ^ 15) × (sum < 10 ^ 16)
+SmallWeighed NotBoth = Unit {0}
 
 -- RW = given / sum is below p hundredths, by cross-multiplication; a weight below zero is below them all. Both weights are in millionths.
 abbrev pub ratioBelow : ℕ → ℤ → ℕ → Bool
@@ -40,17 +58,14 @@ ratioOutside lo hi given sum = ratioBelow lo given sum || ratioAbove hi given su
 unfoldable pub ratioLevel : ℤ → ℕ → ℕ
 ratioLevel given sum = levelOf (ratioOutside 90 110 given sum) (ratioOutside 95 105 given sum) (ratioOutside 99 101 given sum)
 
--- a weight that is no number, which no sound sheet holds, cannot be judged
-abbrev pub ratioRow : Reading → Weight → Row
-ratioRow (Number given) (Thousandths s) = rowOf (ratioLevel given (millionths s)) 0
-ratioRow (Number given) NoWeight = rowOf 2 2
-ratioRow Nothing sum = rowOf 2 2
+abbrev pub ratioRow : Weighed → Row
+ratioRow (Both given sum) = rowOf (ratioLevel given sum) 0
+ratioRow NotBoth = rowOf 2 2
 
 -- "4. CHEMW_01r (002): RW = given / sum. .. Formula or weight missing: C, reason 1; else row 1 at A or a symbol without a weight: C, reason 2 (house)."
 unfoldable pub row4 : List ℕ → List ℕ → Row
 row4 formula weight =
-    cond (missing formula || missing weight) (rowOf 2 1)
-    (cond (allRecognised (textOf formula)) (ratioRow (readingOf weight) (sumOf (textOf formula))) (rowOf 2 2))
+    cond (missing formula || missing weight) (rowOf 2 1) (ratioRow (weighedOf (textOf formula) weight))
 
 -- "|given − sum| above 1.0", both in millionths
 unfoldable pub farApart : ℤ → ℕ → Bool
@@ -61,13 +76,11 @@ farApart (negsuc given) sum = ltb 1000000 (suc given + sum)
 unfoldable pub isWeighedCategory : List ℕ → Bool
 isWeighedCategory t = inClass Organic t || inClass MetalOrganic t
 
-abbrev pub differenceRow : Reading → Weight → List ℕ → Row
-differenceRow (Number given) (Thousandths s) category = cond (farApart given (millionths s) && isWeighedCategory category) (rowOf 2 0) noAlert
-differenceRow (Number given) NoWeight category = rowOf 0 2
-differenceRow Nothing sum category = rowOf 0 2
+abbrev pub differenceRow : Weighed → List ℕ → Row
+differenceRow (Both given sum) category = cond (farApart given sum && isWeighedCategory category) (rowOf 2 0) noAlert
+differenceRow NotBoth category = rowOf 0 2
 
 -- "5. CHEMW_01d (002): |given − sum| above 1.0 and category FO, FM, CO or CM: C. Formula, weight or category missing: level 0, reason 1; then as row 4: level 0, reason 2."
 unfoldable pub row5 : List ℕ → List ℕ → List ℕ → Row
 row5 formula weight category =
-    cond (missing formula || (missing weight || missing category)) (rowOf 0 1)
-    (cond (allRecognised (textOf formula)) (differenceRow (readingOf weight) (sumOf (textOf formula)) (textOf category)) (rowOf 0 2))
+    cond (missing formula || (missing weight || missing category)) (rowOf 0 1) (differenceRow (weighedOf (textOf formula) weight) (textOf category))

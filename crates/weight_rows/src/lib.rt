@@ -3,7 +3,9 @@ ghost use mathlib.Core.Path.{_≡_};
 ghost use Prim.Native.Nat.{_<_, _≤_, _^_};
 ghost use lib.IntN.{pos};
 ghost use lib.Signed.{mag};
-ghost use Rattle.weight_rows.specs.WeightRows.{ratioOutside, ratioLevel, row4, farApart, isWeighedCategory, row5};
+ghost use Rattle.values.specs.Value.{textOf};
+ghost use Rattle.rows.specs.Rows.{rowOf};
+ghost use Rattle.weight_rows.specs.WeightRows.{weighedOf, SmallWeighed, ratioOutside, ratioLevel, ratioRow, row4, farApart, isWeighedCategory, differenceRow, row5};
 use decimal::Reading;
 use elements::Weight;
 use formula::class::Class;
@@ -11,6 +13,31 @@ use formula_rows::is_in_class;
 use rows::Row;
 use rows::is_missing;
 use rows::make_row;
+
+// The given weight and the formula's sum, both in millionths, or that one of them cannot be had.
+pub enum Weighed {
+    Both(i64, u64),
+    NotBoth,
+}
+
+// Row 4 and row 5.
+pub struct WeightRows {
+    pub ratio: Row,
+    pub difference: Row,
+}
+
+// The given weight and the sum of the formula's text t.
+fn weigh(t: &[u8], weight: &[u8]) -> Weighed
+    ensures { λ r. ⌜ (r ≡ weighedOf (now (t .entry)) (now (weight .entry))) × SmallWeighed r ⌝ }
+{
+    let Reading::Number(given) = decimal::read_number(weight) else {
+        return Weighed::NotBoth;
+    };
+    let Weight::Thousandths(s) = formula::sum::sum_of(t) else {
+        return Weighed::NotBoth;
+    };
+    Weighed::Both(given, s * 1000)
+}
 
 // Whether given / sum is below lo or above hi hundredths. Both weights are in millionths.
 fn is_ratio_outside(lo: u64, hi: u64, given: u64, sum: u64) -> bool
@@ -39,28 +66,18 @@ fn ratio_level(given: i64, sum: u64) -> u8
     )
 }
 
-// Row 4: the given weight over the sum.
-pub fn ratio_row(formula: &[u8], weight: &[u8]) -> Row
-    ensures { λ r. ⌜ r ≡ row4 (now (formula .entry)) (now (weight .entry)) ⌝ }
+// Row 4 where formula and weight are there: the given weight over the sum.
+fn ratio_row(w: Weighed) -> Row
+    requires { ⌜ SmallWeighed w ⌝ }
+    ensures { λ r. ⌜ r ≡ ratioRow w ⌝ }
 {
-    if is_missing(formula) {
-        return make_row(2, 1);
+    match w {
+        Weighed::Both(given, sum) => {
+            let level = ratio_level(given, sum);
+            make_row(level, 0)
+        }
+        Weighed::NotBoth => make_row(2, 2),
     }
-    if is_missing(weight) {
-        return make_row(2, 1);
-    }
-    let t = values::text_of(formula);
-    if !formula::recognised::all_recognised(t) {
-        return make_row(2, 2);
-    }
-    let Reading::Number(given) = decimal::read_number(weight) else {
-        return make_row(2, 2);
-    };
-    let Weight::Thousandths(s) = formula::sum::sum_of(t) else {
-        return make_row(2, 2);
-    };
-    let level = ratio_level(given, s * 1000);
-    make_row(level, 0)
 }
 
 // Whether the given weight and the sum are more than 1.0 apart. Both are in millionths.
@@ -87,35 +104,54 @@ fn is_weighed_category(t: &[u8]) -> bool
     is_in_class(Class::MetalOrganic, t)
 }
 
-// Row 5: the difference of the given weight and the sum.
-pub fn difference_row(formula: &[u8], weight: &[u8], category: &[u8]) -> Row
-    ensures { λ r. ⌜ r ≡ row5 (now (formula .entry)) (now (weight .entry)) (now (category .entry)) ⌝ }
+// Row 5 where formula, weight and category are there: the difference of the given weight and the sum.
+fn difference_row(w: Weighed, category: &[u8]) -> Row
+    requires { ⌜ SmallWeighed w ⌝ }
+    ensures { λ r. ⌜ r ≡ differenceRow w (textOf (now (category .entry))) ⌝ }
+{
+    match w {
+        Weighed::Both(given, sum) => {
+            if !is_far_apart(given, sum) {
+                return make_row(0, 0);
+            }
+            if is_weighed_category(values::text_of(category)) {
+                make_row(2, 0)
+            } else {
+                make_row(0, 0)
+            }
+        }
+        Weighed::NotBoth => make_row(0, 2),
+    }
+}
+
+// Rows 4 and 5 where formula or weight is missing.
+fn missing_rows() -> WeightRows
+    ensures { λ r. ⌜ (r .ratio ≡ rowOf 2 1) × (r .difference ≡ rowOf 0 1) ⌝ }
+{
+    WeightRows {
+        ratio: make_row(2, 1),
+        difference: make_row(0, 1),
+    }
+}
+
+// Rows 4 and 5: the given weight against the sum, which is taken once.
+pub fn weight_rows(formula: &[u8], weight: &[u8], category: &[u8]) -> WeightRows
+    ensures { λ r. ⌜ (r .ratio ≡ row4 (now (formula .entry)) (now (weight .entry))) × (r .difference ≡ row5 (now (formula .entry)) (now (weight .entry)) (now (category .entry))) ⌝ }
 {
     if is_missing(formula) {
-        return make_row(0, 1);
+        return missing_rows();
     }
     if is_missing(weight) {
-        return make_row(0, 1);
+        return missing_rows();
     }
+    let weighed = weigh(values::text_of(formula), weight);
+    let ratio = ratio_row(weighed);
     if is_missing(category) {
-        return make_row(0, 1);
+        return WeightRows {
+            ratio,
+            difference: make_row(0, 1),
+        };
     }
-    let t = values::text_of(formula);
-    if !formula::recognised::all_recognised(t) {
-        return make_row(0, 2);
-    }
-    let Reading::Number(given) = decimal::read_number(weight) else {
-        return make_row(0, 2);
-    };
-    let Weight::Thousandths(s) = formula::sum::sum_of(t) else {
-        return make_row(0, 2);
-    };
-    if !is_far_apart(given, s * 1000) {
-        return make_row(0, 0);
-    }
-    if is_weighed_category(values::text_of(category)) {
-        make_row(2, 0)
-    } else {
-        make_row(0, 0)
-    }
+    let difference = difference_row(weighed, category);
+    WeightRows { ratio, difference }
 }
