@@ -1,7 +1,7 @@
 -- `items::is_name` meets its contract: the part of the flat table is the item's name.
 -- Assumes nothing.
 use mathlib.Core.Path.{_∙_, ap}
-use Rattle.text.specs.Same.{sameFolded}
+use Rattle.equality.specs.Same.{sameFolded}
 use Rattle.items.proofs.NameTable.{flat, starts, name-part, starts-ordered, starts-within}
 use borrow.Author.Needs.{needs}
 use Rattle.items.proofs.is_name.Statement.{statement}

@@ -1,13 +1,13 @@
--- `text::same_folded` meets its contract. The loop's invariant: the bytes compared agree once folded, so the rests decide.
+-- `equality::same_folded` meets its contract. The loop's invariant: the bytes compared agree once folded, so the rests decide.
 -- The measure is what is left of the text. Assumes nothing.
 use native.Mathlib.Omega.{arith}
 use Prim.Native.Nat.{_-_}
 use mathlib.Core.Path.{sym, _∙_}
 use lib.ListN.{length}
-use Rattle.text.specs.Same.{lower}
-use Rattle.text.proofs.Sames.{Compared, start, more, differ, end, other-length}
-use Rattle.text.proofs.same_folded.Statement.{statement}
-use Rattle.text.proofs.same_folded.Tie as tie
+use Rattle.equality.specs.Same.{lower}
+use Rattle.equality.proofs.Sames.{Compared, start, more, differ, end, other-length}
+use Rattle.equality.proofs.same_folded.Statement.{statement}
+use Rattle.equality.proofs.same_folded.Tie as tie
 
 abbrev Inv-loop : tie.InvT-loop
 Inv-loop a b i₀ i = Compared lower a b i
