@@ -38,9 +38,19 @@ typedef struct {
     size_t room;
 } text;
 
+/* Shows an argument on standard error in one line, with ? for each byte outside 32 to 126. */
+static void show(const char *argument)
+{
+    for (; *argument != '\0'; argument++)
+        fputc(*argument >= ' ' && *argument <= '~' ? *argument : '?', stderr);
+}
+
 static int fail(const char *what)
 {
-    fprintf(stderr, "sheet_cif: %s: %s\n", what, strerror(errno));
+    int error = errno;
+    fputs("sheet_cif: ", stderr);
+    show(what);
+    fprintf(stderr, ": %s\n", strerror(error));
     return EXIT_TROUBLE;
 }
 
@@ -142,14 +152,17 @@ static int to_standard_output(const uint8_t *bytes, size_t length)
 
 static int refused(unsigned answer, const char *block)
 {
-    if (answer == BAD_BLOCK_NAME)
-        fprintf(stderr, "sheet_cif: refused (11): block name '%s': not 1 to 32 letters, digits or -\n", block);
-    else if (answer == UNSOUND)
+    if (answer == BAD_BLOCK_NAME) {
+        fputs("sheet_cif: refused (11): block name '", stderr);
+        show(block);
+        fputs("': not 1 to 32 letters, digits or -\n", stderr);
+    } else if (answer == UNSOUND) {
         fputs("sheet_cif: refused (2): the desk is not sound\n", stderr);
-    else if (answer == NO_ROOM)
+    } else if (answer == NO_ROOM) {
         fprintf(stderr, "sheet_cif: refused (10): the file is longer than %d bytes\n", FILE_ROOM);
-    else
+    } else {
         fprintf(stderr, "sheet_cif: refused (%u)\n", answer);
+    }
     return EXIT_TROUBLE;
 }
 
@@ -181,7 +194,9 @@ int main(int count, char **arguments)
         return EXIT_USAGE;
     }
     if (count > 3) {
-        fprintf(stderr, "sheet_cif: argument 3 '%s': nothing may follow\n", arguments[3]);
+        fputs("sheet_cif: argument 3 '", stderr);
+        show(arguments[3]);
+        fputs("': nothing may follow\n", stderr);
         return EXIT_USAGE;
     }
     const char *path = count == 3 && strcmp(arguments[2], "-") != 0 ? arguments[2] : NULL;

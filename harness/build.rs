@@ -1,19 +1,19 @@
 //! Links the proved archives that are there, and tells the source which: cfg(proved = "NAME").
 //! Their folder is PROVED_LIBS, taken from this package's folder, or else ../target/staticlib.
 //! REQUIRE_LIBS names those that may not be absent, in one line; without it wall and probe. The
-//! program desk may be named too: it is not linked, and test.sh looks for it.
+//! programs desk and sheet_cif may be named too: they are not linked, and test.sh looks for them.
 
 use std::path::PathBuf;
 
-const LIBRARIES: [&str; 5] = ["wall", "probe", "probe_rows", "probe_keys", "play"];
-const PROGRAM: &str = "desk";
+const LIBRARIES: [&str; 6] = ["wall", "probe", "probe_rows", "probe_keys", "play", "probe_file"];
+const PROGRAMS: [&str; 2] = ["desk", "sheet_cif"];
 const REQUIRED: &str = "wall probe";
 
 fn main() {
     println!("cargo:rerun-if-env-changed=PROVED_LIBS");
     println!("cargo:rerun-if-env-changed=REQUIRE_LIBS");
     println!("cargo:rustc-env=REQUIRED={REQUIRED}");
-    println!("cargo:rustc-env=PROGRAM={PROGRAM}");
+    println!("cargo:rustc-env=PROGRAMS={}", PROGRAMS.join(" "));
     println!("cargo:rustc-check-cfg=cfg(proved, values(\"{}\"))", LIBRARIES.join("\", \""));
     let package = PathBuf::from(std::env::var_os("CARGO_MANIFEST_DIR").expect("cargo sets it"));
     let folder = std::env::var_os("PROVED_LIBS").unwrap_or_else(|| "../target/staticlib".into());
@@ -28,7 +28,7 @@ fn main() {
         }
     }
     let required = std::env::var("REQUIRE_LIBS").unwrap_or_else(|_| REQUIRED.into());
-    for library in required.split_whitespace().filter(|&name| name != PROGRAM) {
+    for library in required.split_whitespace().filter(|name| !PROGRAMS.contains(name)) {
         assert!(
             archive(library).is_file(),
             "{} is missing: run 'rt staticlib {library}'",

@@ -1,6 +1,7 @@
 /* Sizes and offsets of the boundary's structs, in the words of 'harness layout'. */
 #include <stdio.h>
 
+#include "file.h"
 #include "keys.h"
 #include "play.h"
 #include "probe.h"
@@ -34,5 +35,7 @@ int main(void)
            offsetof(probe_key_result, answer));
     printf("play_result %zu written %zu answer %zu\n", sizeof(play_result),
            offsetof(play_result, written), offsetof(play_result, answer));
+    printf("probe_filed %zu count %zu answer %zu\n", sizeof(probe_filed),
+           offsetof(probe_filed, count), offsetof(probe_filed, answer));
     return 0;
 }

@@ -5,6 +5,7 @@
 #include <stdlib.h>
 #include <string.h>
 
+#include "file.h"
 #include "keys.h"
 #include "wall.h"
 
@@ -12,6 +13,7 @@ enum { STACK = 1 << 20, PAINT = 0xA5 };
 
 static probe_desk desk;
 static uint8_t log_bytes[4096];
+static uint8_t file_bytes[1000];
 static volatile unsigned sink;
 
 static void nothing(void) {}
@@ -33,6 +35,10 @@ static void enter(void) {
     memcpy(typed.lines[0].bytes, "_refine_ls_R_factor_gt 0.16", 27);
     typed.lines[0].len = 27;
     sink += probe_key(typed, log_bytes, sizeof log_bytes, 0, 0, 10).answer;
+}
+
+static void file(void) {
+    sink += probe_file(desk, (const uint8_t *)"camp-1", 6, file_bytes, sizeof file_bytes).answer;
 }
 
 static void *run(void *call) {
@@ -61,5 +67,6 @@ int main(void) {
     printf("wall_grade %zu bytes\n", touched(grade) - base);
     printf("key, a byte appended: %zu bytes (the desk is %zu)\n", touched(append) - base, sizeof(probe_desk));
     printf("key, Enter accepted: %zu bytes\n", touched(enter) - base);
+    printf("file written: %zu bytes\n", touched(file) - base);
     return 0;
 }

@@ -1,6 +1,6 @@
 #!/usr/bin/env bash
-# Tests the C boundary, headers, client, trace and comparison, and the program desk.
-# What needs an archive, or the program desk, that is not there is left out, or fails where REQUIRE_LIBS names it.
+# Tests the C boundary, headers, client, trace and comparison, and the programs desk and sheet_cif.
+# What needs an archive, or one of the programs, that is not there is left out, or fails where REQUIRE_LIBS names it.
 # Needs the built harness and client (build/cargo/release/harness, build/wall_screen).
 # Prints one line for each check and at the end 'N passed, M failed'.
 set -u
@@ -9,6 +9,7 @@ cd "$(dirname "$0")/.." || exit 2
 harness=$PWD/build/cargo/release/harness
 client=$PWD/build/wall_screen
 desk=$PWD/target/bin/desk
+sheet_cif=$PWD/target/bin/sheet_cif
 warnings=(-Wall -Wextra -Werror -pedantic)
 for program in "$harness" "$client"; do
     [ -x "$program" ] || { echo "$program is missing: build it first" >&2; exit 2; }
@@ -66,13 +67,16 @@ compiles() {
     if words=$("$@" 2>&1) && [ -z "$words" ]; then ok "$name"; else fail "$name" "$(head -n 1 <<<"$words")"; fi
 }
 
-# there NAME: the harness is linked with that archive; the program desk is there.
+# there NAME: the harness is linked with that archive; the program desk or sheet_cif is there.
 there() {
-    if [ "$1" = desk ]; then [ -x "$desk" ]; else "$harness" libraries 2>/dev/null | grep -qx "there: lib$1.a"; fi
+    case $1 in
+        desk | sheet_cif) [ -x "target/bin/$1" ] ;;
+        *) "$harness" libraries 2>/dev/null | grep -qx "there: lib$1.a" ;;
+    esac
 }
 
 libraries() {
-    local all='wall probe probe_rows probe_keys play desk' name
+    local all='wall probe probe_rows probe_keys play probe_file desk sheet_cif' name
     runs "libraries: an absent one is required" 1 $'REQUIRED libnothing.a\n' '' \
         bash -c 'REQUIRE_LIBS="wall nothing" "$1" libraries | grep REQUIRED; exit "${PIPESTATUS[0]}"' - "$harness"
     for name in ${REQUIRE_LIBS-wall probe}; do
@@ -84,30 +88,37 @@ libraries() {
 }
 
 headers() {
-    local source='#include "wall.h"
+    local name source='#include "wall.h"
+#include "sheet_file.h"
 #include "probe.h"
 #include "rows.h"
 #include "keys.h"
 #include "play.h"
+#include "file.h"
 #include "wall.h"
+#include "sheet_file.h"
 #include "probe.h"
 #include "rows.h"
 #include "keys.h"
 #include "play.h"
+#include "file.h"
 uint8_t ask(const uint8_t *text, probe_desk desk, uint8_t *log, uint8_t *out);
 uint8_t ask(const uint8_t *text, probe_desk desk, uint8_t *log, uint8_t *out)
 {
     return (uint8_t)(wall_classify(text, 0) + probe_item(text, 0) + probe_rows(desk.sheet).rows[11].level +
-                     probe_key(desk, log, 0, 0, 0, 10).answer + play_sequence(text, 0, log, 0, out, 1338).answer);
+                     probe_key(desk, log, 0, 0, 0, 10).answer + play_sequence(text, 0, log, 0, out, 1338).answer +
+                     probe_file(desk, text, 0, out, 0).answer + sheet_file(text, 0, log, 0, text, 0, out, 0).answer);
 }'
     echo "$source" >"$work/headers.c"
     cp "$work/headers.c" "$work/headers.cc"
     compiles "headers as C" gcc -std=c11 "${warnings[@]}" -Iinclude -Iharness -c "$work/headers.c" -o "$work/headers.o"
-    compiles "client without warnings" gcc -std=c11 -O2 "${warnings[@]}" -Iinclude -c client/wall_screen.c -o "$work/client.o"
+    for name in wall_screen sheet_cif; do
+        compiles "$name without warnings" gcc -std=c11 -O2 "${warnings[@]}" -Iinclude -c client/$name.c -o "$work/client.o"
+    done
     if command -v g++ >/dev/null; then
         compiles "headers as C++" g++ -std=c++17 "${warnings[@]}" -Iinclude -Iharness -c "$work/headers.cc" -o "$work/headers++.o"
-        nm -u "$work/headers++.o" | awk '{ print $2 }' | grep -E '^(wall|probe|play)_' | sort >"$work/symbols"
-        printf '%s\n' play_sequence probe_item probe_key probe_rows wall_classify >"$work/want"
+        nm -u "$work/headers++.o" | awk '{ print $2 }' | grep -E '^(wall|probe|play|sheet)_' | sort >"$work/symbols"
+        printf '%s\n' play_sequence probe_file probe_item probe_key probe_rows sheet_file wall_classify >"$work/want"
         same "C names from C++" "$work/want" "$work/symbols"
     else
         echo "skipped: headers as C++ (no g++)"
@@ -304,10 +315,48 @@ fresh_desks() {
     echo 'dump|lines=,,, counts=0 items= used=0 log='
 }
 
+# A file of each length and refusal, on a fresh desk, on a filled one, and where the log alone is not sound.
+files() {
+    local head=646174615f63616d702d310a
+    local items=5f726566696e655f6c735f525f666163746f725f677420302e31360a5f726566696e655f6c735f77525f666163746f725f6f6273203f0a
+    echo 'cif 0 61 7|0 7 646174615f610a'
+    echo 'cif 0 61 6|10 0 -'
+    echo 'cif 0 61 0|10 0 -'
+    echo 'cif 0 2d 16777216|0 7 646174615f2d0a'
+    echo 'cif 0 - 99|11 0 -'
+    echo 'cif 0 5f 99|11 0 -'
+    echo 'cif 0 5f 0|11 0 -'
+    echo "cif 0 $(printf '61%.0s' $(seq 32)) 38|0 38 646174615f$(printf '61%.0s' $(seq 32))0a"
+    echo "cif 0 $(printf '61%.0s' $(seq 33)) 99|11 0 -"
+    echo 'new 30 0|ok'
+    typed 1 '_REFINE_LS_wr_factor_OBS   ?'
+    echo 'k 1 10|0'
+    typed 0 '_refine_ls_r_factor_gt  0.16'
+    echo "cif 0 63616d702d31 99|0 39 ${head}5f726566696e655f6c735f77525f666163746f725f6f6273203f0a"
+    echo 'k 0 10|0'
+    echo "cif 0 63616d702d31 67|0 67 $head$items"
+    echo "cif 7 63616d702d31 9999|0 67 $head$items"
+    echo 'cif 0 63616d702d31 66|10 0 -'
+    echo 'cif 0 63616d705f31 67|11 0 -'
+    echo 'new 65537 0|ok'
+    echo 'k 0 66|2'
+    echo 'cif 0 41 8|0 7 646174615f410a'
+    echo 'cif|error: argument 1 missing: SHEET'
+    echo 'cif 0|error: argument 2 missing: NAMEHEX'
+    echo 'cif 0 61|error: argument 3 missing: ROOM'
+    echo "cif x 61 9|error: argument 1 'x': not a number of 0 to 18446744073709551615"
+    echo "cif 0 6 9|error: argument 2 '6': an odd number of hexadecimal digits"
+    echo "cif 0 6g 9|error: argument 2 '6g': 'g' is not a hexadecimal digit"
+    echo "cif 0 61 16777217|error: argument 3 '16777217': not a number of 0 to 16777216"
+    echo "cif 0 61 -1|error: argument 3 '-1': not a number of 0 to 16777216"
+    echo "cif 0 61 9 9|error: argument 4 '9': nothing may follow"
+}
+
 trace_keys() {
     trace_table "reference's trace: keys" reference-trace < <(session)
     trace_table "reference's trace: questions" reference-trace < <(questions)
     trace_table "reference's trace: fresh desks" reference-trace < <(fresh_desks)
+    trace_table "reference's trace: files" reference-trace < <(files)
     if there play || there probe_keys; then
         trace_table "trace: keys" < <(session)
     else
@@ -319,6 +368,11 @@ trace_keys() {
     else
         trace_table "trace: questions are not there" < <(printf '%s|none\n' 'report 0 0' 'who 0 1')
     fi
+    if ! there probe_file; then
+        trace_table "trace: files are not there" < <(printf '%s|none\n' 'cif 0 61 99' 'cif 0 61')
+    elif there play || there probe_keys; then
+        trace_table "trace: files" < <(files)
+    fi
 }
 
 # The answers come whenever the input pauses, in the middle of a line too.
@@ -327,7 +381,7 @@ trace_pauses() {
     mkfifo "$work/asked" "$work/answered"
     "$harness" trace <"$work/asked" >"$work/answered" &
     exec 8<>"$work/asked" 9<>"$work/answered"
-    for part in $'line -\n' $'new 30 0\nk' $' 2 65\n' $'k 2 10\ndum' $'p\n' $'who 0 4\n'; do
+    for part in $'line -\n' $'new 30 0\nk' $' 2 65\n' $'k 2 10\ndum' $'p\n' $'who 0 4\ncif' $' 0 61 9\n'; do
         printf %s "$part" >&8
         read -r -t 20 answer <&9 || answer='no answer'
         echo "$answer"
@@ -335,7 +389,7 @@ trace_pauses() {
     exec 8>&-
     wait $!
     exec 9<&-
-    printf '%s\n' 'line -' 'new 30 0' 'k 2 65' 'k 2 10' dump 'who 0 4' | "$harness" trace >"$work/want"
+    printf '%s\n' 'line -' 'new 30 0' 'k 2 65' 'k 2 10' dump 'who 0 4' 'cif 0 61 9' | "$harness" trace >"$work/want"
     same "trace: an answer at each pause" "$work/want" "$work/answers"
 }
 
@@ -389,6 +443,100 @@ desk_sessions() {
     summary "desk: 300 generated inputs" "$harness" desk-runs "$desk" 14 300
 }
 
+# cif_refuses NAME STATUS COMMAND..: the exit, nothing on standard output, and one line of sheet_cif's on standard error.
+cif_refuses() {
+    local name=$1 status=$2
+    shift 2
+    "$@" >"$work/out" 2>"$work/err"
+    local got=$?
+    if [ $got -ne "$status" ]; then
+        fail "$name" "exit $got, not $status"
+    elif [ -s "$work/out" ]; then
+        fail "$name" "standard output is '$(tr '\0\n' '  ' <"$work/out" | head -c 200)'"
+    elif [ "$(wc -l <"$work/err")" -ne 1 ] || ! grep -aq '^sheet_cif: .' "$work/err" || [ -n "$(tail -c 1 "$work/err")" ]; then
+        fail "$name" "standard error is '$(head -c 200 "$work/err")'"
+    else
+        ok "$name"
+    fi
+}
+
+# holds NAME FOLDER FILE CONTENT: the folder holds that file alone, with the content of another; without FILE it is empty.
+holds() {
+    if [ "$(ls -A "$2")" != "${3-}" ]; then
+        fail "$1" "the folder holds '$(ls -A "$2" | tr '\n' ' ')'"
+    elif [ $# -eq 2 ]; then
+        ok "$1"
+    else
+        same "$1" "$4" "$2/$3"
+    fi
+}
+
+sheet_cif_runs() {
+    local first=harness/desk-sessions/document_01 folder=$work/cif input name word
+    if ! there sheet_cif; then
+        echo "skipped: sheet_cif (not there)"
+        return
+    fi
+    for input in harness/desk-sessions/*.in; do
+        name=$(basename "$input" .in)
+        runs "sheet_cif: $name" 0 "$(cat "${input%.in}.cif")"$'\n' '' "$sheet_cif" camp-1 <"$input"
+    done
+    for name in all_ten_items quoted unassigned; do
+        runs "sheet_cif: $name typed back" 0 "$(cat harness/desk-sessions/$name.cif)"$'\n' '' "$sheet_cif" camp-1 \
+            < <(tail -n +2 harness/desk-sessions/$name.cif | sed 's/./2&/g; s/$/2/')
+    done
+    summary "sheet_cif: 300 generated inputs" "$harness" cif-runs "$sheet_cif" 15 300
+    cif_refuses "sheet_cif: no argument" 2 "$sheet_cif" <$first.in
+    cif_refuses "sheet_cif: FILE is empty" 2 "$sheet_cif" camp-1 '' <$first.in
+    cif_refuses "sheet_cif: three arguments" 2 "$sheet_cif" a "$work/b" $'c\nd' <$first.in
+    for word in '' "$(printf 'a%.0s' {1..33})" camp_1 'camp 1' camp/1 $'caf\xc3\xa9' $'camp\n' data_ .; do
+        cif_refuses "sheet_cif: block name $(printf %q "$word")" 1 "$sheet_cif" "$word" <$first.in
+    done
+    runs "sheet_cif: block name of 32" 0 "data_$(printf 'a%.0s' {1..32})"$'\n' '' "$sheet_cif" "$(printf 'a%.0s' {1..32})" </dev/null
+    runs "sheet_cif: - for FILE" 0 "$(cat $first.cif)"$'\n' '' "$sheet_cif" camp-1 - <$first.in
+    runs "sheet_cif: help" 0 $'usage: sheet_cif BLOCK [FILE]\n' '' bash -c '"$1" --help | head -n 1' - "$sheet_cif" </dev/null
+    runs "sheet_cif: block name --help" 0 $'data_--help\n' '' "$sheet_cif" --help - </dev/null
+    cif_refuses "sheet_cif: input cannot be read" 1 "$sheet_cif" camp-1 <.
+    if [ -c /dev/full ]; then
+        cif_refuses "sheet_cif: output cannot be written" 1 bash -c '"$1" camp-1 >/dev/full' - "$sheet_cif" <$first.in
+    fi
+    cif_refuses "sheet_cif: output is closed" 1 bash -c '"$1" camp-1 >&-' - "$sheet_cif" <$first.in
+
+    mkdir "$folder"
+    runs "sheet_cif: FILE" 0 '' '' "$sheet_cif" camp-1 "$folder/a.cif" <$first.in
+    holds "sheet_cif: FILE is written" "$folder" a.cif $first.cif
+    yes 'an older and longer file' | head -n 1000 >"$folder/a.cif"
+    cp "$folder/a.cif" "$work/older"
+    exec 7<"$folder/a.cif"
+    runs "sheet_cif: FILE again" 0 '' '' "$sheet_cif" camp-1 "$folder/a.cif" <$first.in
+    holds "sheet_cif: FILE is replaced whole" "$folder" a.cif $first.cif
+    cat <&7 >"$work/open"
+    exec 7<&-
+    same "sheet_cif: the older file stays whole for its readers" "$work/older" "$work/open"
+    runs "sheet_cif: FILE in this folder" 0 '' '' bash -c 'cd "$1" && "$2" camp-1 a.cif' - "$folder" "$sheet_cif" </dev/null
+    holds "sheet_cif: FILE is replaced by a shorter one" "$folder" a.cif harness/desk-sessions/empty.cif
+    for word in '' camp_1 "$(printf 'a%.0s' {1..33})"; do
+        cif_refuses "sheet_cif: block name '$word' with FILE" 1 "$sheet_cif" "$word" "$folder/a.cif" <$first.in
+        cif_refuses "sheet_cif: block name '$word' with a new FILE" 1 "$sheet_cif" "$word" "$folder/b.cif" <$first.in
+    done
+    cif_refuses "sheet_cif: FILE and a third argument" 2 "$sheet_cif" camp-1 "$folder/a.cif" x <$first.in
+    # Standard error goes through a pipe, since the limit on written files would cut it too.
+    cif_refuses "sheet_cif: FILE cannot grow" 1 bash -o pipefail -c \
+        '{ (trap "" XFSZ; ulimit -f 0; exec "$1" camp-1 "$2") 2>&1 >&3 | cat >&2; } 3>&1' - "$sheet_cif" "$folder/a.cif" <$first.in
+    holds "sheet_cif: a refusal leaves FILE and nothing else" "$folder" a.cif harness/desk-sessions/empty.cif
+    rm "$folder/a.cif"
+    cif_refuses "sheet_cif: no such folder" 1 "$sheet_cif" camp-1 "$folder/none/a.cif" <$first.in
+    cif_refuses "sheet_cif: no such folder, in two lines" 1 "$sheet_cif" camp-1 "$folder/no"$'\n'"ne/a.cif" <$first.in
+    cif_refuses "sheet_cif: FILE is a folder" 1 "$sheet_cif" camp-1 "$folder" <$first.in
+    cif_refuses "sheet_cif: a folder of the system" 1 "$sheet_cif" camp-1 /proc/a.cif <$first.in
+    if [ "$(id -u)" -ne 0 ]; then
+        chmod a-w "$folder"
+        cif_refuses "sheet_cif: a folder that may not be written" 1 "$sheet_cif" camp-1 "$folder/a.cif" <$first.in
+        chmod u+w "$folder"
+    fi
+    holds "sheet_cif: nothing is left over" "$folder"
+}
+
 # summary NAME COMMAND..: ends with 'N passed, 0 failed', N not 0.
 summary() {
     local name=$1
@@ -423,6 +571,7 @@ trace_keys
 trace_pauses
 trace_generated
 desk_sessions
+sheet_cif_runs
 comparison
 echo "$passed passed, $failed failed"
 [ $failed -eq 0 ]

@@ -12,20 +12,23 @@ ensure_programs() {
 ensure_programs || exit 2
 
 # The proved libraries that C and Rust link.
-archives=(wall probe probe_rows probe_keys play)
-export REQUIRE_LIBS="${archives[*]} desk"
+archives=(wall probe probe_rows probe_keys play probe_file)
+export REQUIRE_LIBS="${archives[*]} desk sheet_cif"
 
 # stale ARCHIVE: it is missing, or crates.txt or some file under crates/ is newer.
 stale() {
     [ ! -e "$1" ] || [ -n "$(find crates crates.txt -type f -newer "$1" -print -quit)" ]
 }
 
-# The proved static libraries, in target/staticlib, or those of the folder PROVED_LIBS as they are.
+# build_archive NAME: a proved static library, in target/staticlib, or that of the folder PROVED_LIBS as it is.
+build_archive() {
+    [ -n "${PROVED_LIBS-}" ] || ! stale "target/staticlib/lib$1.a" || rt staticlib "$1"
+}
+
 build_archives() {
     local name
-    [ -z "${PROVED_LIBS-}" ] || return 0
     for name in "${archives[@]}"; do
-        if stale "target/staticlib/lib$name.a"; then rt staticlib "$name" || return 1; fi
+        build_archive "$name" || return 1
     done
 }
 
@@ -34,11 +37,20 @@ build_harness() {
     cargo build --release --offline --quiet --manifest-path harness/Cargo.toml
 }
 
+# compile SOURCE ARCHIVE PROGRAM: a C client of a proved library.
+compile() {
+    mkdir -p "$(dirname "$3")"
+    gcc -std=c11 -O2 -Wall -Wextra -Werror -pedantic -Iinclude "$1" "${PROVED_LIBS:-target/staticlib}/lib$2.a" -o "$3"
+}
+
 # The C client of the wall screen.
 build_client() {
-    mkdir -p build
-    gcc -std=c11 -O2 -Wall -Wextra -Werror -pedantic -Iinclude client/wall_screen.c \
-        "${PROVED_LIBS:-target/staticlib}/libwall.a" -o build/wall_screen
+    compile client/wall_screen.c wall build/wall_screen
+}
+
+# The program sheet_cif, the C client of the library sheet_file, in target/bin.
+build_sheet_cif() {
+    build_archive sheet_file && compile client/sheet_cif.c sheet_file target/bin/sheet_cif
 }
 
 # The program desk, proved, in target/bin.

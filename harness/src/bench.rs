@@ -1,6 +1,8 @@
 //! Speed: both programs over the same inputs in one run.
 
+use crate::boundary::Desk;
 use crate::desks::State;
+use crate::files::{Files, LONG_ROOM};
 use crate::inputs::{Inputs, ROWS};
 use crate::program::{Library, Program, Reference, Values};
 use crate::proved::Proved;
@@ -55,6 +57,14 @@ pub fn run() {
             sequences.iter().map(|calls| played(program, black_box(calls))).sum()
         });
     }
+    if Proved.has(Library::File) {
+        let mut files = Files::new(SEED);
+        let desks: Vec<(Desk, Vec<u8>)> =
+            (0..INPUTS).map(|at| (files.desk(), files.name_of(1 + at % 32))).collect();
+        report("files written", |program| {
+            desks.iter().map(|(desk, block)| filed(program, black_box(desk), block)).sum()
+        });
+    }
 }
 
 /// One value by a row that its length chooses.
@@ -89,6 +99,11 @@ fn played(program: &dyn Program, calls: &[u8]) -> u64 {
     let (mut log, mut out) = ([0; LOG], [0; length(CALLS)]);
     let result = program.play(calls, &mut log, &mut out);
     result.written + u64::from(black_box(out)[0])
+}
+
+fn filed(program: &dyn Program, desk: &Desk, block: &[u8]) -> u64 {
+    let mut out = [0; LONG_ROOM];
+    program.file(desk, block, &mut out).count + u64::from(black_box(out)[0])
 }
 
 /// Times a round of all inputs by each program in turn.

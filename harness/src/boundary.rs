@@ -98,6 +98,20 @@ pub struct PlayResult {
     pub answer: u8,
 }
 
+/// `probe_filed` of file.h.
+#[repr(C)]
+#[derive(Clone, Copy, Debug, PartialEq, Eq)]
+pub struct Filed {
+    pub count: u64,
+    pub answer: u8,
+}
+
+impl From<(u8, u64)> for Filed {
+    fn from((answer, count): (u8, u64)) -> Self {
+        Filed { count, answer }
+    }
+}
+
 impl From<(u64, u8)> for PlayResult {
     fn from((written, answer): (u64, u8)) -> Self {
         PlayResult { written, answer }
@@ -194,4 +208,5 @@ pub fn print() {
     print_layout!("probe_desk", Desk, lines, sheet);
     print_layout!("probe_key_result", KeyResult, desk, used, answer);
     print_layout!("play_result", PlayResult, written, answer);
+    print_layout!("probe_filed", Filed, count, answer);
 }

@@ -1,5 +1,6 @@
 //! The comparison: the same inputs to two programs, and every answer held equal.
 
+mod file;
 mod keys;
 mod play;
 mod sheets;
@@ -97,6 +98,9 @@ pub fn compare<'a>(
     }
     if tested.has(Library::Play) {
         run.all_sequences(plan);
+    }
+    if tested.has(Library::File) {
+        run.all_files(plan);
     }
     run
 }

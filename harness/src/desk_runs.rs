@@ -1,23 +1,47 @@
-//! The program `desk` run on generated inputs, and its output held equal to the reference's.
+//! The programs `desk` and `sheet_cif` run on generated inputs, their outputs held equal to the
+//! reference's.
 
+use crate::files::Files;
 use crate::random::Random;
 use crate::sequences::Sequences;
-use reference::program::program;
+use reference::program::{cif_program, program};
+use std::ffi::OsStr;
 use std::io::{Result as IoResult, Write};
+use std::os::unix::ffi::OsStrExt;
 use std::path::Path;
 use std::process::{Command, Output, Stdio};
 
 /// How many runs that went wrong are shown.
 const SHOWN: usize = 5;
+/// The exit of a refusal.
+const REFUSED: i32 = 1;
 
-/// Runs the program on generated inputs; answers how many runs went well and how many not.
+/// Runs the program `desk` on generated inputs; answers how many runs went well and how many not.
 pub fn run(path: &Path, seed: u64, count: u64) -> (usize, usize) {
+    each(seed, count, |input, _| printed(output(path, &[], input), program(input).as_bytes()))
+}
+
+/// Runs the program `sheet_cif` on generated inputs and block names.
+pub fn run_cif(path: &Path, seed: u64, count: u64) -> (usize, usize) {
+    each(seed, count, |input, seed| {
+        let mut block = Files::new(seed).block();
+        block.retain(|&byte| byte != 0); // no argument holds one
+        let output = output(path, &[&block], input);
+        match cif_program(input, &block) {
+            Some(file) => printed(output, &file),
+            None => refused(output),
+        }
+    })
+}
+
+/// Looks for a fault of each run, by its input and seed.
+fn each(seed: u64, count: u64, fault: impl Fn(&[u8], u64) -> Option<String>) -> (usize, usize) {
     let mut seeds = Random::new(seed);
     let mut failed = 0;
     for _ in 0..count {
         let seed = seeds.next();
         let input = Sequences::new(seed).desk_input();
-        if let Some(fault) = fault(path, &input) {
+        if let Some(fault) = fault(&input, seed) {
             failed += 1;
             if failed <= SHOWN {
                 println!("DIFFERENT desk-input {seed}, {} bytes: {fault}", input.len());
@@ -27,15 +51,14 @@ pub fn run(path: &Path, seed: u64, count: u64) -> (usize, usize) {
     (count as usize - failed, failed)
 }
 
-/// What is wrong with one run.
-fn fault(path: &Path, input: &[u8]) -> Option<String> {
-    let expected = program(input);
-    match output(path, input) {
+/// What is wrong with a run that must print this.
+fn printed(run: IoResult<Output>, expected: &[u8]) -> Option<String> {
+    match run {
         Err(fault) => Some(fault.to_string()),
         Ok(Output { status, .. }) if !status.success() => Some(status.to_string()),
         Ok(Output { stderr, .. }) if !stderr.is_empty() => Some(format!("said {}", text(&stderr))),
-        Ok(Output { stdout, .. }) if stdout != expected.as_bytes() => {
-            let printed = text(&stdout);
+        Ok(Output { stdout, .. }) if stdout != expected => {
+            let (printed, expected) = (text(&stdout), text(expected));
             let lines =
                 printed.lines().zip(expected.lines()).find(|(printed, wanted)| printed != wanted);
             Some(match lines {
@@ -47,10 +70,27 @@ fn fault(path: &Path, input: &[u8]) -> Option<String> {
     }
 }
 
+/// What is wrong with a run that must refuse: one line on standard error alone.
+fn refused(run: IoResult<Output>) -> Option<String> {
+    match run {
+        Err(fault) => Some(fault.to_string()),
+        Ok(Output { status, .. }) if status.code() != Some(REFUSED) => Some(status.to_string()),
+        Ok(Output { stdout, .. }) if !stdout.is_empty() => Some(format!("wrote {}", text(&stdout))),
+        Ok(Output { stderr, .. }) => {
+            let said = text(&stderr);
+            let one_line =
+                said.starts_with("sheet_cif: ") && said.find('\n') == Some(said.len() - 1);
+            (!one_line).then(|| format!("said {said}"))
+        }
+    }
+}
+
 /// Runs the program. It may stop reading early.
-fn output(path: &Path, input: &[u8]) -> IoResult<Output> {
+fn output(path: &Path, arguments: &[&[u8]], input: &[u8]) -> IoResult<Output> {
     let piped = Stdio::piped;
-    let mut run = Command::new(path).stdin(piped()).stdout(piped()).stderr(piped()).spawn()?;
+    let mut command = Command::new(path);
+    command.args(arguments.iter().map(|argument| OsStr::from_bytes(argument)));
+    let mut run = command.stdin(piped()).stdout(piped()).stderr(piped()).spawn()?;
     let mut stdin = run.stdin.take().expect("it is piped");
     std::thread::scope(|scope| {
         scope.spawn(move || stdin.write_all(input));

@@ -1,11 +1,11 @@
-//! Sessions of the program `desk` by readable scripts, and what it must print for each.
+//! Sessions of the programs `desk` and `sheet_cif` by readable scripts, and what each must print.
 
 use crate::program::Library;
 use crate::tally::Tally;
 use reference::desk::{key, report, FRESH, LOG_FULL, NOT_SOUND, RECORD_HEAD};
 use reference::line::LIMIT;
 use reference::names::ITEMS;
-use reference::program::{keys, program, LOG};
+use reference::program::{cif_program, keys, program, LOG};
 use std::fs;
 use std::path::Path;
 
@@ -22,6 +22,11 @@ const NO_DIGITS: &[u8] = b"aZ_ /:\0\n\x08\x18\x7f\x80\xff";
 /// Keys after one first byte. In a text `\n` is Enter, `\x08` erases and `\x18` empties the line.
 fn typed(first: u8, text: impl AsRef<[u8]>) -> Vec<u8> {
     text.as_ref().iter().flat_map(|&byte| [first, byte]).collect()
+}
+
+/// Texts one after the other, each after its first byte.
+fn in_turn(texts: &[(u8, &str)]) -> Vec<u8> {
+    texts.iter().flat_map(|(first, text)| typed(*first, text)).collect()
 }
 
 /// Several benches at once: one key of each in turn, as long as it has one.
@@ -101,26 +106,24 @@ fn no_keys() -> Vec<u8> {
 
 /// Enter on lines without form, with another name and with a value of another kind; corrected.
 fn refused_lines() -> Vec<u8> {
-    [
-        typed(b'0', "\n"),
-        typed(b'0', "_refine_ls_R_factor_gt\n 0.16 \n\x08\n"),
-        typed(b'1', "_refine_ls_R_factor 0.2\n\x18"),
-        typed(b'1', "_refine_ls_wR_factor_obs 0.2x\n\x08\n"),
-        typed(b'2', "_publ_requested_category fo\n\x08\x08FO\n"),
-        typed(b'3', "refine_ls_shift/su_max 0.3\n"),
-    ]
-    .concat()
+    in_turn(&[
+        (b'0', "\n"),
+        (b'0', "_refine_ls_R_factor_gt\n 0.16 \n\x08\n"),
+        (b'1', "_refine_ls_R_factor 0.2\n\x18"),
+        (b'1', "_refine_ls_wR_factor_obs 0.2x\n\x08\n"),
+        (b'2', "_publ_requested_category fo\n\x08\x08FO\n"),
+        (b'3', "refine_ls_shift/su_max 0.3\n"),
+    ])
 }
 
 /// Bench 0's refused line is corrected while bench 1 types.
 fn refused_enter_of_another() -> Vec<u8> {
-    [
-        typed(b'0', "_refine_ls_R_factor_gt 0.1x\n"),
-        typed(b'1', "_refine_ls_wR"),
-        typed(b'0', "\x086\n"),
-        typed(b'1', "_factor_obs 0.2\n"),
-    ]
-    .concat()
+    in_turn(&[
+        (b'0', "_refine_ls_R_factor_gt 0.1x\n"),
+        (b'1', "_refine_ls_wR"),
+        (b'0', "\x086\n"),
+        (b'1', "_factor_obs 0.2\n"),
+    ])
 }
 
 /// Records as long as an entry's can be fill the log to its last byte; one more finds no room.
@@ -169,13 +172,12 @@ fn overwritten() -> Vec<u8> {
 }
 
 fn erase_and_cancel() -> Vec<u8> {
-    [
-        typed(b'0', "\x08\x18\x08_refine_ls_R_faxx\x08\x08ctor_gt 0.2\x0816\n"),
-        typed(b'1', "_chemical_formula_sum 'C10\x18_refine_ls_wR_factor_obs 0.2\n\x08\n"),
-        typed(b'2', "_a\x08\x08\x08\x08_refine_ls_shift/su_max 0.1\n"),
-        typed(b'3', "_refine_ls_shift/esd_max 0.1\x18\n"),
-    ]
-    .concat()
+    in_turn(&[
+        (b'0', "\x08\x18\x08_refine_ls_R_faxx\x08\x08ctor_gt 0.2\x0816\n"),
+        (b'1', "_chemical_formula_sum 'C10\x18_refine_ls_wR_factor_obs 0.2\n\x08\n"),
+        (b'2', "_a\x08\x08\x08\x08_refine_ls_shift/su_max 0.1\n"),
+        (b'3', "_refine_ls_shift/esd_max 0.1\x18\n"),
+    ])
 }
 
 /// A line of the limit by spaces and one by its value; the key after it is passed over.
@@ -215,15 +217,11 @@ fn quoted() -> Vec<u8> {
 }
 
 fn reserved_words() -> Vec<u8> {
-    [
-        typed(b'0', "_chemical_formula_sum loop_\n\x18_chemical_formula_sum LOOP_x\n"),
-        typed(
-            b'1',
-            "_reflns_threshold_expression Data_x\n\x18_reflns_threshold_expression 'data_x'\n",
-        ),
-        typed(b'2', "_publ_requested_category _FO\n\x18_publ_requested_category [FO\n\x18"),
-    ]
-    .concat()
+    in_turn(&[
+        (b'0', "_chemical_formula_sum loop_\n\x18_chemical_formula_sum LOOP_x\n"),
+        (b'1', "_reflns_threshold_expression Data_x\n\x18_reflns_threshold_expression 'data_x'\n"),
+        (b'2', "_publ_requested_category _FO\n\x18_publ_requested_category [FO\n\x18"),
+    ])
 }
 
 /// Lines that lack only their Enter, beside one that has it.
@@ -304,8 +302,12 @@ fn not_judgeable() -> Vec<u8> {
     sheet(&[(1, "'C10H20 Br'"), (2, "140.27"), (3, "FO"), (10, "'I > 2'")])
 }
 
-/// Writes each session's input and what the program must print, as NAME.in and NAME.out. Fails
-/// where the sessions leave out a refusal, or a level or reason of a row.
+/// The block name of the sessions' files.
+const BLOCK: &[u8] = b"camp-1";
+
+/// Writes each session's input, what `desk` must print, and the file that `sheet_cif` must write with
+/// the block name camp-1, as NAME.in, NAME.out and NAME.cif. Fails where the sessions leave out a
+/// refusal, or a level or reason of a row.
 pub fn write(folder: &Path) -> Result<(), String> {
     let scripts = scripts();
     let missing = left_out(&scripts);
@@ -313,7 +315,10 @@ pub fn write(folder: &Path) -> Result<(), String> {
         return Err(format!("the sessions leave out {}", missing.join(", ")));
     }
     for (name, input) in scripts {
-        for (end, content) in [("in", &input[..]), ("out", program(&input).as_bytes())] {
+        let file = cif_program(&input, BLOCK).expect("a good block name");
+        for (end, content) in
+            [("in", &input[..]), ("out", program(&input).as_bytes()), ("cif", &file)]
+        {
             let path = folder.join(format!("{name}.{end}"));
             fs::write(&path, content).map_err(|fault| format!("{}: {fault}", path.display()))?;
         }

@@ -3,11 +3,13 @@
 mod bench;
 mod boundary;
 mod broken;
+mod cif_files;
 mod client;
 mod compare;
 mod desk_runs;
 mod desk_sessions;
 mod desks;
+mod files;
 mod inputs;
 mod lists;
 mod program;
@@ -33,18 +35,21 @@ use std::process::ExitCode;
 const USAGE: &str = "usage: harness MODE
   compare [--seed N] [--count N]  compare both programs on N lines and N values (default 1000000),
                                   half from a fixed seed and half from a new one or the one given,
-                                  and on sheets, key calls and sequences in proportion; an archive
-                                  that is not there is left out, or a failure where REQUIRE_LIBS
+                                  and on sheets, key calls, sequences and files in proportion; an
+                                  archive that is not there is left out, or a failure where REQUIRE_LIBS
                                   names it
   self-check                      show that the comparison finds faulty programs
   trace, reference-trace          answer trace commands by the proved library, by the reference
   bench                           speed of both programs
   libraries                       which proved archives are there; fails as compare does
   layout                          sizes and offsets of the boundary's structs
-  desk-sessions FOLDER            write the sessions of the program desk, NAME.in, and what it must
-                                  print for each, NAME.out
+  desk-sessions FOLDER            write the sessions of the programs desk and sheet_cif, NAME.in, and
+                                  what they must print for each, NAME.out and NAME.cif
   desk-runs PROGRAM SEED COUNT    run the program desk on generated inputs
+  cif-runs PROGRAM SEED COUNT     run the program sheet_cif on generated inputs and block names
   desk-input SEED                 write one such input
+  cif-files SEED COUNT FOLDER     write CIF files of typed sheets, NAME.cif, each beside the list of
+                                  what was typed, NAME.typed
   trace-commands SEED COUNT       write generated trace commands
   client-lines SEED COUNT         write generated lines
   client-values SEED COUNT        write generated values
@@ -95,9 +100,17 @@ fn run(words: &[&str]) -> Outcome {
             let (seed, count) = (number(3, seed)?, number(4, count)?);
             Ok(counted(desk_runs::run(Path::new(program), seed, count)))
         }
+        ["cif-runs", program, seed, count] => {
+            let (seed, count) = (number(3, seed)?, number(4, count)?);
+            Ok(counted(desk_runs::run_cif(Path::new(program), seed, count)))
+        }
         ["desk-input", seed] => {
             let input = Sequences::new(number(2, seed)?).desk_input();
             done(output.write_all(&input).and_then(|()| output.flush()))
+        }
+        ["cif-files", seed, count, folder] => {
+            let (seed, count) = (number(2, seed)?, number(3, count)?);
+            cif_files::write(&Proved, seed, count, Path::new(folder)).and(DONE)
         }
         ["trace-commands", seed, count] => {
             write(trace::commands(&Proved, number(2, seed)?, number(3, count)?), output)
@@ -177,7 +190,8 @@ fn absent() -> usize {
     for name in known.into_iter().filter(|name| !is_there(name)) {
         println!("not there: lib{name}.a");
     }
-    let libraries = required.split_whitespace().filter(|&name| name != env!("PROGRAM"));
+    let programs: Vec<&str> = env!("PROGRAMS").split_whitespace().collect();
+    let libraries = required.split_whitespace().filter(|name| !programs.contains(name));
     let missing = libraries.filter(|name| !is_there(name));
     missing.inspect(|name| println!("REQUIRED lib{name}.a")).count()
 }

@@ -1,9 +1,11 @@
 //! The questions that both programs answer, in the form of the C boundary.
 
-use crate::boundary::{Desk, Graded, KeyResult, LineResult, NumberResult, PlayResult, RowsResult};
+use crate::boundary::{
+    Desk, Filed, Graded, KeyResult, LineResult, NumberResult, PlayResult, RowsResult,
+};
 use reference::names::ITEMS;
 use reference::sequence::Call;
-use reference::{desk, encoded, grade, line, names, number, rows, sequence, value};
+use reference::{cif_file, desk, encoded, grade, line, names, number, rows, sequence, value};
 
 /// The archives that the proved library comes in.
 #[derive(Clone, Copy, PartialEq, Eq)]
@@ -13,14 +15,15 @@ pub enum Library {
     Rows,
     Keys,
     Play,
+    File,
 }
 
 impl Library {
-    pub const ALL: [Library; 5] =
-        [Library::Wall, Library::Probe, Library::Rows, Library::Keys, Library::Play];
+    pub const ALL: [Library; 6] =
+        [Library::Wall, Library::Probe, Library::Rows, Library::Keys, Library::Play, Library::File];
 
     pub fn name(self) -> &'static str {
-        ["wall", "probe", "probe_rows", "probe_keys", "play"][self as usize]
+        ["wall", "probe", "probe_rows", "probe_keys", "play", "probe_file"][self as usize]
     }
 }
 
@@ -107,6 +110,11 @@ pub trait Program {
     /// The question *Who*: answer, bench and entry; none where the program does not answer it yet.
     fn who(&self, desk: &Desk, item: u64) -> Option<(u8, u8, u64)> {
         Some(desk::who(&desk.into(), item))
+    }
+
+    /// Writes the sheet as a CIF file with this block name.
+    fn file(&self, desk: &Desk, block: &[u8], out: &mut [u8]) -> Filed {
+        cif_file::write_file(&desk.into(), block, out).into()
     }
 
     /// Plays encoded calls on a fresh desk.

@@ -1,5 +1,7 @@
 //! The proved library through its C boundary: the archives that are there.
 
+#[cfg(proved = "probe_file")]
+use crate::boundary::Filed;
 #[cfg(proved = "wall")]
 use crate::boundary::Graded;
 #[cfg(proved = "probe_keys")]
@@ -58,8 +60,29 @@ extern "C" {
     ) -> PlayResult;
 }
 
+#[cfg(proved = "probe_file")]
+extern "C" {
+    fn probe_file(
+        desk: Desk,
+        name: *const u8,
+        name_len: usize,
+        out: *mut u8,
+        out_len: usize,
+    ) -> Filed;
+}
+
 /// The proved library.
 pub struct Proved;
+
+/// A method that hands one run of bytes to an archive's function.
+macro_rules! asks {
+    ($library:tt, $method:ident, $function:ident, $answer:ty) => {
+        #[cfg(proved = $library)]
+        fn $method(&self, text: &[u8]) -> $answer {
+            unsafe { $function(text.as_ptr(), text.len()) }
+        }
+    };
+}
 
 // Every call below lends a live slice for the call; a slice's pointer is never null.
 impl Program for Proved {
@@ -70,37 +93,19 @@ impl Program for Proved {
             Library::Rows => cfg!(proved = "probe_rows"),
             Library::Keys => cfg!(proved = "probe_keys"),
             Library::Play => cfg!(proved = "play"),
+            Library::File => cfg!(proved = "probe_file"),
         }
     }
 
-    #[cfg(proved = "wall")]
-    fn classify(&self, line: &[u8]) -> u8 {
-        unsafe { wall_classify(line.as_ptr(), line.len()) }
-    }
+    asks!("wall", classify, wall_classify, u8);
+    asks!("probe", number, probe_number, NumberResult);
+    asks!("probe", value, probe_value, u64);
+    asks!("probe", line, probe_line, LineResult);
+    asks!("probe", item, probe_item, u64);
 
     #[cfg(proved = "wall")]
     fn grade(&self, row: u64, value: &[u8]) -> Graded {
         unsafe { wall_grade(row, value.as_ptr(), value.len()) }
-    }
-
-    #[cfg(proved = "probe")]
-    fn number(&self, text: &[u8]) -> NumberResult {
-        unsafe { probe_number(text.as_ptr(), text.len()) }
-    }
-
-    #[cfg(proved = "probe")]
-    fn value(&self, text: &[u8]) -> u64 {
-        unsafe { probe_value(text.as_ptr(), text.len()) }
-    }
-
-    #[cfg(proved = "probe")]
-    fn line(&self, text: &[u8]) -> LineResult {
-        unsafe { probe_line(text.as_ptr(), text.len()) }
-    }
-
-    #[cfg(proved = "probe")]
-    fn item(&self, name: &[u8]) -> u64 {
-        unsafe { probe_item(name.as_ptr(), name.len()) }
     }
 
     #[cfg(proved = "probe_rows")]
@@ -125,6 +130,11 @@ impl Program for Proved {
                 out.len(),
             )
         }
+    }
+
+    #[cfg(proved = "probe_file")]
+    fn file(&self, desk: &Desk, block: &[u8], out: &mut [u8]) -> Filed {
+        unsafe { probe_file(*desk, block.as_ptr(), block.len(), out.as_mut_ptr(), out.len()) }
     }
 
     fn report(&self, _desk: &Desk) -> Option<(u8, RowsResult)> {

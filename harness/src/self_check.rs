@@ -1,10 +1,13 @@
 //! Shows that the comparison can fail: programs with one known fault each must be found different.
 
+mod file;
 mod keys;
 mod play;
 mod rows;
 
-use crate::boundary::{Desk, Graded, KeyResult, LineResult, NumberResult, PlayResult, RowsResult};
+use crate::boundary::{
+    Desk, Filed, Graded, KeyResult, LineResult, NumberResult, PlayResult, RowsResult,
+};
 use crate::compare::{compare, Plan};
 use crate::program::{Library, Program, Reference, Values};
 use crate::tally::Tally;
@@ -28,6 +31,7 @@ enum Wrong {
     Key(fn(&Desk, &mut [u8], u64, u64, u8) -> KeyResult),
     Play(fn(&[u8], &mut [u8], &mut [u8]) -> PlayResult),
     Gathered(fn(&[Call]) -> Vec<usize>),
+    File(fn(&Desk, &[u8], &mut [u8]) -> Filed),
 }
 
 impl Program for Wrong {
@@ -37,6 +41,7 @@ impl Program for Wrong {
             Wrong::Rows(_) => library == Library::Rows,
             Wrong::Key(_) => library == Library::Keys,
             Wrong::Play(_) | Wrong::Gathered(_) => library == Library::Play,
+            Wrong::File(_) => library == Library::File,
             _ => [Library::Wall, Library::Probe].contains(&library),
         }
     }
@@ -102,6 +107,14 @@ impl Program for Wrong {
             wrong(desk, log, used, bench, byte)
         } else {
             Reference.key(desk, log, used, bench, byte)
+        }
+    }
+
+    fn file(&self, desk: &Desk, block: &[u8], out: &mut [u8]) -> Filed {
+        if let Wrong::File(wrong) = self {
+            wrong(desk, block, out)
+        } else {
+            Reference.file(desk, block, out)
         }
     }
 
@@ -184,7 +197,8 @@ const FAULTS: [(&str, Wrong); 29] = [
 
 /// Prints one line for each fault; answers how many were found and how many not.
 pub fn run() -> (usize, usize) {
-    let faults = FAULTS.iter().chain(&rows::FAULTS).chain(&keys::FAULTS).chain(&play::FAULTS);
+    let faults = FAULTS.iter().chain(&rows::FAULTS).chain(&keys::FAULTS);
+    let faults = faults.chain(&play::FAULTS).chain(&file::FAULTS);
     let mut results: Vec<(String, bool)> = faults.map(|(name, wrong)| found(name, wrong)).collect();
     let none = compare(&Reference, &Reference, &PLAN);
     results.push((

@@ -1,7 +1,7 @@
 //! How often each possible answer was given.
 
 use crate::boundary::RowsResult;
-use crate::broken::WAYS;
+use crate::broken::{DESK_WAYS, WAYS};
 use crate::program::Library;
 use reference::names::ITEMS;
 use reference::rows::{NAMES, ROWS};
@@ -9,7 +9,7 @@ use reference::rows::{NAMES, ROWS};
 const GRADES: &[&str] = &["0 0", "0 2", "0 3", "0 4", "7 0"];
 
 /// Each question with its archive and its possible answers.
-const QUESTIONS: [(Library, &str, &[&str]); 20] = [
+const QUESTIONS: [(Library, &str, &[&str]); 26] = [
     (Library::Wall, "line", &["0", "5", "6", "7"]),
     (Library::Wall, "row 6", GRADES),
     (Library::Wall, "row 8", GRADES),
@@ -30,6 +30,12 @@ const QUESTIONS: [(Library, &str, &[&str]); 20] = [
     (Library::Play, "taken key", &["append", "erase", "empty", "Enter"]),
     (Library::Play, "played Report", &["0"]),
     (Library::Play, "played Who", &["0 by 0", "0 by 1", "0 by 2", "0 by 3", "0 empty", "6"]),
+    (Library::File, "file", &["0", "2", "10", "11"]),
+    (Library::File, "filled items", &["0", "1", "2", "3", "4", "5", "6", "7", "8", "9", "10"]),
+    (Library::File, "block name of", &["0", "1", "2 to 30", "31", "32", "33", "more"]),
+    (Library::File, "room for it", &["0", "less", "one less", "exact", "one more", "more"]),
+    (Library::File, "log typed into", &["exact", "one more", "longer", "of the limit"]),
+    (Library::File, "typed by bench", &["0", "1", "2", "3"]),
 ];
 /// The most answers of a question.
 const MOST: usize = ITEMS.len() + 1;
@@ -56,6 +62,12 @@ pub enum Question {
     TakenKey,
     PlayedReport,
     PlayedWho,
+    File,
+    FilledItems,
+    BlockName,
+    Room,
+    TypedLog,
+    TypedBench,
 }
 
 const GRADED: &[(u8, u8)] = &[(0, 0), (2, 0), (3, 0), (4, 0), (2, 1)];
@@ -85,6 +97,7 @@ pub struct Tally {
     rows: [[u64; MOST]; ROWS],
     played_rows: [[u64; MOST]; ROWS],
     ways: [u64; WAYS.len()],
+    file_ways: [u64; DESK_WAYS],
 }
 
 impl Default for Tally {
@@ -94,6 +107,7 @@ impl Default for Tally {
             rows: [[0; MOST]; ROWS],
             played_rows: [[0; MOST]; ROWS],
             ways: [0; WAYS.len()],
+            file_ways: [0; DESK_WAYS],
         }
     }
 }
@@ -120,6 +134,13 @@ impl Tally {
     /// Counts a call that found a desk broken in one way not sound.
     pub fn note_unsound(&mut self, way: usize) {
         self.ways[way] += 1;
+    }
+
+    /// Counts a file refused since its desk was broken in one way.
+    pub fn note_unsound_file(&mut self, way: usize) {
+        if let Some(count) = self.file_ways.get_mut(way) {
+            *count += 1;
+        }
     }
 
     /// The possible answers to the asked archives' questions that were never given.
@@ -151,8 +172,11 @@ impl Tally {
         });
         let rows = counted_rows(Library::Rows, "", &self.rows);
         let played_rows = counted_rows(Library::Play, "played ", &self.played_rows);
-        let ways = WAYS.iter().map(|(name, _)| name.to_string()).zip(self.ways).collect();
-        let ways = [(Library::Keys, "not sound".into(), ways)];
+        let names = || WAYS.iter().map(|(name, _)| name.to_string());
+        let ways = [
+            (Library::Keys, "not sound".into(), names().zip(self.ways).collect()),
+            (Library::File, "no file".into(), names().zip(self.file_ways).collect()),
+        ];
         questions.chain(rows).chain(ways).chain(played_rows).collect()
     }
 }

@@ -6,6 +6,7 @@ mod stepped;
 
 pub use commands::commands;
 
+use crate::compare::hex;
 use crate::desks::State;
 use crate::program::{Library, Program};
 use played::Played;
@@ -14,8 +15,9 @@ use std::fmt::Write as _;
 use std::io::{BufRead, BufReader, Read, Result as IoResult, Write};
 use stepped::Stepped;
 
-/// The longest log that is made.
+/// The longest log and the most room for a file that are made.
 const LONGEST_LOG: u64 = 1 << 24;
+const MOST_ROOM: u64 = 1 << 24;
 /// How much input is taken at once.
 const BUFFER: usize = 1 << 20;
 
@@ -24,8 +26,32 @@ enum Reply {
     Known(String),
     /// The answer to the call at a place of the sequence, which is not played yet.
     Call(usize),
-    /// The state after so many calls of the sequence, which is not played yet.
-    Dump(usize),
+    /// A look at the state after so many calls of the sequence, which is not played yet.
+    Look(usize, Look),
+}
+
+/// What is asked about a state without changing it.
+enum Look {
+    Dump,
+    /// The sheet as a CIF file with this block name, on so many lent bytes.
+    File {
+        block: Vec<u8>,
+        room: usize,
+    },
+}
+
+impl Look {
+    fn answer(&self, program: &dyn Program, state: &State) -> String {
+        match self {
+            Look::Dump => dump(state),
+            Look::File { block, room } => {
+                let mut out = vec![0; *room];
+                let filed = program.file(&state.desk, block, &mut out);
+                out.truncate(filed.count as usize);
+                format!("{} {} {}", filed.answer, filed.count, hex(&out))
+            }
+        }
+    }
 }
 
 /// Who keeps the desk that the commands are about.
@@ -35,7 +61,7 @@ trait Keeper {
     /// A fresh desk and a log. Every reply was settled before.
     fn fresh(&mut self, length: usize, seed: u64);
     fn call(&mut self, call: Call) -> Reply;
-    fn dump(&mut self) -> Reply;
+    fn look(&mut self, look: Look) -> Reply;
     /// Makes every reply known.
     fn settle(&mut self, replies: &mut [Reply]);
 }
@@ -111,7 +137,13 @@ fn answer(
             }
             "dump" => {
                 let [] = named(arguments, [])?;
-                keeper.dump()
+                keeper.look(Look::Dump)
+            }
+            "cif" => {
+                let [sheet, block, room] = named(arguments, ["SHEET", "NAMEHEX", "ROOM"])?;
+                number(1, sheet)?;
+                let (block, room) = (bytes(2, block)?, up_to(3, room, MOST_ROOM)? as usize);
+                keeper.look(Look::File { block, room })
             }
             _ => keeper.call(call(command, arguments)?),
         },

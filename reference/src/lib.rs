@@ -1,10 +1,11 @@
-//! The rules of document 01, written from its text alone and not proved: the readers of a line,
-//! the twelve rows, the whole desk and sequences of calls.
+//! The rules of documents 01 and 02, written from their text alone and not proved: the readers of a
+//! line, the twelve rows, the whole desk, sequences of calls and the sheet as a CIF file.
 //! The comparison holds the proved library to this program.
 //!
-//! Every function but the key call, and what is built on it, is pure. Quoted sentences are document
-//! 01's.
+//! Every function but the key call, the writer of files, and what is built on them, is pure. Quoted
+//! sentences are document 01's, where a module does not say otherwise.
 
+pub mod cif_file;
 pub mod desk;
 pub mod encoded;
 pub mod formula;

@@ -1,5 +1,7 @@
-//! The program `desk` and its printed form: document 01, the end of "Measured examples".
+//! The program `desk` and its printed form: document 01, the end of "Measured examples"; and the
+//! file that the program `sheet_cif` writes of the same input, by document 02, request No. 1.
 
+use crate::cif_file::{file, is_block_name};
 use crate::desk::{key, report, Desk, FRESH};
 use crate::rows::NAMES;
 use std::fmt::Write;
@@ -13,11 +15,21 @@ const LETTERS: [char; 5] = ['-', 'G', 'C', 'B', 'A'];
 
 /// What the program prints for its standard input.
 pub fn program(input: &[u8]) -> String {
+    print_report(&played(input))
+}
+
+/// What the program `sheet_cif` writes for its standard input; none for a bad block name.
+pub fn cif_program(input: &[u8], block: &[u8]) -> Option<Vec<u8>> {
+    is_block_name(block).then(|| file(&played(input), block))
+}
+
+/// The desk after an input; refusals are passed over.
+fn played(input: &[u8]) -> Desk {
     let (mut desk, mut log, mut used) = (FRESH, [0; LOG], 0);
     for (bench, byte) in keys(input) {
         key(&mut desk, &mut log, &mut used, bench, byte);
     }
-    print_report(&desk)
+    desk
 }
 
 /// The key calls of an input, bench and byte: "pairs from standard input, a bench digit and a key
@@ -48,7 +60,7 @@ pub fn print_report(desk: &Desk) -> String {
 
 #[cfg(test)]
 mod tests {
-    use super::program;
+    use super::{cif_program, program};
 
     const ONE: &str = "_refine_ls_R_factor_gt 0.16\n";
     const OTHER: &str = "_refine_ls_wR_factor_obs 0.2\n";
@@ -85,6 +97,15 @@ ITEM 07 bench 1 entry 2 0.2
     #[test]
     fn the_sample_session() {
         assert_eq!(program(&alternating()), PRINTED);
+    }
+
+    #[test]
+    fn the_sample_session_as_a_file() {
+        let file = format!("data_camp-1\n{ONE}{OTHER}");
+        assert_eq!(cif_program(&alternating(), b"camp-1"), Some(file.into_bytes()));
+        assert_eq!(cif_program(b"", b"x"), Some(b"data_x\n".into()));
+        assert_eq!(cif_program(&alternating(), b""), None);
+        assert_eq!(cif_program(&alternating(), b"camp_1"), None);
     }
 
     #[test]

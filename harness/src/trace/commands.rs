@@ -2,10 +2,28 @@
 
 use crate::compare::hex;
 use crate::desks::State;
+use crate::files::{length, Files};
 use crate::inputs::Inputs;
 use crate::program::{Library, Program, Reference};
 use crate::random::Random;
 use crate::session::Session;
+
+/// Commands that are not there or lack something; the first ones are about files.
+const MALFORMED: [&str; 12] = [
+    "cif",
+    "cif 0 61",
+    "cif 0 6 99",
+    "",
+    "line",
+    "grade",
+    "grade 6",
+    "grade 6 0",
+    "line 3",
+    "LINE -",
+    "key 0 10",
+    "stick",
+];
+const CIF: usize = 3;
 
 /// Generated commands, some of them malformed: those that the program answers.
 pub fn commands(program: &dyn Program, seed: u64, count: u64) -> impl Iterator<Item = Vec<u8>> {
@@ -13,6 +31,7 @@ pub fn commands(program: &dyn Program, seed: u64, count: u64) -> impl Iterator<I
     let (mut keys, mut state) = (Session::new(seed), State::fresh(0, 0));
     let questions = program.has(Library::Play);
     let all = questions || program.has(Library::Keys);
+    let (cif, mut files) = (all && program.has(Library::File), Files::new(seed));
     (0..count).map(move |_| {
         let command = match random.below(if all { 20 } else { 2 }) {
             0 => format!("line {}", hex(&inputs.line())),
@@ -21,7 +40,12 @@ pub fn commands(program: &dyn Program, seed: u64, count: u64) -> impl Iterator<I
             3 if questions => format!("report {} {}", random.below(2), random.next()),
             4 if questions && random.once_in(8) => format!("who 0 {}", random.next()),
             4 if questions => format!("who {} {}", random.below(2), random.below(12)),
-            5 if random.once_in(20) => {
+            5 if cif => {
+                let block = files.block();
+                let room = random.pick(&files.rooms(length(&state.desk, &block)));
+                format!("cif {} {} {room}", random.below(2), hex(&block))
+            }
+            6 if random.once_in(20) => {
                 let (length, seed) = (keys.log_length() % 1000, random.next());
                 state = State::fresh(length, seed);
                 return format!("new {length} {seed}").into_bytes();
@@ -33,19 +57,7 @@ pub fn commands(program: &dyn Program, seed: u64, count: u64) -> impl Iterator<I
             }
         };
         match random.below(12) {
-            0 => random
-                .pick(&[
-                    "",
-                    "line",
-                    "grade",
-                    "grade 6",
-                    "grade 6 0",
-                    "line 3",
-                    "LINE -",
-                    "key 0 10",
-                    "stick",
-                ])
-                .into(),
+            0 => random.pick(&MALFORMED[usize::from(!cif) * CIF..]).into(),
             1 => format!("{command} {}", random.below(9)),
             2 => command.replacen(random.pick(&["2", "-", " ", "e"]), "x", 1),
             _ => command,

@@ -1,8 +1,8 @@
 //! A desk kept as the calls since it was fresh, which are played as one sequence.
 
-use super::{dump, told, Keeper, Reply};
+use super::{told, Keeper, Look, Reply};
 use crate::desks::State;
-use crate::program::Program;
+use crate::program::{Library, Program};
 use reference::encoded::{decode_answer, decode_desk, encode_call, length, ANSWER, PLAYED};
 use reference::sequence::Call;
 
@@ -34,14 +34,17 @@ impl<'a> Played<'a> {
         Ok((answers, State { desk: (&desk).into(), log, used }))
     }
 
-    fn dump_after(&self, count: usize) -> String {
-        self.play(count).map_or_else(|fault| fault, |(_, state)| dump(&state))
+    fn look_after(&self, count: usize, look: &Look) -> String {
+        self.play(count).map_or_else(|fault| fault, |(_, state)| look.answer(self.program, &state))
     }
 }
 
 impl Keeper for Played<'_> {
     fn knows(&self, command: &str) -> bool {
-        ["new", "k", "dump", "report", "who"].contains(&command)
+        match command {
+            "cif" => self.program.has(Library::File),
+            _ => ["new", "k", "dump", "report", "who"].contains(&command),
+        }
     }
 
     fn fresh(&mut self, length: usize, seed: u64) {
@@ -53,11 +56,11 @@ impl Keeper for Played<'_> {
         Reply::Call(self.calls.len() - 1)
     }
 
-    fn dump(&mut self) -> Reply {
-        Reply::Dump(self.calls.len())
+    fn look(&mut self, look: Look) -> Reply {
+        Reply::Look(self.calls.len(), look)
     }
 
-    /// Plays the whole sequence once, and for each dump before its end the calls before that.
+    /// Plays the whole sequence once, and for each look before its end the calls before that.
     fn settle(&mut self, replies: &mut [Reply]) {
         if replies.iter().all(|reply| matches!(reply, Reply::Known(_))) {
             return;
@@ -68,8 +71,10 @@ impl Keeper for Played<'_> {
                 (Reply::Known(_), _) => continue,
                 (_, Err(fault)) => fault.clone(),
                 (Reply::Call(place), Ok((answers, _))) => answers[*place].clone(),
-                (Reply::Dump(count), Ok((_, state))) if *count == self.calls.len() => dump(state),
-                (Reply::Dump(count), Ok(_)) => self.dump_after(*count),
+                (Reply::Look(count, look), Ok((_, state))) if *count == self.calls.len() => {
+                    look.answer(self.program, state)
+                }
+                (Reply::Look(count, look), Ok(_)) => self.look_after(*count, look),
             };
             *reply = Reply::Known(line);
         }

@@ -1,6 +1,6 @@
 //! A desk kept call by call.
 
-use super::{dump, told, Keeper, Reply};
+use super::{told, Keeper, Look, Reply};
 use crate::desks::State;
 use crate::program::{Library, Program};
 use reference::sequence::{Answer, Call};
@@ -38,6 +38,7 @@ impl Keeper for Stepped<'_> {
     fn knows(&self, command: &str) -> bool {
         match command {
             "new" | "k" | "dump" => self.program.has(Library::Keys),
+            "cif" => self.program.has(Library::Keys) && self.program.has(Library::File),
             "report" => self.program.report(&self.state.desk).is_some(),
             "who" => self.program.who(&self.state.desk, 1).is_some(),
             _ => false,
@@ -52,8 +53,8 @@ impl Keeper for Stepped<'_> {
         Reply::Known(self.answer(call).map_or("none".into(), |answer| told(&answer)))
     }
 
-    fn dump(&mut self) -> Reply {
-        Reply::Known(dump(&self.state))
+    fn look(&mut self, look: Look) -> Reply {
+        Reply::Known(look.answer(self.program, &self.state))
     }
 
     fn settle(&mut self, _replies: &mut [Reply]) {}

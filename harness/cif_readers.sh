@@ -1,0 +1,28 @@
+#!/usr/bin/env bash
+# Writes files of typed sheets and reads them with programs of others: gemmi, installed by apt-get if it is missing, and
+# cod-tools and PyCIFRW where they are. What cannot be had is skipped, and not counted.
+# Needs the built harness (build/cargo/release/harness). Ends with 'N passed, M failed'.
+set -u
+cd "$(dirname "$0")/.." || exit 2
+
+harness=$PWD/build/cargo/release/harness
+[ -x "$harness" ] || { echo "$harness is missing: build it first" >&2; exit 2; }
+# Debian's modules are for Debian's own Python, which need not be the first one.
+python=/usr/bin/python3
+work=$(mktemp -d) || exit 2
+trap 'rm -rf "$work"' EXIT
+
+has_gemmi() {
+    "$python" -c 'import gemmi' 2>/dev/null
+}
+
+if ! has_gemmi; then
+    { apt-get update && apt-get install -y python3-gemmi; } >"$work/install" 2>&1 || tail -n 1 "$work/install"
+fi
+if [ ! -x "$python" ]; then
+    echo "skipped: readers of CIF (no $python)"
+    echo "0 passed, 0 failed"
+    exit 0
+fi
+"$harness" cif-files 16 400 "$work" || exit 1
+"$python" harness/cif_readers.py "$work"
