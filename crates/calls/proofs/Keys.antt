@@ -11,9 +11,9 @@ use borrow.Rule.Slice.PartMut.{putMid, midOf}
 use lib.Dec.{leb}
 use lib.ListN.{length, take, drop, replicate, length-replicate, replicate-append-replicate, take-append-drop}
 use lib.Seq.{drop-at, drop-drop}
-use Rattle.text.specs.Copy.{copied}
+use Rattle.copies.specs.Copy.{copied}
 use Rattle.text.proofs.Bools.{and-both}
-use Rattle.text.proofs.Copies.{copied-fits}
+use Rattle.copies.proofs.Copies.{copied-fits}
 use Rattle.items.specs.Typed.{lineMost}
 use Rattle.log.specs.Record.{recordLength, recordOf, hasRoom, writtenOf, freeAfter}
 use Rattle.log.specs.declared.Written.the-variants.{Bytes, NoRoom}

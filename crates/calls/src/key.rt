@@ -35,7 +35,7 @@ fn with_entry(s: Sheet, bench: usize, item: usize, value: &[u8]) -> Sheet
 {
     let len = value.len();
     let mut bytes = [0u8; LINE_MOST];
-    text::copy_in(&mut bytes, 0, value);
+    copies::copy_in(&mut bytes, 0, value);
     let entry = s.count + 1;
     let filled = Item {
         value: bytes,

@@ -9,7 +9,7 @@ use borrow.Author.Tests.{leb-true, le-leb}
 use lib.Dec.{leb}
 use lib.ListN.{length, take, drop, length-append, length-drop, length-map}
 use Rattle.text.specs.Run.{all, between, other}
-use Rattle.text.specs.Same.{lower}
+use Rattle.equality.specs.Same.{lower}
 use Rattle.text.proofs.Bools.{and-both, cond-first}
 use Rattle.text.proofs.Runs.{run-length, all-append, all-drop}
 use Rattle.values.specs.Value.{isValue}

@@ -8,9 +8,9 @@ use borrow.Author.Tests.{eq-eqb, ne-eqb}
 use lib.ListN.{length, take, drop, length-append, take-append-drop}
 use lib.Seq.{take-at}
 use Rattle.text.specs.Quote.{bytes}
-use Rattle.text.specs.Copy.{copied}
-use Rattle.text.specs.Each.{linesFrom}
-use Rattle.text.proofs.Copies.{copied-next}
+use Rattle.copies.specs.Copy.{copied}
+use Rattle.copies.specs.Each.{linesFrom}
+use Rattle.copies.proofs.Copies.{copied-next}
 use Rattle.items.specs.Items.{nameOf}
 use Rattle.state.specs.Sheets.{valueIn}
 use Rattle.state.specs.declared.sheet.Item.{Item}

@@ -7,10 +7,10 @@ use Prim.Native.Nat.{ℕ, _≤_, _<_}
 use borrow.Author.Tests.{le-leb, lt-leb, leb-true}
 use lib.Dec.{leb}
 use lib.ListN.{length}
-use Rattle.text.specs.Copy.{copied}
+use Rattle.copies.specs.Copy.{copied}
 use Rattle.text.specs.Run.{all}
 use Rattle.text.proofs.Bools.{and-both}
-use Rattle.text.proofs.Copies.{copied-start}
+use Rattle.copies.proofs.Copies.{copied-start}
 use Rattle.soundness.specs.Sound.{soundDesk}
 use Rattle.state.specs.declared.desk.Desk.{Desk}
 use Rattle.cif_file.specs.Block.{blockMost, isBlockByte, isBlockName}

@@ -5,7 +5,7 @@ use mathlib.Core.Bool.{cond}
 use mathlib.Core.List.{List, [], _∷_, _++_}
 use lib.Dec.{eqb}
 use Rattle.text.specs.Quote.{bytes}
-use Rattle.text.specs.Each.{linesFrom}
+use Rattle.copies.specs.Each.{linesFrom}
 use Rattle.items.specs.Items.{nameOf}
 use Rattle.state.specs.Sheets.{valueIn}
 use Rattle.state.specs.declared.sheet.Item.{Item}

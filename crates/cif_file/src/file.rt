@@ -2,8 +2,8 @@
 ghost use mathlib.Core.Path.{_≡_};
 ghost use Prim.Native.Nat.{_≤_, _<_, _+_};
 ghost use lib.ListN.{length};
-ghost use Rattle.text.specs.Copy.{copied};
-ghost use Rattle.text.specs.Each.{linesFrom};
+ghost use Rattle.copies.specs.Copy.{copied};
+ghost use Rattle.copies.specs.Each.{linesFrom};
 ghost use Rattle.items.specs.Items.{itemCount};
 ghost use Rattle.state.specs.Sheets.{valueIn};
 ghost use Rattle.cif_file.specs.File.{ended, itemText, itemLine, fileOf};
@@ -45,9 +45,9 @@ fn put_filled(out: &mut [u8], at: usize, k: usize, item: Item) -> usize
     let end = start + n;
     let value = item.value;
     items::copy_name(out, at, k + 1);
-    text::copy_in(out, space, b" ");
-    text::copy_in(out, start, &value[..n]);
-    text::copy_in(out, end, b"\n");
+    copies::copy_in(out, space, b" ");
+    copies::copy_in(out, start, &value[..n]);
+    copies::copy_in(out, end, b"\n");
     end + 1
 }
 
@@ -82,9 +82,9 @@ fn put_file(out: &mut [u8], name: &[u8], sheet: Sheet)
     ensures { λ _. ⌜ now (out .exit) ≡ copied (now (out .entry)) 0 (fileOf (now (name .entry)) sheet) ⌝ }
 {
     let n = name.len();
-    text::copy_in(out, 0, &HEADING);
-    text::copy_in(out, HEADING.len(), name);
-    text::copy_in(out, HEADING.len() + n, b"\n");
+    copies::copy_in(out, 0, &HEADING);
+    copies::copy_in(out, HEADING.len(), name);
+    copies::copy_in(out, HEADING.len() + n, b"\n");
     put_items(out, HEAD + n, sheet);
 }
 

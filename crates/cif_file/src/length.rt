@@ -2,7 +2,7 @@
 ghost use mathlib.Core.Path.{_≡_};
 ghost use Prim.Native.Nat.{_≤_, _<_, _+_, _*_};
 ghost use lib.ListN.{length};
-ghost use Rattle.text.specs.Each.{linesFrom};
+ghost use Rattle.copies.specs.Each.{linesFrom};
 ghost use Rattle.items.specs.Typed.{lineMost};
 ghost use Rattle.items.specs.Items.{itemCount};
 ghost use Rattle.state.specs.Sheets.{valueIn};

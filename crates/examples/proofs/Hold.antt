@@ -4,7 +4,7 @@ use mathlib.Core.Path.{_≡_, refl}
 use mathlib.Core.List.{List, map}
 use Prim.Native.Nat.{ℕ}
 use Rattle.text.specs.Run.{between, other, runOf, all, hasAt}
-use Rattle.text.specs.Same.{lower, sameBy, beginsFolded}
+use Rattle.equality.specs.Same.{lower, sameBy, beginsFolded}
 use Rattle.decimal.specs.Digits.{valueFrom}
 use Rattle.decimal.specs.Reading.{closes, isTail, sizeOf, pointedOf, unsignedOf, readingOf, isNumber}
 use Rattle.values.specs.Value.{mayBegin, isReserved, isBare, isQuotedBy, isQuoted, isValue, isUnassigned, textOf}

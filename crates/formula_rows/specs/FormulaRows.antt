@@ -4,7 +4,7 @@ use Prim.Native.Nat.{ℕ}
 use mathlib.Core.Bool.{Bool, cond, _||_}
 use mathlib.Core.List.{List}
 use Rattle.text.specs.Quote.{bytes}
-use Rattle.text.specs.Same.{exact, sameBy}
+use Rattle.equality.specs.Same.{exact, sameBy}
 use Rattle.values.specs.Value.{textOf}
 use Rattle.formula.specs.Recognised.{allRecognised}
 use Rattle.formula.specs.Order.{inOrder}

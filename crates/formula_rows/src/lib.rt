@@ -1,7 +1,7 @@
 // Rows 1 to 3: the formula by itself, and against the category (document 01, "The twelve rows").
 ghost use mathlib.Core.Path.{_≡_};
 ghost use mathlib.Core.Bool.{_||_};
-ghost use Rattle.text.specs.Same.{exact, sameBy};
+ghost use Rattle.equality.specs.Same.{exact, sameBy};
 ghost use Rattle.formula_rows.specs.FormulaRows.{row1, row2, inClass, row3};
 use formula::class::Class;
 use rows::Row;
@@ -50,10 +50,10 @@ pub fn is_in_class(class: Class, t: &[u8]) -> bool
 fn is_either(t: &[u8], a: &[u8], b: &[u8]) -> bool
     ensures { λ r. ⌜ r ≡ (sameBy exact (now (t .entry)) (now (a .entry)) || sameBy exact (now (t .entry)) (now (b .entry))) ⌝ }
 {
-    if text::same(t, a) {
+    if equality::same(t, a) {
         return true;
     }
-    text::same(t, b)
+    equality::same(t, b)
 }
 
 // Row 3: the class of the formula against the category.

@@ -9,7 +9,7 @@ use borrow.Author.Tests.{leb-true}
 use lib.Dec.{leb}
 use lib.ListN.{length, getD, take, drop, drop-of-length-le}
 use lib.Seq.{drop-cons}
-use Rattle.text.specs.Same.{sameFolded}
+use Rattle.equality.specs.Same.{sameFolded}
 use Rattle.text.proofs.Tables.{entry}
 use Rattle.items.specs.Items.{ItemRow, items, itemCount, noRow, rowOf, findFrom}
 use Rattle.items.specs.declared.Named.the-variants.{Item, Unknown}

@@ -7,8 +7,8 @@ use Prim.Native.Nat.{ℕ, suc, _+_, _-_, _≤_, _<_}
 use native.Mathlib.Omega.{arith}
 use lib.ListN.{length, getD, replicate, getD-replicate, List·getD-map}
 use Rattle.text.specs.Run.{all, between, other, hasAt}
-use Rattle.text.specs.Same.{lower, sameBy, sameFolded}
-use Rattle.text.proofs.Sames.{same→map, same-cong}
+use Rattle.equality.specs.Same.{lower, sameBy, sameFolded}
+use Rattle.equality.proofs.Sames.{same→map, same-cong}
 use Rattle.text.proofs.Tables.{entry}
 use Rattle.items.specs.Items.{ItemRow, items, itemCount, noRow, rowOf, findFrom, itemOf, IsName}
 use Rattle.items.specs.Typed.{isTyped}

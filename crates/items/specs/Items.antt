@@ -8,7 +8,7 @@ use mathlib.Core.List.{List, [], _∷_, map}
 use lib.Dec.{leb}
 use lib.ListN.{length, getD}
 use Rattle.text.specs.Quote.{bytes}
-use Rattle.text.specs.Same.{lower, exact, sameBy, sameFolded}
+use Rattle.equality.specs.Same.{lower, exact, sameBy, sameFolded}
 use Rattle.decimal.specs.Reading.{isNumber}
 use Rattle.values.specs.Value.{isUnassigned, textOf}
 use Rattle.items.specs.declared.Kind.{Kind}

@@ -2,8 +2,8 @@
 ghost use mathlib.Core.Path.{_≡_};
 ghost use Prim.Native.Nat.{_≤_, _<_, _+_};
 ghost use lib.ListN.{length, take, drop};
-ghost use Rattle.text.specs.Copy.{copied};
-ghost use Rattle.text.specs.Same.{sameFolded};
+ghost use Rattle.copies.specs.Copy.{copied};
+ghost use Rattle.equality.specs.Same.{sameFolded};
 ghost use Rattle.items.specs.Fits.{fits};
 ghost use Rattle.items.specs.Items.{itemCount, rowOf, nameOf, itemOf, isCategory, ofKind, passes};
 
@@ -53,7 +53,7 @@ fn is_in_table(k: usize, s: &[u8]) -> bool
 {
     let from = STARTS[k] as usize;
     let to = STARTS[k + 1] as usize;
-    text::same_folded(s, &NAMES[from..to])
+    equality::same_folded(s, &NAMES[from..to])
 }
 
 // Whether s is the name of item k + 1, without regard to the case of A to Z. The table of names is not touched for a text of another length.
@@ -98,22 +98,22 @@ fn kind_at(k: usize) -> Kind
 fn is_category(t: &[u8]) -> bool
     ensures { λ r. ⌜ r ≡ isCategory (now (t .entry)) ⌝ }
 {
-    if text::same(t, b"FI") {
+    if equality::same(t, b"FI") {
         return true;
     }
-    if text::same(t, b"CI") {
+    if equality::same(t, b"CI") {
         return true;
     }
-    if text::same(t, b"FM") {
+    if equality::same(t, b"FM") {
         return true;
     }
-    if text::same(t, b"CM") {
+    if equality::same(t, b"CM") {
         return true;
     }
-    if text::same(t, b"FO") {
+    if equality::same(t, b"FO") {
         return true;
     }
-    text::same(t, b"CO")
+    equality::same(t, b"CO")
 }
 
 fn is_of_kind(kind: Kind, v: &[u8]) -> bool
@@ -167,7 +167,7 @@ pub fn copy_name(out: &mut [u8], at: usize, item: usize)
     }
     let from = STARTS[item - 1] as usize;
     let to = STARTS[item] as usize;
-    text::copy_in(out, at, &NAMES[from..to]);
+    copies::copy_in(out, at, &NAMES[from..to]);
 }
 
 // Whether an item can hold the value v: form, bytes, kind, and the length of its line.

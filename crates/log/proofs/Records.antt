@@ -10,9 +10,9 @@ use lib.Dec.{leb}
 use borrow.Rule.Slice.PartMut.{putMid, midOf}
 use lib.ListN.{length, take, drop, length-drop, drop-of-length-le}
 use lib.Seq.{take-all, drop-append-add, drop-drop}
-use Rattle.text.specs.Copy.{copied}
+use Rattle.copies.specs.Copy.{copied}
 use Rattle.text.proofs.Bools.{not-holds, cond-first}
-use Rattle.text.proofs.Copies.{copied-fits}
+use Rattle.copies.proofs.Copies.{copied-fits}
 use Rattle.log.specs.Record.{little, recordLength, recordOf, hasRoom, writtenOf}
 use Rattle.log.specs.declared.Written.the-variants.{Bytes, NoRoom}
 

@@ -42,6 +42,6 @@ pub fn write_record(free: &mut [u8], bench: u8, item: u8, value: &[u8]) -> Writt
         return Written::NoRoom;
     }
     put_head(free, n, bench, item);
-    text::copy_in(free, HEAD, value);
+    copies::copy_in(free, HEAD, value);
     Written::Bytes(HEAD + n)
 }

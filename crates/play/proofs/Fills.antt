@@ -5,7 +5,7 @@ use mathlib.Core.List.{List, _++_}
 use Prim.Native.Nat.{ℕ, _+_, _*_, _≤_}
 use native.Mathlib.Omega.{arith}
 use lib.ListN.{length, drop, length-append}
-use Rattle.text.specs.Copy.{copied}
+use Rattle.copies.specs.Copy.{copied}
 use Rattle.state.specs.declared.desk.Desk.{Desk}
 use Rattle.alerts.specs.Sheet.{rowsOf, noRows}
 use Rattle.sequence.specs.Calls.{Call, State}
@@ -16,7 +16,7 @@ use Rattle.play.specs.DeskBytes.{deskLength, deskBytes}
 use Rattle.play.specs.Written.{answersBytes, writtenLength, AnswersWritten, AllWritten}
 use Rattle.play.specs.Play.{After, after, ran}
 use Rattle.play.specs.declared.Played.the-variants.{Done}
-use Rattle.text.proofs.Copies.{copied-next, copied-start}
+use Rattle.copies.proofs.Copies.{copied-next, copied-start}
 
 pub filled : (log₀ out₀ : List ℕ) (cs : List Call) (n : ℕ) (d : Desk) (used : ℕ) {log out last : List ℕ} → AnswersWritten log₀ out₀ cs n d used log out
     → last ≡ copied out (replyLength * n) (deskBytes d used) → length (deskBytes d used) ≡ deskLength → writtenLength n ≤ length out₀ → AllWritten log₀ out₀ cs n log last

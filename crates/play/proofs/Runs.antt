@@ -5,10 +5,10 @@ use mathlib.Core.List.{List, [], _∷_, _++_, append-nil, append-assoc, flatMap}
 use Prim.Native.Nat.{ℕ, _+_, _*_, _≤_}
 use native.Mathlib.Omega.{arith}
 use lib.ListN.{length, length-append}
-use Rattle.text.specs.Copy.{copied}
+use Rattle.copies.specs.Copy.{copied}
 use Rattle.sequence.specs.Calls.{Call, answered, final}
 use Rattle.replies.specs.ReplyBytes.{replyLength}
-use Rattle.text.proofs.Copies.{length-copied, copied-none, copied-next}
+use Rattle.copies.proofs.Copies.{length-copied, copied-none, copied-next}
 
 module _ {S A : Type 0} (step : Call → S → A × S) (bytesOf : A → List ℕ) where
   -- the answers of calls in bytes

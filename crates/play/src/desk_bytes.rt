@@ -3,7 +3,7 @@ ghost use mathlib.Core.Path.{_≡_};
 ghost use mathlib.Core.List.{flatMap};
 ghost use Prim.Native.Nat.{_+_, _*_, _≤_};
 ghost use lib.ListN.{length};
-ghost use Rattle.text.specs.Copy.{copied};
+ghost use Rattle.copies.specs.Copy.{copied};
 ghost use Rattle.items.specs.Items.{itemCount};
 ghost use Rattle.state.specs.Desks.{benchCount};
 ghost use Rattle.play.specs.DeskBytes.{lineLength, itemLength, deskLength, lineBytes, itemBytes, deskBytes};
@@ -33,9 +33,9 @@ fn put_line(out: &mut [u8], at: usize, l: Line)
     ensures { λ _. ⌜ (now (out .exit) ≡ copied (now (out .entry)) at (lineBytes l)) × (length (lineBytes l) ≡ lineLength) ⌝ }
 {
     let bytes = l.bytes;
-    text::copy_in(out, at, &bytes);
+    copies::copy_in(out, at, &bytes);
     let len = number_bytes(l.len as u64);
-    text::copy_in(out, at + LINE_MOST, &len);
+    copies::copy_in(out, at + LINE_MOST, &len);
 }
 
 // The bytes of an item's value, its length, its entry number and its bench.
@@ -44,13 +44,13 @@ fn put_item(out: &mut [u8], at: usize, i: Item)
     ensures { λ _. ⌜ (now (out .exit) ≡ copied (now (out .entry)) at (itemBytes i)) × (length (itemBytes i) ≡ itemLength) ⌝ }
 {
     let value = i.value;
-    text::copy_in(out, at, &value);
+    copies::copy_in(out, at, &value);
     let len = number_bytes(i.len as u64);
-    text::copy_in(out, at + LINE_MOST, &len);
+    copies::copy_in(out, at + LINE_MOST, &len);
     let entry = number_bytes(i.entry as u64);
-    text::copy_in(out, at + LINE_MOST + NUMBER_BYTES, &entry);
+    copies::copy_in(out, at + LINE_MOST + NUMBER_BYTES, &entry);
     let bench = [i.bench];
-    text::copy_in(out, at + LINE_MOST + 2 * NUMBER_BYTES, &bench);
+    copies::copy_in(out, at + LINE_MOST + 2 * NUMBER_BYTES, &bench);
 }
 
 // The lines of a desk.
@@ -88,7 +88,7 @@ pub(crate) fn put_desk(out: &mut [u8], at: usize, d: Desk, used: usize)
     put_lines(out, at, d);
     put_items(out, at + LINES_BYTES, sheet);
     let count = number_bytes(sheet.count as u64);
-    text::copy_in(out, at + LINES_BYTES + ITEMS_BYTES, &count);
+    copies::copy_in(out, at + LINES_BYTES + ITEMS_BYTES, &count);
     let last = number_bytes(used as u64);
-    text::copy_in(out, at + LINES_BYTES + ITEMS_BYTES + NUMBER_BYTES, &last);
+    copies::copy_in(out, at + LINES_BYTES + ITEMS_BYTES + NUMBER_BYTES, &last);
 }

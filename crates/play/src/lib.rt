@@ -68,7 +68,7 @@ fn answer_calls(calls: &[u8], n: usize, log: &mut [u8], out: &mut [u8]) -> Left
         let at = CALL_BYTES * i;
         let s = play_call(d, used, log, &calls[at..]);
         let reply = s.reply;
-        text::copy_in(out, REPLY_BYTES * i, &reply);
+        copies::copy_in(out, REPLY_BYTES * i, &reply);
         let next = s.desk;
         d = next;
         used = s.used;

@@ -7,10 +7,10 @@ use native.Mathlib.Omega.{arith}
 use native.Mathlib.Numerals.{add-one}
 use lib.ListN.{length, getD, take, drop, length-append, drop-of-length-le}
 use lib.Seq.{take-at, drop-cons, length-take-le}
-use Rattle.text.specs.Copy.{copied}
-use Rattle.text.proofs.Copies.{copied-fits}
+use Rattle.copies.specs.Copy.{copied}
+use Rattle.copies.proofs.Copies.{copied-fits}
 use Rattle.printing.specs.Page.{pageMost, written, Adds}
-use Rattle.text.specs.Each.{linesFrom}
+use Rattle.copies.specs.Each.{linesFrom}
 use Rattle.printing.specs.declared.page.Page.{Page}
 
 -- the bytes of a page with t copied in after what is written

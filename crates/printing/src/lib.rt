@@ -6,7 +6,7 @@ ghost use lib.ListN.{length};
 ghost use Rattle.items.specs.Items.{itemCount};
 ghost use Rattle.state.specs.Sheets.{valueIn};
 ghost use Rattle.alerts.specs.Sheet.{rowCount};
-ghost use Rattle.text.specs.Each.{linesFrom};
+ghost use Rattle.copies.specs.Each.{linesFrom};
 ghost use Rattle.printing.specs.Page.{pageMost, written, Adds};
 ghost use Rattle.printing.specs.Print.{rowName, levelLetter, rowLine, filledLine, itemLine, printedOf, printedIn, outAfter};
 
@@ -193,7 +193,7 @@ fn copy_out(p: Page, out: &mut [u8]) -> Printed
         return Printed::NoRoom;
     }
     let bytes = p.bytes;
-    text::copy_in(out, 0, &bytes[..n]);
+    copies::copy_in(out, 0, &bytes[..n]);
     Printed::Bytes(n)
 }
 

@@ -31,7 +31,7 @@ pub(crate) fn put(p: Page, piece: &[u8]) -> Page
 {
     let at = p.len;
     let mut bytes = p.bytes;
-    text::copy_in(&mut bytes, at, piece);
+    copies::copy_in(&mut bytes, at, piece);
     Page {
         bytes,
         len: at + piece.len(),

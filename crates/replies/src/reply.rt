@@ -33,7 +33,7 @@ pub fn report_reply(p: Reported) -> [u8; REPLY_BYTES]
     while i < ROW_COUNT {
         let row = rows.rows[i];
         let pair = [row.level, row.reason];
-        text::copy_in(&mut bytes, 1 + 2 * i, &pair);
+        copies::copy_in(&mut bytes, 1 + 2 * i, &pair);
         i += 1;
     }
     bytes
@@ -48,6 +48,6 @@ pub fn who_reply(t: Told) -> [u8; REPLY_BYTES]
     let mut bytes = [0u8; REPLY_BYTES];
     bytes[0] = asked_number(answer);
     bytes[1] = t.bench;
-    text::copy_in(&mut bytes, 2, &entry);
+    copies::copy_in(&mut bytes, 2, &entry);
     bytes
 }

@@ -11,7 +11,7 @@ use lib.ListN.{length, drop}
 use lib.Seq.{take-at, drop-append-add}
 use Rattle.text.specs.Quote.{bytes}
 use Rattle.text.specs.Run.{all, between, other, runOf}
-use Rattle.text.specs.Each.{linesFrom}
+use Rattle.copies.specs.Each.{linesFrom}
 use Rattle.text.proofs.Bools.{and-both, not-holds}
 use Rattle.text.proofs.Runs.{all-append, run-append, run-none}
 use Rattle.soundness.specs.Sound.{soundDesk}

@@ -8,7 +8,7 @@ use native.Mathlib.Nat.{zero-add}
 use native.Mathlib.Omega.{arith}
 use lib.ListN.{length, getD, set, replicate, getD-replicate}
 use lib.Seq.{set-getD}
-use Rattle.text.specs.Each.{linesFrom}
+use Rattle.copies.specs.Each.{linesFrom}
 use Rattle.text.proofs.Bools.{and-both}
 use Rattle.items.specs.Items.{itemCount}
 use Rattle.state.specs.Sheets.{itemAt, valueIn}

@@ -8,7 +8,7 @@ use lib.ListN.{length, take, drop}
 use lib.IntN.{ℤ, pos, negsuc}
 use Rattle.text.specs.Quote.{bytes}
 use Rattle.text.specs.Run.{hasAt}
-use Rattle.text.specs.Same.{exact, sameBy}
+use Rattle.equality.specs.Same.{exact, sameBy}
 use Rattle.decimal.specs.Reading.{readingOf}
 use Rattle.decimal.specs.declared.Reading.{Reading}
 use Rattle.decimal.specs.declared.Reading.the-variants.{Number, Nothing}

@@ -25,11 +25,11 @@ fn has_shape(t: &[u8], p: &[u8], q: &[u8]) -> bool
     if t.len() < m + n {
         return false;
     }
-    if !text::same(&t[..m], p) {
+    if !equality::same(&t[..m], p) {
         return false;
     }
     let end = t.len() - n;
-    text::same(&t[end..], q)
+    equality::same(&t[end..], q)
 }
 
 // Whether x ends with the byte b.

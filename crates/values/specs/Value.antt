@@ -7,7 +7,7 @@ use lib.Dec.{leb, eqb}
 use lib.ListN.{length, getD, take, drop}
 use Rattle.text.specs.Quote.{bytes}
 use Rattle.text.specs.Run.{all, other}
-use Rattle.text.specs.Same.{sameFolded, beginsFolded}
+use Rattle.equality.specs.Same.{sameFolded, beginsFolded}
 
 -- "first byte none of ' " _ # $ [ ]"
 unfoldable pub mayBegin : ℕ → Bool

@@ -15,19 +15,19 @@ fn may_begin(b: u8) -> bool
 fn is_reserved(s: &[u8]) -> bool
     ensures { λ r. ⌜ r ≡ isReserved (now (s .entry)) ⌝ }
 {
-    if text::begins_folded(s, b"data_") {
+    if equality::begins_folded(s, b"data_") {
         return true;
     }
-    if text::begins_folded(s, b"save_") {
+    if equality::begins_folded(s, b"save_") {
         return true;
     }
-    if text::same_folded(s, b"loop_") {
+    if equality::same_folded(s, b"loop_") {
         return true;
     }
-    if text::same_folded(s, b"stop_") {
+    if equality::same_folded(s, b"stop_") {
         return true;
     }
-    text::same_folded(s, b"global_")
+    equality::same_folded(s, b"global_")
 }
 
 // Whether s is a bare value.

@@ -3,8 +3,8 @@
 use native.Mathlib.Omega.{arith}
 use mathlib.Core.Path.{sym, ap, _∙_}
 use denote.Ref.{now}
-use Rattle.text.specs.Copy.{copied}
-use Rattle.text.proofs.Copies.{copied-none}
+use Rattle.copies.specs.Copy.{copied}
+use Rattle.copies.proofs.Copies.{copied-none}
 use Rattle.items.proofs.NameTable.{flat, starts}
 use Rattle.items.proofs.NameOf.{no-name-before, no-name-after, item-ordered, item-within, item-part}
 use borrow.Author.Needs.{needs}

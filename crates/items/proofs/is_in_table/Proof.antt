@@ -2,7 +2,7 @@
 -- Assumes nothing.
 use native.Mathlib.Omega.{arith}
 use mathlib.Core.Path.{_∙_, ap}
-use Rattle.text.specs.Same.{sameFolded}
+use Rattle.equality.specs.Same.{sameFolded}
 use Rattle.items.proofs.NameTable.{flat, starts, name-part, starts-ordered, starts-within}
 use borrow.Author.Needs.{needs}
 use Rattle.items.proofs.is_in_table.Statement.{statement}

@@ -5,8 +5,8 @@ use mathlib.Core.Path.{sym, ap, _∙_}
 use mathlib.Core.List.{List}
 use Prim.Native.Nat.{ℕ, _+_}
 use lib.ListN.{length}
-use Rattle.text.specs.Same.{lower}
-use Rattle.text.proofs.Sames.{other-length}
+use Rattle.equality.specs.Same.{lower}
+use Rattle.equality.proofs.Sames.{other-length}
 use Rattle.items.proofs.NameOf.{name-of}
 use borrow.Author.Needs.{needs}
 use Rattle.items.proofs.is_name.Statement.{statement}

@@ -7,7 +7,7 @@ use mathlib.Core.List.{List}
 use Prim.Native.Nat.{ℕ, _+_}
 use denote.Ref.{now}
 use lib.ListN.{length}
-use Rattle.text.specs.Copy.{copied}
+use Rattle.copies.specs.Copy.{copied}
 use Rattle.log.specs.Record.{hasRoom, writtenOf, freeAfter}
 use Rattle.log.proofs.Records.{record-written, has-room, too-long, too-little}
 use borrow.Author.Needs.{needs}

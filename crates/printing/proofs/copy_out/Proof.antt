@@ -8,7 +8,7 @@ use borrow.Author.Tests.{le-leb, lt-leb}
 use denote.Ref.{now}
 use lib.ListN.{length}
 use lib.Seq.{length-take-le}
-use Rattle.text.proofs.Copies.{copied-fits}
+use Rattle.copies.proofs.Copies.{copied-fits}
 use Rattle.printing.specs.Page.{written}
 use Rattle.printing.specs.Print.{printedIn, outAfter}
 use Rattle.printing.specs.declared.Printed.the-variants.{Bytes}

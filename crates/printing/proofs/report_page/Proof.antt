@@ -5,7 +5,7 @@ use mathlib.Core.Path.{ap}
 use mathlib.Core.List.{List, [], _∷_, _++_}
 use Rattle.text.specs.Quote.{bytes}
 use Rattle.questions.specs.declared.report.Reported.{Reported}
-use Rattle.text.specs.Each.{linesFrom}
+use Rattle.copies.specs.Each.{linesFrom}
 use Rattle.printing.specs.Print.{line, rowLine, itemLine, printedOf}
 use Rattle.printing.proofs.Pages.{adds-as, adds-then, adds-first}
 use borrow.Author.Needs.{needs}

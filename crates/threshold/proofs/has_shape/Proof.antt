@@ -7,7 +7,7 @@ use Prim.Native.Nat.{ℕ, _-_}
 use denote.Ref.{now}
 use borrow.Author.Tests.{le-leb, lt-leb, not-true, not-false}
 use lib.ListN.{length, drop, length-take}
-use Rattle.text.specs.Same.{exact, sameBy}
+use Rattle.equality.specs.Same.{exact, sameBy}
 use Rattle.text.proofs.Parts.{rest-part}
 use Rattle.threshold.specs.Threshold.{hasShape}
 use borrow.Author.Needs.{needs}

@@ -7,7 +7,7 @@ use Prim.Native.Nat.{_+_}
 use denote.Ref.{now}
 use lib.ListN.{length}
 use lib.Seq.{length-take-le}
-use Rattle.text.specs.Copy.{copied}
+use Rattle.copies.specs.Copy.{copied}
 use Rattle.items.specs.Typed.{lineMost}
 use Rattle.items.specs.Items.{nameOf}
 use Rattle.state.specs.Sheets.{valueIn}

@@ -8,8 +8,8 @@ use mathlib.Core.List.{List}
 use Prim.Native.Nat.{ℕ, _+_}
 use denote.Ref.{now}
 use lib.ListN.{length}
-use Rattle.text.specs.Copy.{copied}
-use Rattle.text.proofs.Copies.{copied-none}
+use Rattle.copies.specs.Copy.{copied}
+use Rattle.copies.proofs.Copies.{copied-none}
 use Rattle.cif_file.proofs.Files.{empty-line, filled-line}
 use Rattle.cif_file.proofs.file.put_item.Statement.{statement}
 use Rattle.cif_file.proofs.file.put_item.Tie as tie

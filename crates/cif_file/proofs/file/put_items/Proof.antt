@@ -6,7 +6,7 @@ use mathlib.Core.Path.{_≡_, sym, _∙_}
 use Prim.Native.Nat.{_-_, _≤_}
 use denote.Ref.{now}
 use lib.ListN.{length, length-map}
-use Rattle.text.proofs.Eachs.{Put, put-none, put-room, put-next, put-all}
+use Rattle.copies.proofs.Eachs.{Put, put-none, put-room, put-next, put-all}
 use Rattle.items.specs.Items.{itemCount}
 use Rattle.state.specs.Sheets.{noItem}
 use Rattle.cif_file.specs.File.{itemLine}

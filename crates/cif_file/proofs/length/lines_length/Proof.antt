@@ -6,7 +6,7 @@ use mathlib.Core.Path.{_≡_, sym, ap, _∙_}
 use mathlib.Core.List.{List}
 use Prim.Native.Nat.{ℕ, _+_, _*_, _-_, _≤_}
 use lib.ListN.{length, getD, length-map, length-append}
-use Rattle.text.proofs.Eachs.{firstLines, lines-none, lines-next, lines-all}
+use Rattle.copies.proofs.Eachs.{firstLines, lines-none, lines-next, lines-all}
 use Rattle.items.specs.Items.{itemCount}
 use Rattle.state.specs.Sheets.{noItem}
 use Rattle.cif_file.specs.File.{itemLine}

@@ -9,10 +9,10 @@ use denote.Ref.{now}
 use lib.ListN.{length, length-append}
 use Rattle.items.specs.Items.{itemCount}
 use Rattle.state.specs.Desks.{benchCount}
-use Rattle.text.specs.Copy.{copied}
+use Rattle.copies.specs.Copy.{copied}
 use Rattle.replies.specs.Number.{numberLength, numberBytes}
 use Rattle.play.specs.DeskBytes.{lineLength, itemLength, lineBytes, itemBytes}
-use Rattle.text.proofs.Copies.{copied-next}
+use Rattle.copies.proofs.Copies.{copied-next}
 use Rattle.play.proofs.desk_bytes.put_desk.Statement.{statement}
 use Rattle.play.proofs.desk_bytes.put_desk.Tie as tie
 

@@ -7,9 +7,9 @@ use Prim.Native.Nat.{ℕ, _+_, _*_}
 use denote.Ref.{now}
 use lib.ListN.{length, length-append}
 use Rattle.items.specs.Typed.{lineMost}
-use Rattle.text.specs.Copy.{copied}
+use Rattle.copies.specs.Copy.{copied}
 use Rattle.replies.specs.Number.{numberLength, numberBytes}
-use Rattle.text.proofs.Copies.{copied-next}
+use Rattle.copies.proofs.Copies.{copied-next}
 use borrow.Author.Needs.{needs}
 use Rattle.play.proofs.desk_bytes.put_item.Statement.{statement}
 use Rattle.play.proofs.desk_bytes.put_item.Tie as tie

@@ -7,7 +7,7 @@ use denote.Ref.{now}
 use lib.ListN.{length, length-append}
 use Rattle.items.specs.Typed.{lineMost}
 use Rattle.replies.specs.Number.{numberBytes}
-use Rattle.text.proofs.Copies.{copied-next}
+use Rattle.copies.proofs.Copies.{copied-next}
 use borrow.Author.Needs.{needs}
 use Rattle.play.proofs.desk_bytes.put_line.Statement.{statement}
 use Rattle.play.proofs.desk_bytes.put_line.Tie as tie

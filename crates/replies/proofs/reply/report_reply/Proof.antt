@@ -8,7 +8,7 @@ use lib.ListN.{length, replicate, length-map}
 use Rattle.alerts.specs.Sheet.{rowCount}
 use Rattle.rows.specs.Rows.{noAlert}
 use Rattle.replies.specs.ReplyBytes.{replyLength, rowBytes}
-use Rattle.text.proofs.Copies.{copied-after}
+use Rattle.copies.proofs.Copies.{copied-after}
 use Rattle.replies.proofs.Puts.{Put, put-none, put-next, put-all}
 use Rattle.replies.proofs.reply.report_reply.Statement.{statement}
 use Rattle.replies.proofs.reply.report_reply.Tie as tie

@@ -1,7 +1,7 @@
 -- `replies::reply::who_reply` meets its contract: the entry number stands after the answer and the bench.
 -- Assumes nothing.
 use mathlib.Core.Path.{_≡_, _∙_}
-use Rattle.text.specs.Copy.{copied}
+use Rattle.copies.specs.Copy.{copied}
 use borrow.Author.Needs.{needs}
 use Rattle.replies.proofs.reply.who_reply.Statement.{statement}
 use Rattle.replies.proofs.reply.who_reply.Tie as tie

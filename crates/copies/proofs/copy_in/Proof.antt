@@ -1,15 +1,15 @@
--- `text::copy_in` meets its contract: the two tests are the one of `copied`.
+-- `copies::copy_in` meets its contract: the two tests are the one of `copied`.
 -- Assumes nothing.
 use native.Mathlib.Omega.{arith}
 use mathlib.Core.Path.{_≡_, sym, _∙_}
 use Prim.Native.Nat.{_+_, _≤_}
 use borrow.Author.Tests.{lt-leb}
 use lib.ListN.{length}
-use Rattle.text.proofs.Copies.{copied-fits, pasted-is}
-use Rattle.text.specs.Copy.{copied}
+use Rattle.copies.proofs.Copies.{copied-fits, pasted-is}
+use Rattle.copies.specs.Copy.{copied}
 use borrow.Author.Needs.{needs}
-use Rattle.text.proofs.copy_in.Statement.{statement}
-use Rattle.text.proofs.copy_in.Tie as tie
+use Rattle.copies.proofs.copy_in.Statement.{statement}
+use Rattle.copies.proofs.copy_in.Tie as tie
 
 returns : tie.Need-returns
 unfolding copied

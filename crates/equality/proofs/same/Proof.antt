@@ -1,13 +1,13 @@
--- `text::same` meets its contract. The loop's invariant: the bytes compared agree, so the rests decide.
+-- `equality::same` meets its contract. The loop's invariant: the bytes compared agree, so the rests decide.
 -- The measure is what is left of the text. Assumes nothing.
 use native.Mathlib.Omega.{arith}
 use Prim.Native.Nat.{_-_}
 use mathlib.Core.Path.{sym}
 use lib.ListN.{length}
-use Rattle.text.specs.Same.{exact}
-use Rattle.text.proofs.Sames.{Compared, start, more, differ, end, other-length}
-use Rattle.text.proofs.same.Statement.{statement}
-use Rattle.text.proofs.same.Tie as tie
+use Rattle.equality.specs.Same.{exact}
+use Rattle.equality.proofs.Sames.{Compared, start, more, differ, end, other-length}
+use Rattle.equality.proofs.same.Statement.{statement}
+use Rattle.equality.proofs.same.Tie as tie
 
 abbrev Inv-loop : tie.InvT-loop
 Inv-loop a b i₀ i = Compared exact a b i

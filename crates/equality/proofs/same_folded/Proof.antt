@@ -1,4 +1,4 @@
--- `text::same_folded` meets its contract. The loop's invariant: whether the bytes passed agree once folded.
+-- `equality::same_folded` meets its contract. The loop's invariant: whether the bytes passed agree once folded.
 -- The measure is what is left of the text. Assumes nothing.
 use native.Mathlib.Omega.{arith}
 use Prim.Native.Nat.{_-_}
@@ -8,11 +8,11 @@ use borrow.Author.Tests.{eq-eqb, ne-eqb}
 use borrow.Author.Needs.{needs}
 use denote.Ref.{now}
 use lib.ListN.{length, getD}
-use Rattle.text.specs.Same.{lower}
+use Rattle.equality.specs.Same.{lower}
 use Rattle.text.proofs.Bools.{now-false, now-same}
-use Rattle.text.proofs.Sames.{Agreed, agree-none, agree-next, agree-all, other-length}
-use Rattle.text.proofs.same_folded.Statement.{statement}
-use Rattle.text.proofs.same_folded.Tie as tie
+use Rattle.equality.proofs.Sames.{Agreed, agree-none, agree-next, agree-all, other-length}
+use Rattle.equality.proofs.same_folded.Statement.{statement}
+use Rattle.equality.proofs.same_folded.Tie as tie
 
 abbrev Inv-loop : tie.InvT-loop
 Inv-loop a b so-far₀ i₀ so-far i = Agreed lower a b i so-far

@@ -1,4 +1,4 @@
--- `text::copy_fitting` meets its contract. The loop's invariant: j bytes are copied, and the length stays.
+-- `copies::copy_fitting` meets its contract. The loop's invariant: j bytes are copied, and the length stays.
 -- The measure is what is left of the source. Assumes nothing.
 use native.Mathlib.Omega.{arith}
 use mathlib.Core.Path.{_≡_, refl, sym, ap, _∙_}
@@ -7,8 +7,8 @@ use native.Mathlib.Numerals.{add-one}
 use lib.ListN.{length, length-set}
 use lib.Seq.{paste, paste-zero, paste-suc}
 use denote.Ref.{now}
-use Rattle.text.proofs.copy_fitting.Statement.{statement}
-use Rattle.text.proofs.copy_fitting.Tie as tie
+use Rattle.copies.proofs.copy_fitting.Statement.{statement}
+use Rattle.copies.proofs.copy_fitting.Tie as tie
 
 abbrev Inv-loop : tie.InvT-loop
 Inv-loop dst₀ at src j₀ dst j = (dst ≡ paste dst₀ at src j) × (j ≤ length src) × (length dst ≡ length dst₀)

@@ -10,8 +10,8 @@ use borrow.Author.Tests.{eq-eqb, ne-eqb, eqb-true}
 use lib.Dec.{eqb}
 use lib.ListN.{length, getD, take, drop, drop-of-length-le}
 use lib.Seq.{drop-cons, length-take-le, take-suc, take-all}
-use Rattle.text.specs.Same.{sameBy}
+use Rattle.equality.specs.Same.{sameBy}
 use Rattle.text.proofs.Bools.{and-both}
 
 pub record Compared (f : ℕ → ℕ) (a b : List ℕ) (i : ℕ) : Type 0 where
   pub within : i ≤ length a

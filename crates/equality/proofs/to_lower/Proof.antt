@@ -1,10 +1,10 @@
--- `text::to_lower` meets its contract: each return is a case of `lower`.
+-- `equality::to_lower` meets its contract: each return is a case of `lower`.
 -- Assumes nothing.
 use borrow.Author.Tests.{le-leb, lt-leb}
-use Rattle.text.specs.Same.{lower}
+use Rattle.equality.specs.Same.{lower}
 use borrow.Author.Needs.{needs}
-use Rattle.text.proofs.to_lower.Statement.{statement}
-use Rattle.text.proofs.to_lower.Tie as tie
+use Rattle.equality.proofs.to_lower.Statement.{statement}
+use Rattle.equality.proofs.to_lower.Tie as tie
 
 returns : tie.Need-returns
 unfolding lower

@@ -1,13 +1,13 @@
--- `text::begins_folded` meets its contract: a text shorter than p does not begin with it.
+-- `equality::begins_folded` meets its contract: a text shorter than p does not begin with it.
 -- Assumes nothing.
 use native.Mathlib.Omega.{arith}
 use mathlib.Core.Path.{_≡_, sym}
 use lib.ListN.{length-take}
-use Rattle.text.specs.Same.{lower, beginsFolded}
-use Rattle.text.proofs.Sames.{other-length}
+use Rattle.equality.specs.Same.{lower, beginsFolded}
+use Rattle.equality.proofs.Sames.{other-length}
 use borrow.Author.Needs.{needs}
-use Rattle.text.proofs.begins_folded.Statement.{statement}
-use Rattle.text.proofs.begins_folded.Tie as tie
+use Rattle.equality.proofs.begins_folded.Statement.{statement}
+use Rattle.equality.proofs.begins_folded.Tie as tie
 
 returns : tie.Need-returns
 unfolding beginsFolded
