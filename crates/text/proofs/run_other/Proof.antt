@@ -2,10 +2,11 @@
 -- The measure is what is left of the text. Assumes nothing.
 use native.Mathlib.Omega.{arith}
 use Prim.Native.Nat.{_-_}
+use borrow.Author.Needs.{needs}
 use borrow.Author.Tests.{eq-eqb, ne-eqb}
 use lib.ListN.{length}
 use Rattle.text.specs.Run.{other}
-use Rattle.text.proofs.Runs.{Passed, start, more, stop, end}
+use Rattle.text.proofs.Runs.{Passed, passed-first, more, stop, end}
 use Rattle.text.proofs.run_other.Statement.{statement}
 use Rattle.text.proofs.run_other.Tie as tie
 
@@ -15,8 +16,11 @@ Inv-loop s x i₀ i = Passed (other x) s i
 abbrev μ-loop : tie.MeasureT-loop
 μ-loop s x i₀ i = length s - i
 
+skip-parts-requires : tie.Need-skip-parts-requires Inv-loop μ-loop
+skip-parts-requires c κs = search needs
+
 loop-holds : tie.Need-loop-holds Inv-loop μ-loop
-loop-holds c = start _ _
+loop-holds c = passed-first _ _ _ (c .skip-parts .ensures .1) (c .skip-parts .ensures .0)
 
 shared-slice-read-if1 : tie.Need-shared-slice-read-if1 Inv-loop μ-loop
 shared-slice-read-if1 c = omega arith
@@ -44,6 +48,7 @@ run-other-spec =
     (tie.spec
     Inv-loop
     μ-loop
+    skip-parts-requires
     loop-holds
     shared-slice-read-if1
     returns
