@@ -1,4 +1,7 @@
-/* Measures the stack that one call of the proved library takes: it runs on a thread whose stack was painted before. */
+/*
+ * Measures the stack that one call of the proved library takes: it runs on a thread whose stack was painted before. Link it with -z now, or
+ * the loader's search for a function that is called for the first time is measured too.
+ */
 #define _GNU_SOURCE
 #include <pthread.h>
 #include <stdio.h>
@@ -7,11 +10,26 @@
 
 #include "file.h"
 #include "keys.h"
+#include "rows.h"
 #include "wall.h"
 
 enum { STACK = 1 << 20, PAINT = 0xA5 };
 
+/* What fills nine of the ten items. */
+static const char *const lines[] = {
+    "_chemical_formula_sum 'C18 H19 N7 O8 S'",
+    "_chemical_formula_weight 493.5(2)",
+    "_publ_requested_category FO",
+    "_refine_ls_R_factor_gt 0.16",
+    "_refine_ls_R_factor_obs 0.12",
+    "_refine_ls_wR_factor_ref 0.3",
+    "_refine_ls_wR_factor_obs 0.2",
+    "_refine_ls_shift/su_max -0.06",
+    "_reflns_threshold_expression 'I > 2\\s(I)'",
+};
+
 static probe_desk desk;
+static uint64_t used;
 static uint8_t log_bytes[4096];
 static uint8_t file_bytes[1000];
 static volatile unsigned sink;
@@ -27,14 +45,15 @@ static void grade(void) {
 }
 
 static void append(void) {
-    sink += probe_key(desk, log_bytes, sizeof log_bytes, 0, 0, 'x').answer;
+    sink += probe_key(desk, log_bytes, sizeof log_bytes, used, 0, 'x').answer;
 }
 
 static void enter(void) {
-    probe_desk typed = desk;
-    memcpy(typed.lines[0].bytes, "_refine_ls_R_factor_gt 0.16", 27);
-    typed.lines[0].len = 27;
-    sink += probe_key(typed, log_bytes, sizeof log_bytes, 0, 0, 10).answer;
+    sink += probe_key(desk, log_bytes, sizeof log_bytes, used, 1, 10).answer;
+}
+
+static void report(void) {
+    sink += probe_rows(desk.sheet).rows[0].level;
 }
 
 static void file(void) {
@@ -61,12 +80,28 @@ static size_t touched(void (*call)(void)) {
     return STACK - clean;
 }
 
+/* Types a line without its Enter, or only the Enter of one; every key is accepted. */
+static void type(uint64_t bench, const char *text) {
+    for (; *text; text++) {
+        probe_key_result result = probe_key(desk, log_bytes, sizeof log_bytes, used, bench, (uint8_t)*text);
+        if (result.answer) abort();
+        desk = result.desk;
+        used = result.used;
+    }
+}
+
 int main(void) {
     size_t base = touched(nothing);
-    printf("wall_classify %zu bytes\n", touched(classify) - base);
-    printf("wall_grade %zu bytes\n", touched(grade) - base);
+    for (size_t at = 0; at < sizeof lines / sizeof *lines; at++) {
+        type(0, lines[at]);
+        type(0, "\n");
+    }
+    type(1, lines[3]);
+    printf("wall_classify: %zu bytes\n", touched(classify) - base);
+    printf("wall_grade: %zu bytes\n", touched(grade) - base);
     printf("key, a byte appended: %zu bytes (the desk is %zu)\n", touched(append) - base, sizeof(probe_desk));
     printf("key, Enter accepted: %zu bytes\n", touched(enter) - base);
+    printf("twelve rows: %zu bytes\n", touched(report) - base);
     printf("file written: %zu bytes\n", touched(file) - base);
     return 0;
 }

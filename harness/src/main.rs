@@ -22,6 +22,7 @@ mod sheet_lists;
 mod sheets;
 mod tally;
 mod trace;
+mod workloads;
 
 use compare::Plan;
 use inputs::Inputs;
@@ -31,6 +32,7 @@ use sequences::Sequences;
 use std::io::{stdin, stdout, BufWriter, Write};
 use std::path::Path;
 use std::process::ExitCode;
+use workloads::Side;
 
 const USAGE: &str = "usage: harness MODE
   compare [--seed N] [--count N]  compare both programs on N lines and N values (default 1000000),
@@ -40,7 +42,11 @@ const USAGE: &str = "usage: harness MODE
                                   names it
   self-check                      show that the comparison finds faulty programs
   trace, reference-trace          answer trace commands by the proved library, by the reference
-  bench                           speed of both programs
+  bench [FILE]                    speed of both programs; beside it, from a file of lines WORKLOAD INPUTS
+                                  PROVED REFERENCE, the instructions that each took for the inputs
+  workloads                       the names of what is measured
+  count WORKLOAD PROGRAM INPUTS   one round of a workload by one program, proved or reference, in the
+                                  function counted_round; prints the number of inputs
   libraries                       which proved archives are there; fails as compare does
   layout                          sizes and offsets of the boundary's structs
   desk-sessions FOLDER            write the sessions of the programs desk and sheet_cif, NAME.in, and
@@ -83,9 +89,23 @@ fn run(words: &[&str]) -> Outcome {
         ["self-check"] => Ok(counted(self_check::run())),
         ["trace"] => done(trace::run_proved(&Proved, stdin().lock(), output)),
         ["reference-trace"] => done(trace::run_stepped(&Reference, stdin().lock(), output)),
-        ["bench"] => {
-            bench::run();
+        ["bench"] => bench::run("").and(DONE),
+        ["bench", file] => {
+            let counts =
+                std::fs::read_to_string(file).map_err(|fault| format!("{file}: {fault}"))?;
+            bench::run(&counts).and(DONE)
+        }
+        ["workloads"] => {
+            bench::names().for_each(|name| println!("{name}"));
             DONE
+        }
+        ["count", workload, program, inputs] => {
+            let side = match *program {
+                "proved" => Side::Proved,
+                "reference" => Side::Reference,
+                _ => return Err(format!("argument 3 '{program}': neither proved nor reference")),
+            };
+            bench::count(workload, side, number(4, inputs)? as usize).and(DONE)
         }
         ["libraries"] => {
             there().for_each(|library| println!("there: lib{}.a", library.name()));

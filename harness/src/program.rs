@@ -1,7 +1,7 @@
 //! The questions that both programs answer, in the form of the C boundary.
 
 use crate::boundary::{
-    Desk, Filed, Graded, KeyResult, LineResult, NumberResult, PlayResult, RowsResult,
+    Desk, Filed, Graded, KeyResult, LineResult, NumberResult, PlayResult, RowsResult, Sheet,
 };
 use reference::names::ITEMS;
 use reference::sequence::Call;
@@ -93,6 +93,11 @@ pub trait Program {
 
     fn rows(&self, values: &Values) -> RowsResult {
         rows::rows(&values.parts()).into()
+    }
+
+    /// The same of a sheet whose lengths are at most 80.
+    fn sheet_rows(&self, sheet: &Sheet) -> RowsResult {
+        rows::rows(&sheet.items.each_ref().map(|item| &item.value[..item.len as usize])).into()
     }
 
     fn key(&self, desk: &Desk, log: &mut [u8], mut used: u64, bench: u64, byte: u8) -> KeyResult {

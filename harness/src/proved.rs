@@ -110,7 +110,12 @@ impl Program for Proved {
 
     #[cfg(proved = "probe_rows")]
     fn rows(&self, values: &Values) -> RowsResult {
-        unsafe { probe_rows(Sheet::from(values)) }
+        self.sheet_rows(&Sheet::from(values))
+    }
+
+    #[cfg(proved = "probe_rows")]
+    fn sheet_rows(&self, sheet: &Sheet) -> RowsResult {
+        unsafe { probe_rows(*sheet) }
     }
 
     #[cfg(proved = "probe_keys")]
