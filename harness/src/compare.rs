@@ -47,6 +47,8 @@ pub struct Plan {
     pub new_seed: u64,
     /// Lines, and values; half from each seed.
     pub count: u64,
+    /// The long fixed lists too, and with them every possible answer has to be seen.
+    pub lists: bool,
 }
 
 impl Plan {
@@ -77,6 +79,7 @@ pub struct Comparison<'a> {
     pub groups: Vec<Group>,
     pub tally: Tally,
     examples: Vec<String>,
+    lists: bool,
 }
 
 /// Runs the whole comparison.
@@ -85,8 +88,14 @@ pub fn compare<'a>(
     expected: &'a dyn Program,
     plan: &Plan,
 ) -> Comparison<'a> {
-    let mut run =
-        Comparison { tested, expected, groups: vec![], tally: Tally::default(), examples: vec![] };
+    let mut run = Comparison {
+        tested,
+        expected,
+        groups: vec![],
+        tally: Tally::default(),
+        examples: vec![],
+        lists: plan.lists,
+    };
     if tested.has(Library::Wall) || tested.has(Library::Probe) {
         run.readers(plan);
     }
@@ -113,19 +122,22 @@ impl Comparison<'_> {
         self.generated_lines("lines, new seed", plan.new_seed, half);
         self.generated_values("values, fixed seed", plan.fixed_seed, half);
         self.generated_values("values, new seed", plan.new_seed, half);
+        self.values("single bytes", lists::single_bytes());
+        self.lines("line lengths", lists::line_lengths());
+        if !plan.lists {
+            return;
+        }
         self.values("short texts as values", lists::short_texts(lists::SHORT_VALUE));
         self.lines(
             "short texts in lines",
             lists::in_lines(lists::short_texts(lists::SHORT_IN_LINE)),
         );
-        self.values("single bytes", lists::single_bytes());
         self.values("reserved words as values", lists::reserved_words());
         self.lines("reserved words in lines", lists::in_lines(lists::reserved_words()));
         self.values("numbers at the limits", lists::numbers_at_limits());
         self.values("numbers at the bounds", lists::numbers_at_bounds());
         self.lines("items with values", lists::items_with_values());
         self.lines("names one byte off", lists::names_one_byte_off());
-        self.lines("line lengths", lists::line_lengths());
     }
 
     pub fn differences(&self) -> u64 {
@@ -150,6 +162,9 @@ impl Comparison<'_> {
 
     /// The possible answers never given.
     pub fn missing(&self) -> Vec<String> {
+        if !self.lists {
+            return vec![];
+        }
         self.tally.missing(|library| self.tested.has(library))
     }
 

@@ -117,4 +117,27 @@ impl Desks {
         let log = State::fresh(length, self.random.next()).log;
         State { desk, log, used: used as u64 }
     }
+
+    /// A desk and a log of random bytes, with random numbers, many of them small.
+    pub fn random(&mut self) -> State {
+        let mut desk = Desk::from(&FRESH);
+        for line in &mut desk.lines {
+            *line = TextLine { bytes: self.bytes(), len: self.number() };
+        }
+        for item in &mut desk.sheet.items {
+            let (value, len, entry) = (self.bytes(), self.number(), self.number());
+            *item = ItemState { value, len, entry, bench: self.random.byte() };
+        }
+        desk.sheet.count = self.number();
+        let log = (0..self.random.below(300)).map(|_| self.random.byte()).collect();
+        State { desk, log, used: self.number() }
+    }
+
+    fn bytes(&mut self) -> [u8; LIMIT] {
+        std::array::from_fn(|_| self.random.byte())
+    }
+
+    fn number(&mut self) -> u64 {
+        self.random.next() >> self.random.below(64)
+    }
 }

@@ -9,7 +9,9 @@ mod compare;
 mod desk_runs;
 mod desk_sessions;
 mod desks;
+mod exact;
 mod files;
+mod frames;
 mod inputs;
 mod lists;
 mod program;
@@ -25,11 +27,13 @@ mod trace;
 mod workloads;
 
 use compare::Plan;
+use exact::Exact;
 use inputs::Inputs;
 use program::{Library, Program, Reference};
 use proved::Proved;
+use reference::program::{cif_program, program};
 use sequences::Sequences;
-use std::io::{stdin, stdout, BufWriter, Write};
+use std::io::{stdin, stdout, BufWriter, Read, Write};
 use std::path::Path;
 use std::process::ExitCode;
 use workloads::Side;
@@ -40,6 +44,8 @@ const USAGE: &str = "usage: harness MODE
                                   and on sheets, key calls, sequences and files in proportion; an
                                   archive that is not there is left out, or a failure where REQUIRE_LIBS
                                   names it
+  memory [--seed N] [--count N]   the same on generated inputs and short lists, each run of bytes lent in a
+                                  block of the heap of its exact length: for a run under valgrind
   self-check                      show that the comparison finds faulty programs
   trace, reference-trace          answer trace commands by the proved library, by the reference
   bench [FILE]                    speed of both programs; beside it, from a file of lines WORKLOAD INPUTS
@@ -54,11 +60,16 @@ const USAGE: &str = "usage: harness MODE
   desk-runs PROGRAM SEED COUNT    run the program desk on generated inputs
   cif-runs PROGRAM SEED COUNT     run the program sheet_cif on generated inputs and block names
   desk-input SEED                 write one such input
+  frames FOLDER, frames SEED COUNT FOLDER, example-frames FOLDER
+                                  write calls for a program that reads them, fixed ones, generated ones or
+                                  the measured examples alone, to the file stdin, and what it must answer
+                                  to the file stdout
   cif-files SEED COUNT FOLDER     write CIF files of typed sheets, NAME.cif, each beside the list of
                                   what was typed, NAME.typed
   trace-commands SEED COUNT       write generated trace commands
   client-lines SEED COUNT         write generated lines
   client-values SEED COUNT        write generated values
+  desk-answers, cif-answers BLOCK what the programs desk and sheet_cif must print for the input
   client-answers [ROW]            what the client must print for the input
 ";
 const FIXED_SEED: u64 = 20_000_609;
@@ -85,7 +96,8 @@ fn main() -> ExitCode {
 fn run(words: &[&str]) -> Outcome {
     let mut output = BufWriter::new(stdout().lock());
     match words {
-        ["compare", options @ ..] => compare(plan(options)?),
+        ["compare", options @ ..] => compare(&Proved, plan(options, true)?),
+        ["memory", options @ ..] => compare(&Exact(Proved), plan(options, false)?),
         ["self-check"] => Ok(counted(self_check::run())),
         ["trace"] => done(trace::run_proved(&Proved, stdin().lock(), output)),
         ["reference-trace"] => done(trace::run_stepped(&Reference, stdin().lock(), output)),
@@ -128,6 +140,11 @@ fn run(words: &[&str]) -> Outcome {
             let input = Sequences::new(number(2, seed)?).desk_input();
             done(output.write_all(&input).and_then(|()| output.flush()))
         }
+        ["example-frames", folder] => frames::write_examples(Path::new(folder)).and(DONE),
+        ["frames", folder] => frames::write_lists(Path::new(folder)).and(DONE),
+        ["frames", seed, count, folder] => {
+            frames::write(number(2, seed)?, number(3, count)?, Path::new(folder)).and(DONE)
+        }
         ["cif-files", seed, count, folder] => {
             let (seed, count) = (number(2, seed)?, number(3, count)?);
             cif_files::write(&Proved, seed, count, Path::new(folder)).and(DONE)
@@ -143,12 +160,26 @@ fn run(words: &[&str]) -> Outcome {
             let mut inputs = Inputs::new(number(2, seed)?);
             write((0..number(3, count)?).map(|_| inputs.value()), output)
         }
+        ["desk-answers"] => {
+            let input = whole_input()?;
+            done(output.write_all(program(&input).as_bytes()).and_then(|()| output.flush()))
+        }
+        ["cif-answers", block] => {
+            let file = cif_program(&whole_input()?, block.as_bytes()).unwrap_or_default();
+            done(output.write_all(&file).and_then(|()| output.flush()))
+        }
         ["client-answers"] => done(client::answers(None, stdin().lock(), output)),
         ["client-answers", row] => {
             done(client::answers(Some(number(2, row)?), stdin().lock(), output))
         }
         _ => Err(format!("no such mode or wrong arguments: {}\n{USAGE}", words.join(" "))),
     }
+}
+
+fn whole_input() -> Result<Vec<u8>, String> {
+    let mut input = vec![];
+    stdin().lock().read_to_end(&mut input).map_err(|fault| fault.to_string())?;
+    Ok(input)
 }
 
 fn number(place: usize, word: &str) -> Result<u64, String> {
@@ -164,8 +195,9 @@ fn counted((passed, failed): (usize, usize)) -> (usize, usize) {
     (passed, failed)
 }
 
-fn plan(options: &[&str]) -> Result<Plan, String> {
-    let mut plan = Plan { fixed_seed: FIXED_SEED, new_seed: random::new_seed(), count: COUNT };
+fn plan(options: &[&str], lists: bool) -> Result<Plan, String> {
+    let (fixed_seed, new_seed) = (FIXED_SEED, random::new_seed());
+    let mut plan = Plan { fixed_seed, new_seed, count: COUNT, lists };
     for (place, option) in options.chunks(2).enumerate() {
         match *option {
             ["--seed", seed] => plan.new_seed = number(2 * place + 3, seed)?,
@@ -189,12 +221,12 @@ fn plan(options: &[&str]) -> Result<Plan, String> {
     Ok(plan)
 }
 
-fn compare(plan: Plan) -> Outcome {
+fn compare(tested: &dyn Program, plan: Plan) -> Outcome {
     println!(
         "fixed seed {}, new seed {} (repeat with --seed {})",
         plan.fixed_seed, plan.new_seed, plan.new_seed
     );
-    let (passed, failed) = compare::compare(&Proved, &Reference, &plan).print();
+    let (passed, failed) = compare::compare(tested, &Reference, &plan).print();
     Ok(counted((passed, failed + absent())))
 }
 

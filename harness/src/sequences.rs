@@ -4,6 +4,7 @@ use crate::desk_sessions;
 use crate::desks::State;
 use crate::random::Random;
 use crate::session::{Session, OTHER_BENCHES};
+use crate::sheet_lists;
 use crate::sheets::Sheets;
 use reference::desk::{record, BENCHES, EMPTY, ENTER, ERASE, LOG_LIMIT, RECORD_HEAD};
 use reference::encoded::{encode_call, length, CALL, KEY, REPORT, WHO};
@@ -257,6 +258,22 @@ pub fn desk_sessions() -> impl Iterator<Item = Sequence> {
         calls.push(Call::Report);
         let calls = calls.iter().map(encode_call).collect();
         Sequence { calls, log: vec![0; LOG], beyond: 0 }
+    })
+}
+
+/// The measured examples of document 01 typed item by item, each by another bench, with every
+/// question at the end.
+pub fn measured_examples() -> impl Iterator<Item = Sequence> {
+    sheet_lists::measured_examples().into_iter().map(|values| {
+        let filled =
+            ITEMS.iter().zip(values.parts()).zip(0..).filter(|((_, value), _)| !value.is_empty());
+        let keys = filled.flat_map(|(((name, _), value), place)| {
+            let line = [name.as_bytes(), b" ", value, &[ENTER]].concat();
+            line.into_iter().map(move |byte| Call::Key { bench: place % BENCHES as u64, byte })
+        });
+        let questions = (0..12).map(|item| Call::Who { item }).chain([Call::Report]);
+        let calls = keys.chain(questions).map(|call| encode_call(&call)).collect();
+        Sequence { calls, log: vec![0xee; LOG], beyond: 0 }
     })
 }
 

@@ -29,7 +29,13 @@ pub fn measured_examples() -> Vec<Values> {
         sheets.push(sheet(&[(1, "'C10 H20'"), (2, weight)]));
         sheets.push(sheet(&[(1, "'C10 H20'"), (2, weight), (3, "FO")]));
     }
-    sheets.push(sheet(&[(1, "'C18 H19 N7 O8 S'"), (2, "493.451"), (3, "CO")]));
+    // One unit about the sums, and a millionth beyond: row 5 tells the sums exactly.
+    for (formula, weights) in [
+        ("'C18 H19 N7 O8 S'", ["493.451", "492.451", "492.450999", "494.451", "494.451001"]),
+        ("'C10 H20'", ["140.27", "139.27", "139.269999", "141.27", "141.270001"]),
+    ] {
+        sheets.extend(weights.map(|weight| sheet(&[(1, formula), (2, weight), (3, "CO")])));
+    }
     sheets
         .extend(["'H Br'", "'Br H'", "'C H H'", "'C10H20'"].map(|formula| sheet(&[(1, formula)])));
     sheets.extend(["0.20", "0.200001", "0.16", "0.3"].map(|number| sheet(&[(4, number)])));

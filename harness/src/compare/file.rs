@@ -44,16 +44,18 @@ impl Comparison<'_> {
         self.generated_files("files, fixed seed", plan.fixed_seed, sheets);
         self.generated_files("files, new seed", plan.new_seed, sheets);
         self.every_room("every room for a file", plan.new_seed, 2 * plan.half(ROOMS_ONE_IN));
-        self.names("block names, every byte", files::names_by_byte());
-        self.names("block names, every length", files::names_by_length());
-        self.files("subsets of items", files::subsets());
-        self.files("single values", files::single_values());
         let broken = plan.half(BROKEN_ONE_IN);
         self.files_of_broken_desks("no file, fixed seed", plan.fixed_seed, broken);
         self.files_of_broken_desks("no file, new seed", plan.new_seed, broken);
         let typed = plan.half(TYPED_ONE_IN);
         self.files_typed_back("typed back, fixed seed", plan.fixed_seed, typed);
         self.files_typed_back("typed back, new seed", plan.new_seed, typed);
+        self.names("block names, every length", files::names_by_length());
+        if plan.lists {
+            self.names("block names, every byte", files::names_by_byte());
+            self.files("subsets of items", files::subsets());
+            self.files("single values", files::single_values());
+        }
     }
 
     fn generated_files(&mut self, name: &'static str, seed: u64, count: u64) {

@@ -13,10 +13,11 @@ use reference::names::ITEMS;
 use std::fmt::Display;
 
 /// One session for each fifty lines, one single call for each five, one desk to be broken in every
-/// way for each two thousand.
+/// way for each two thousand, one random desk for each fifty.
 const SESSIONS_ONE_IN: u64 = 50;
 const CALLS_ONE_IN: u64 = 5;
 const BROKEN_ONE_IN: u64 = 2000;
+const RANDOM_ONE_IN: u64 = 50;
 /// A log up to this length is looked at after every call, a longer one after each Enter, and
 /// each at the end.
 const SHORT_LOG: usize = 700;
@@ -44,8 +45,13 @@ impl Comparison<'_> {
         let broken = plan.half(BROKEN_ONE_IN);
         self.broken_desks("broken desks, fixed seed", plan.fixed_seed, broken);
         self.broken_desks("broken desks, new seed", plan.new_seed, broken);
-        self.every_byte("every byte", plan.fixed_seed);
+        let random = plan.half(RANDOM_ONE_IN);
+        self.random_desks("random desks, fixed seed", plan.fixed_seed, random);
+        self.random_desks("random desks, new seed", plan.new_seed, random);
         self.room("room in the log");
+        if plan.lists {
+            self.every_byte("every byte", plan.fixed_seed);
+        }
     }
 
     /// Whole sessions from a fresh desk.
@@ -113,6 +119,21 @@ impl Comparison<'_> {
                         self.tally.note_unsound(way);
                     }
                 }
+            }
+        }
+    }
+
+    /// Keys on desks of random bytes and numbers.
+    fn random_desks(&mut self, name: &'static str, seed: u64, count: u64) {
+        self.begin(name);
+        let (mut desks, mut random) = (Desks::new(seed), Random::new(seed));
+        for number in 0..count {
+            self.group().inputs += 1;
+            let mut both = Both::new(desks.random());
+            for byte in [ENTER, random.byte()] {
+                let bench = random.below(BENCHES) as u64;
+                let place = format_args!("{name}, desk {number}");
+                self.whole_call(&mut both, bench, byte, &place);
             }
         }
     }

@@ -4,7 +4,9 @@ use super::{hex, Comparison, Plan};
 use crate::boundary::PlayResult;
 use crate::program::Program;
 use crate::random::Random;
-use crate::sequences::{desk_sessions, few_calls, log_lengths, Sequence, Sequences};
+use crate::sequences::{
+    desk_sessions, few_calls, log_lengths, measured_examples, Sequence, Sequences,
+};
 use crate::tally::Question;
 use reference::desk::{EMPTY, ENTER, ERASE, LOG_LIMIT, NO_BENCH, NO_SUCH_ITEM};
 use reference::encoded::{decode, decode_answer, length, ANSWER, DESK, PLAYED};
@@ -47,12 +49,15 @@ impl Comparison<'_> {
         let half = plan.half(SEQUENCES_ONE_IN);
         self.generated_sequences("sequences, fixed seed", plan.fixed_seed, half);
         self.generated_sequences("sequences, new seed", plan.new_seed, half);
-        self.sequences("sessions of desk", desk_sessions());
-        self.sequences("orders of few calls", few_calls());
-        self.sequences("lengths of the log", log_lengths());
         let damaged = plan.half(DAMAGED_ONE_IN);
         self.damaged_sequences("damaged, fixed seed", plan.fixed_seed, damaged);
         self.damaged_sequences("damaged, new seed", plan.new_seed, damaged);
+        self.sequences("measured examples typed", measured_examples());
+        self.sequences("lengths of the log", log_lengths());
+        if plan.lists {
+            self.sequences("sessions of desk", desk_sessions());
+            self.sequences("orders of few calls", few_calls());
+        }
     }
 
     fn generated_sequences(&mut self, name: &'static str, seed: u64, count: u64) {

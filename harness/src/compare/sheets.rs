@@ -16,6 +16,9 @@ impl Comparison<'_> {
         self.generated_sheets("sheets, fixed seed", plan.fixed_seed, half);
         self.generated_sheets("sheets, new seed", plan.new_seed, half);
         self.sheets("measured examples", sheet_lists::measured_examples());
+        if !plan.lists {
+            return;
+        }
         self.sheets("mixtures of missing items", sheet_lists::missing_mixtures());
         self.sheets("symbols", sheet_lists::symbols());
         self.sheets("symbols with categories", sheet_lists::classes());

@@ -1,0 +1,294 @@
+#!/usr/bin/env bash
+# Runs other builds of the same source, since no proof covers the compiler: on the interpreter, compiled at -O0, at -O3 and with the compiler's
+# assumptions checked, as 'rt try' makes them; and holds all that they answer equal to the reference's.
+#   harness/builds.sh           a minute at most, as tools/test runs it
+#   harness/builds.sh --long    100,000 sequences, and the whole comparison with archives compiled at -O0
+# Needs the built harness and programs. Prints one line for each check and at the end 'N passed, M failed'.
+set -u
+case "$*" in
+    '') long= ;;
+    --long) long=1 ;;
+    *) echo "usage: harness/builds.sh [--long]" >&2; exit 2 ;;
+esac
+. "$(dirname "$0")/checks.sh"
+kit=${RATTLE_HOME:-/opt/rattle}
+own=$kit/on/$(uname -m)
+archives=(wall probe probe_rows probe_keys play probe_file)
+
+# toolchain FOLDER LEVEL: the kit's, but that it keeps each linked program there as 1, 2 and so on, and compiles a static library at this level.
+toolchain() {
+    mkdir -p "$1/bin" && ln -s "$own/toolchain/lib" "$1/lib" && ln -s "$own/toolchain/bin/llvm-ar" "$1/bin/llvm-ar"
+    cat >"$1/bin/clang" <<END
+#!/bin/sh
+library=
+for word; do [ "\$word" != -fPIC ] || library=1; done
+for word; do
+    shift
+    case \$library\$word in 1-O3) word=$2 ;; -O*) echo "\$word" >>'$1/levels' ;; esac
+    set -- "\$@" "\$word"
+done
+exec '$own/toolchain/bin/clang' "\$@"
+END
+    cat >"$1/bin/ld.lld" <<END
+#!/bin/sh
+'$own/toolchain/bin/ld.lld' "\$@" || exit
+n=1
+while [ -e '$1'/\$n ]; do n=\$((n + 1)); done
+cp program '$1'/\$n
+END
+    chmod +x "$1/bin/clang" "$1/bin/ld.lld"
+}
+
+# used_by NAME: the crates that one uses.
+used_by() {
+    sed -n "s/#.*//; s/^$1: *//p" crates.txt
+}
+
+# cases TOOLCHAIN NAME ROOT CRATES WORDS..: what 'rt try' runs, for a root file that uses these crates.
+cases() {
+    local toolchain=$1 name=$2 root=$3 crates=$4 crate
+    shift 4
+    set -- --toolchain "$toolchain" "$@" "$root" --crate-name "$name" --lib "std=$kit/libs/std/src/lib.rt"
+    for crate in $(printf '%s\n' $crates | sort -u); do
+        if [ -d "crates/$crate" ]; then
+            set -- "$@" --lib "$crate=$PWD/crates/$crate/src/lib.rt"
+        else
+            set -- "$@" --lib "$crate=$kit/libs/$crate/src/lib.rt"
+        fi
+    done
+    "$own/bin/rattle-cases" "$@"
+}
+
+# tried NAME FOLDER CRATE ROOT CRATES STDIN STDOUT: the interpreter and the three compiled builds write this file, and the builds are kept in the folder.
+tried() {
+    local status
+    rm -rf "$2" && toolchain "$2" -O3
+    cases "$2" "$3" "$4" "$5" --stdin "$6" --stdout "$7" >"$work/out" 2>&1
+    status=$?
+    if [ $status -ne 0 ] || [ "$(grep -c '^ok: ' "$work/out")" -ne 4 ]; then
+        cut -c 1-300 "$work/out"
+        fail "$1" "exit $status"
+    elif [ "$(tr '\n' ' ' <"$2/levels")" != '-O0 -O3 -O0 ' ] || [ ! -x "$2/3" ] || [ -e "$2/4" ] || cmp -s "$2/1" "$2/3"; then
+        fail "$1" "the builds are not -O0, -O3 and a checked one"
+    else
+        ok "$1"
+    fi
+}
+
+# The kept builds, as number and name.
+builds=('1 -O0' '2 -O3' '3 checked')
+
+# The program desk.
+desk_builds() {
+    local first=harness/desk-sessions/document_01 input name build of crates
+    local -A runs=([1]=60 [2]=300 [3]=12)
+    [ -z "$long" ] || runs=([1]=1000 [2]=5000 [3]=100)
+    crates="$(used_by desk)"
+    tried "desk, four ways: document_01" "$work/desk" desk crates/desk/src/main.rt "$crates" $first.in $first.out
+    for build in "${builds[@]}"; do
+        of=$work/desk/${build% *} name="desk, ${build#* }"
+        for input in harness/desk-sessions/*.in; do
+            prints "$name: $(basename "$input" .in)" "${input%.in}.out" "$input" "$of"
+        done
+        summary "$name: ${runs[${build% *}]} generated inputs" "$harness" desk-runs "$of" 31 "${runs[${build% *}]}"
+    done
+    [ -n "$long" ] || return
+    # The interpreter takes at most 10 million steps, about 500 keys.
+    for input in $(find harness/desk-sessions -name '*.in' -size -2 | sort); do
+        name=$(basename "$input" .in)
+        tried "desk, four ways: $name" "$work/again" desk crates/desk/src/main.rt "$crates" "$input" "${input%.in}.out"
+    done
+}
+
+# A program, unproved, that reads calls of the library from standard input and writes what they answer; harness/src/frames.rs has their form.
+write_caller() {
+    cat <<'END'
+use libc::STDIN_FILENO;
+use libc::STDOUT_FILENO;
+use state::desk::Desk;
+use state::sheet::Sheet;
+
+const HEAD: usize = 17;
+
+const LONGEST: usize = 262144;
+
+fn number(head: &[u8], at: usize) -> usize {
+    head[at] as usize + 256 * (head[at + 1] as usize) + 65536 * (head[at + 2] as usize)
+}
+
+fn read(buffer: &mut [u8], n: usize) {
+    io::read_full(STDIN_FILENO, &mut buffer[..n]);
+}
+
+fn write(number: u64, answer: u8, log: &[u8], out: &[u8]) {
+    let mut bytes = [0u8; 9];
+    let mut rest = number;
+    let mut i = 0;
+    while i < 8 {
+        bytes[i] = (rest % 256) as u8;
+        rest = rest / 256;
+        i += 1;
+    }
+    bytes[8] = answer;
+    io::write_all(STDOUT_FILENO, &bytes);
+    io::write_all(STDOUT_FILENO, log);
+    io::write_all(STDOUT_FILENO, out);
+}
+
+// The desk after an input of pairs, a bench digit and a key each.
+fn desk_after(input: &[u8], log: &mut [u8]) -> Desk {
+    let mut desk = state::desk::fresh_desk();
+    let mut used = 0;
+    let mut i = 0;
+    while i + 1 < input.len() {
+        let digit = input[i];
+        let mut bench = 255;
+        if 48 <= digit && digit <= 57 {
+            bench = (digit - 48) as u64;
+        }
+        let keyed = calls::key::key(desk, used, log, bench, input[i + 1]);
+        let next = keyed.desk;
+        desk = next;
+        used = keyed.used;
+        i += 2;
+    }
+    desk
+}
+
+// The sheet that holds these values.
+fn sheet_of(texts: &[u8], lens: &[u8]) -> Sheet {
+    let mut sheet = state::sheet::empty_sheet();
+    let mut at = 0;
+    let mut i = 0;
+    while i < lens.len() {
+        let n = lens[i] as usize;
+        let mut j = 0;
+        while j < n {
+            sheet.items[i].value[j] = texts[at + j];
+            j += 1;
+        }
+        sheet.items[i].len = n;
+        at += n;
+        i += 1;
+    }
+    sheet
+}
+
+fn put_rows(sheet: Sheet, out: &mut [u8]) {
+    let given = probe_rows::probe_rows(sheet);
+    let mut i = 0;
+    while i < 12 {
+        out[2 * i] = given.rows[i].level;
+        out[2 * i + 1] = given.rows[i].reason;
+        i += 1;
+    }
+}
+
+fn answer(head: &[u8], first: &mut [u8], log: &mut [u8], name: &mut [u8], out: &mut [u8]) -> bool {
+    let a = number(head, 1);
+    let b = number(head, 5);
+    let c = number(head, 9);
+    let room = number(head, 13);
+    if LONGEST < a || LONGEST < b || LONGEST < c || LONGEST < room {
+        return false;
+    }
+    read(first, a);
+    if head[0] == 2 {
+        let graded = wall::wall_grade(b as u64, &first[..a]);
+        let class = wall::wall_classify(&first[..a]) as u64;
+        write(class, 16 * graded.answer + graded.level, &log[..0], &out[..0]);
+        return true;
+    }
+    read(log, b);
+    read(name, c);
+    read(out, room);
+    if head[0] == 0 {
+        let played = play::play_sequence(&first[..a], &mut log[..b], &mut out[..room]);
+        write(played.written, played.answer, &log[..b], &out[..room]);
+    } else if head[0] == 1 {
+        let desk = desk_after(&first[..a], &mut log[..b]);
+        let filed = probe_file::probe_file(desk, &name[..c], &mut out[..room]);
+        write(filed.count as u64, filed.answer, &log[..b], &out[..room]);
+    } else {
+        let sheet = sheet_of(&first[..a], &name[..c]);
+        put_rows(sheet, &mut out[..room]);
+        write(0, 0, &log[..b], &out[..room]);
+    }
+    true
+}
+
+fn main() {
+    let mut head = [0u8; HEAD];
+    let mut first = [0u8; LONGEST];
+    let mut log = [0u8; LONGEST];
+    let mut name = [0u8; LONGEST];
+    let mut out = [0u8; LONGEST];
+    let mut more = true;
+    while more {
+        more = io::read_full(STDIN_FILENO, &mut head) == HEAD;
+        if more {
+            more = answer(&head, &mut first, &mut log, &mut name, &mut out);
+        }
+    }
+}
+END
+}
+
+# The calls of the library: the measured examples four ways, then the fixed lists and generated sequences, so many in each part, by the compiled builds.
+library_builds() {
+    local build part seed crates number at
+    local -A parts=([1]='400' [2]='2000' [3]='60')
+    mkdir -p "$work/caller/src" "$work/examples" "$work/lists" "$work/part"
+    write_caller >"$work/caller/src/main.rt"
+    crates="io libc wall play probe_rows probe_file $(for at in play probe_rows probe_file; do used_by $at; done)"
+    "$harness" example-frames "$work/examples" && "$harness" frames "$work/lists" || fail "frames" "not written"
+    tried "library, four ways: measured examples" "$work/library" caller "$work/caller/src/main.rt" "$crates" "$work/examples/stdin" "$work/examples/stdout"
+    for build in "${builds[@]}"; do
+        prints "library, ${build#* }: fixed lists" "$work/lists/stdout" "$work/lists/stdin" "$work/library/${build% *}"
+    done
+    if [ -z "$long" ]; then
+        for build in "${builds[@]}"; do
+            number=${parts[${build% *}]}
+            "$harness" frames 32 "$number" "$work/part"
+            prints "library, ${build#* }: $number generated sequences" "$work/part/stdout" "$work/part/stdin" "$work/library/${build% *}"
+        done
+        return
+    fi
+    # The slower builds take some of the parts; archive_builds has -O0 play them all.
+    local -A one_in=([1]=5 [2]=1 [3]=10)
+    for seed in $(seq 100); do
+        "$harness" frames "$seed" 1000 "$work/part"
+        for build in "${builds[@]}"; do
+            [ $((seed % one_in[${build% *}])) -eq 0 ] || continue
+            prints "library, ${build#* }: 1000 generated sequences, seed $seed" "$work/part/stdout" "$work/part/stdin" "$work/library/${build% *}"
+        done
+    done
+}
+
+# The archives compiled at -O0 in place of -O3, and the whole comparison with them; 100,000 sequences of the five million lines.
+archive_builds() {
+    local name level=-O0 count=5000000
+    toolchain "$work/toolchain" $level
+    mkdir "$work/archives"
+    for name in "${archives[@]}"; do
+        if ! cases "$work/toolchain" "$name" "crates/$name/src/lib.rt" "$(used_by "$name")" --staticlib "$work/archives/lib$name.a"; then
+            fail "archives at $level" "$name is not built"
+            return
+        fi
+    done
+    PROVED_LIBS=$work/archives CARGO_TARGET_DIR=$PWD/build/cargo$level cargo build --release --offline --quiet --manifest-path harness/Cargo.toml ||
+        { fail "archives at $level" "the harness is not built"; return; }
+    REQUIRE_LIBS="${archives[*]}" summary "archives at $level" "build/cargo$level/release/harness" compare --count $count
+    grep -a -E '^(fixed seed|measured|sequences)' "$work/out"
+    REQUIRE_LIBS="${archives[*]}" summary "archives as proved, at -O3" "$harness" compare --count $count
+    grep -a -E '^(fixed seed|measured|sequences)' "$work/out"
+}
+
+if [ "$(uname -m)" = x86_64 ]; then
+    desk_builds
+    library_builds
+    [ -z "$long" ] || archive_builds
+else
+    echo "skipped: other builds (they are for x86-64)"
+fi
+finish

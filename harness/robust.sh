@@ -1,0 +1,193 @@
+#!/usr/bin/env bash
+# Runs the programs and the library on empty, random and huge input, and under valgrind, and holds what they answer equal to the reference's.
+#   harness/robust.sh           about a minute, as tools/test runs it
+#   harness/robust.sh --long    more inputs, longer ones
+# Needs the built harness, client and programs. Prints one line for each check and at the end 'N passed, M failed'.
+set -u
+case "$*" in
+    '') memory=8000 random=1000000 huge=32000000 lines=15000 ;;
+    --long) memory=200000 random=8000000 huge=512000000 lines=200000 ;;
+    *) echo "usage: harness/robust.sh [--long]" >&2; exit 2 ;;
+esac
+. "$(dirname "$0")/checks.sh"
+
+# Leaks of every kind count as errors; what valgrind says goes to a file of its own.
+faults=99
+watched=(valgrind -q --error-exitcode=$faults --leak-check=full --show-leak-kinds=all --errors-for-leak-kinds=all --log-file="$work/%p.log")
+
+# Valgrind is there, or can be installed, and runs.
+ensure_valgrind() {
+    command -v valgrind >/dev/null || { [ "$(id -u)" -eq 0 ] && apt-get update && apt-get install -y valgrind; } >/dev/null 2>&1
+    valgrind -q --error-exitcode=$faults true 2>/dev/null
+}
+
+# said NAME: what valgrind said is nothing.
+said() {
+    local log
+    for log in "$work"/*.log; do
+        if [ -s "$log" ]; then
+            grep -a -m 12 . "$log"
+            rm -f "$work"/*.log
+            fail "$1" "valgrind reports a fault"
+            return 1
+        fi
+    done
+    rm -f "$work"/*.log
+}
+
+# clean NAME EXPECTED INPUT COMMAND..: under valgrind, without a fault and with this output.
+clean() {
+    local name=$1 expected=$2 input=$3
+    shift 3
+    "${watched[@]}" "$@" <"$input" >"$work/out" 2>"$work/err"
+    local status=$?
+    said "$name" || return
+    if [ $status -ne 0 ] || [ -s "$work/err" ]; then
+        fail "$name" "exit $status, $(head -c 300 "$work/err")"
+    elif ! cmp -s "$expected" "$work/out"; then
+        fail "$name" "$(cmp "$expected" "$work/out" 2>&1)"
+    else
+        ok "$name"
+    fi
+}
+
+# refuses NAME STATUS COMMAND..: under valgrind, without a fault and with this exit.
+refuses() {
+    local name=$1 wanted=$2
+    shift 2
+    "${watched[@]}" "$@" >"$work/out" 2>"$work/err"
+    local status=$?
+    said "$name" || return
+    if [ $status -ne "$wanted" ]; then fail "$name" "exit $status, not $wanted"; else ok "$name"; fi
+}
+
+# expect INPUT: what desk, sheet_cif and the client must print for the input.
+expect() {
+    "$harness" desk-answers <"$1" >"$work/want.desk"
+    "$harness" cif-answers camp-1 <"$1" >"$work/want.cif"
+    "$harness" client-answers <"$1" >"$work/want.wall"
+}
+
+# every_program HOW NAME INPUT: the three programs on one input.
+every_program() {
+    expect "$3"
+    "$1" "desk: $2" "$work/want.desk" "$3" "$desk"
+    "$1" "sheet_cif: $2" "$work/want.cif" "$3" "$sheet_cif" camp-1
+    "$1" "wall_screen: $2" "$work/want.wall" "$3" "$client"
+}
+
+# typed BYTES: the stored sessions again and again, so many bytes.
+typed() {
+    while cat harness/desk-sessions/*.in; do :; done 2>/dev/null | head -c "$1"
+}
+
+inputs() {
+    : >"$work/empty"
+    printf '\0' >"$work/zero"
+    head -c "$random" /dev/urandom >"$work/random"
+    head -c "$huge" /dev/urandom >"$work/huge"
+    typed $((huge / 10)) >"$work/typed"
+    head -c "$huge" /dev/zero >"$work/zeros"
+    "$harness" client-lines 21 "$lines" >"$work/lines"
+    "$harness" client-values 22 "$lines" >"$work/values"
+}
+
+# Without valgrind: each program on much input.
+unwatched() {
+    every_program prints "no input" "$work/empty"
+    every_program prints "$huge random bytes" "$work/huge"
+    every_program prints "$huge zeros" "$work/zeros"
+    every_program prints "$((huge / 10)) bytes of sessions" "$work/typed"
+}
+
+# The C clients compiled with gcc's own checks of memory and arithmetic, which see their arrays too.
+sanitized() {
+    local checks=(-std=c11 -O1 -g -Iinclude -fsanitize=address,undefined -fno-sanitize-recover=all) libraries=${PROVED_LIBS:-target/staticlib} input
+    if ! gcc "${checks[@]}" client/sheet_cif.c "$libraries/libsheet_file.a" -o "$work/sheet_cif" 2>/dev/null ||
+        ! gcc "${checks[@]}" client/wall_screen.c "$libraries/libwall.a" -o "$work/wall_screen" 2>/dev/null; then
+        echo "skipped: the C clients with gcc's checks (its libraries for them are not there)"
+        return
+    fi
+    for input in harness/desk-sessions/*.in; do
+        prints "sheet_cif with gcc's checks: $(basename "$input" .in)" "${input%.in}.cif" "$input" "$work/sheet_cif" camp-1
+    done
+    expect "$work/random"
+    prints "sheet_cif with gcc's checks: $random random bytes" "$work/want.cif" "$work/random" "$work/sheet_cif" camp-1
+    prints "wall_screen with gcc's checks: $random random bytes" "$work/want.wall" "$work/random" "$work/wall_screen"
+    "$harness" client-answers <"$work/lines" >"$work/want"
+    prints "wall_screen with gcc's checks: $lines lines" "$work/want" "$work/lines" "$work/wall_screen"
+}
+
+# A read one byte beyond what is lent is seen, so the runs below can see one.
+fault_is_seen() {
+    cat >"$work/fault.c" <<'END'
+#include <stdlib.h>
+#include <string.h>
+#include "wall.h"
+int main(void)
+{
+    uint8_t *line = malloc(26);
+    memcpy(line, "_refine_ls_R_factor_gt 0.1", 26);
+    int answer = wall_classify(line, 27) == 9;
+    free(line);
+    return answer;
+}
+END
+    gcc -std=c11 -O1 -w -Iinclude "$work/fault.c" "${PROVED_LIBS:-target/staticlib}/libwall.a" -o "$work/fault"
+    "${watched[@]}" "$work/fault"
+    local status=$?
+    rm -f "$work"/*.log
+    if [ $status -eq $faults ]; then ok "valgrind sees a read beyond the lent bytes"; else fail "valgrind sees a read beyond the lent bytes" "exit $status"; fi
+}
+
+# library FOLDER: the comparison under valgrind, beside the programs, with a folder of its own.
+library() {
+    work=$1
+    mkdir "$work"
+    summary "library: lent blocks of exact length" valgrind -q --error-exitcode=$faults "$harness" memory --count "$memory"
+}
+
+programs() {
+    local input name
+    every_program clean "no input" "$work/empty"
+    every_program clean "one zero" "$work/zero"
+    every_program clean "$random random bytes" "$work/random"
+    typed $((random / 10)) >"$work/short"
+    every_program clean "$((random / 10)) bytes of sessions" "$work/short"
+    for input in harness/desk-sessions/*.in; do
+        name=$(basename "$input" .in)
+        clean "desk: $name" "${input%.in}.out" "$input" "$desk"
+        clean "sheet_cif: $name" "${input%.in}.cif" "$input" "$sheet_cif" camp-1
+    done
+    "$harness" client-answers <"$work/lines" >"$work/want"
+    clean "wall_screen: $lines lines" "$work/want" "$work/lines" "$client"
+    "$harness" client-answers 6 <"$work/values" >"$work/want"
+    clean "wall_screen: $lines values" "$work/want" "$work/values" "$client" --row 6
+}
+
+refusals() {
+    local first=harness/desk-sessions/document_01.in
+    refuses "sheet_cif: FILE" 0 "$sheet_cif" camp-1 "$work/a.cif" <$first
+    refuses "sheet_cif: bad block name" 1 "$sheet_cif" camp_1 <$first
+    refuses "sheet_cif: input cannot be read" 1 "$sheet_cif" camp-1 <.
+    refuses "sheet_cif: no such folder" 1 "$sheet_cif" camp-1 "$work/none/a.cif" <$first
+    refuses "sheet_cif: no argument" 2 "$sheet_cif" <$first
+    refuses "wall_screen: unknown option" 2 "$client" --rwo 6
+    refuses "wall_screen: input cannot be read" 1 "$client" <.
+}
+
+inputs
+unwatched
+sanitized
+if ensure_valgrind; then
+    fault_is_seen
+    (library "$work/library") >"$work/library.out" 2>&1 &
+    programs
+    refusals
+    wait $!
+    cat "$work/library.out"
+    if grep -q '^ok ' "$work/library.out"; then passed=$((passed + 1)); else failed=$((failed + 1)); fi
+else
+    echo "skipped: runs under valgrind (it is not there, and cannot be installed)"
+fi
+finish
