@@ -58,6 +58,7 @@ ratioOutside lo hi given sum = ratioBelow lo given sum || ratioAbove hi given su
 unfoldable pub ratioLevel : ℤ → ℕ → ℕ
 ratioLevel given sum = levelOf (ratioOutside 90 110 given sum) (ratioOutside 95 105 given sum) (ratioOutside 99 101 given sum)
 
+-- row 4 where formula and weight are there
 abbrev pub ratioRow : Weighed → Row
 ratioRow (Both given sum) = rowOf (ratioLevel given sum) 0
 ratioRow NotBoth = rowOf 2 2
@@ -76,6 +77,7 @@ farApart (negsuc given) sum = ltb 1000000 (suc given + sum)
 unfoldable pub isWeighedCategory : List ℕ → Bool
 isWeighedCategory t = inClass Organic t || inClass MetalOrganic t
 
+-- row 5 where formula, weight and category are there
 abbrev pub differenceRow : Weighed → List ℕ → Row
 differenceRow (Both given sum) category = cond (farApart given sum && isWeighedCategory category) (rowOf 2 0) noAlert
 differenceRow NotBoth category = rowOf 0 2
