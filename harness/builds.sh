@@ -11,6 +11,7 @@ case "$*" in
     *) echo "usage: harness/builds.sh [--long]" >&2; exit 2 ;;
 esac
 . "$(dirname "$0")/checks.sh"
+need "$desk" "$sheet_cif"
 kit=${RATTLE_HOME:-/opt/rattle}
 own=$kit/on/$(uname -m)
 archives=(wall probe probe_rows probe_keys play probe_file)

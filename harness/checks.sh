@@ -1,12 +1,18 @@
-# Sourced by robust.sh and builds.sh: the programs, a temporary folder, and checks that are counted.
+# Sourced by test.sh, robust.sh and builds.sh: the programs, a temporary folder, and checks that are counted.
 cd "$(dirname "${BASH_SOURCE[0]}")/.." || exit 2
 harness=$PWD/build/cargo/release/harness
 client=$PWD/build/wall_screen
 desk=$PWD/target/bin/desk
 sheet_cif=$PWD/target/bin/sheet_cif
-for program in "$harness" "$client" "$desk" "$sheet_cif"; do
-    [ -x "$program" ] || { echo "$program is missing: build it first" >&2; exit 2; }
-done
+
+# need PROGRAM..: ends the run where one is not built.
+need() {
+    local program
+    for program; do
+        [ -x "$program" ] || { echo "$program is missing: build it first" >&2; exit 2; }
+    done
+}
+need "$harness" "$client"
 work=$(mktemp -d) || exit 2
 trap 'rm -rf "$work"' EXIT
 passed=0

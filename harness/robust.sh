@@ -10,6 +10,7 @@ case "$*" in
     *) echo "usage: harness/robust.sh [--long]" >&2; exit 2 ;;
 esac
 . "$(dirname "$0")/checks.sh"
+need "$desk" "$sheet_cif"
 
 # Leaks of every kind count as errors; what valgrind says goes to a file of its own.
 faults=99

@@ -4,30 +4,8 @@
 # Needs the built harness and client (build/cargo/release/harness, build/wall_screen).
 # Prints one line for each check and at the end 'N passed, M failed'.
 set -u
-cd "$(dirname "$0")/.." || exit 2
-
-harness=$PWD/build/cargo/release/harness
-client=$PWD/build/wall_screen
-desk=$PWD/target/bin/desk
-sheet_cif=$PWD/target/bin/sheet_cif
+. "$(dirname "$0")/checks.sh"
 warnings=(-Wall -Wextra -Werror -pedantic)
-for program in "$harness" "$client"; do
-    [ -x "$program" ] || { echo "$program is missing: build it first" >&2; exit 2; }
-done
-work=$(mktemp -d) || exit 2
-trap 'rm -rf "$work"' EXIT
-passed=0
-failed=0
-
-ok() {
-    passed=$((passed + 1))
-    echo "ok $1"
-}
-
-fail() {
-    failed=$((failed + 1))
-    echo "FAIL $1: $2"
-}
 
 # same NAME EXPECTED ACTUAL: two files are equal, and not empty.
 same() {
@@ -414,15 +392,7 @@ trace_generated() {
 
 # desk_prints NAME INPUT EXPECTED: the program desk prints the file's bytes, and nothing else.
 desk_prints() {
-    "$desk" <"$2" >"$work/out" 2>"$work/err"
-    local status=$?
-    if [ $status -ne 0 ]; then
-        fail "$1" "exit $status"
-    elif [ -s "$work/err" ]; then
-        fail "$1" "standard error is '$(head -c 200 "$work/err")'"
-    else
-        same "$1" "$3" "$work/out"
-    fi
+    prints "$1" "$3" "$2" "$desk"
 }
 
 desk_sessions() {
@@ -537,21 +507,6 @@ sheet_cif_runs() {
     holds "sheet_cif: nothing is left over" "$folder"
 }
 
-# summary NAME COMMAND..: ends with 'N passed, 0 failed', N not 0.
-summary() {
-    local name=$1
-    shift
-    "$@" >"$work/out" 2>&1
-    local status=$? last
-    last=$(tail -n 1 "$work/out")
-    if [ $status -eq 0 ] && [[ $last =~ ^[1-9][0-9]*\ passed,\ 0\ failed$ ]]; then
-        ok "$name ($last)"
-    else
-        cat "$work/out"
-        fail "$name" "exit $status, $last"
-    fi
-}
-
 comparison() {
     summary "self-check of the comparison" "$harness" self-check
     summary "comparison with the reference" "$harness" compare
@@ -573,5 +528,4 @@ trace_generated
 desk_sessions
 sheet_cif_runs
 comparison
-echo "$passed passed, $failed failed"
-[ $failed -eq 0 ]
+finish
