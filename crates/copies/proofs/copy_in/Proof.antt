@@ -17,20 +17,11 @@ returns c =
     let a = c .before .before .before .args in
     simp (lt-leb (a .at + length (a .src .now)) (length (a .dst .now)) (omega arith))
 
-sub-if2 : tie.Need-sub-if2
-sub-if2 c = search needs
-
 returns-2 : tie.Need-returns-2
 unfolding copied
 returns-2 c =
     let a = c .before .before .before .before .args in
     simp (lt-leb (a .at + length (a .src .now)) (length (a .dst .now)) (omega arith))
-
-copy-fitting-requires : tie.Need-copy-fitting-requires
-copy-fitting-requires c κs = search needs
-
-same-length : tie.Need-same-length
-same-length c = search needs
 
 returns-3 : tie.Need-returns-3
 unfolding copied
@@ -42,4 +33,4 @@ returns-3 c =
 
 pub copy-in-spec : {M : Type 1} → statement M
 copy-in-spec =
-    tie.close (tie.spec returns sub-if2 returns-2 copy-fitting-requires same-length returns-3)
+    tie.close (tie.spec returns (λ c. search needs) returns-2 (λ c κs. search needs) (λ c. search needs) returns-3)

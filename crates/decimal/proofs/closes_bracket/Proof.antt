@@ -6,9 +6,6 @@ use borrow.Author.Needs.{needs}
 use Rattle.decimal.proofs.closes_bracket.Statement.{statement}
 use Rattle.decimal.proofs.closes_bracket.Tie as tie
 
-digit-run-requires : tie.Need-digit-run-requires
-digit-run-requires c κs = search needs
-
 returns : tie.Need-returns
 unfolding closes
 returns c = simp (← c .before .digit-run .ensures .0, lt-leb _ _ (c .if1 .taken))
@@ -17,15 +14,9 @@ returns-2 : tie.Need-returns-2
 unfolding closes
 returns-2 c = simp (← c .before .before .digit-run .ensures .0, le-leb _ _ (c .before .if1 .left), lt-leb _ _ (c .if2 .taken))
 
-add-if3 : tie.Need-add-if3
-add-if3 c = search needs
-
 returns-3 : tie.Need-returns-3
 unfolding closes
 returns-3 c = simp (← c .before .before .before .digit-run .ensures .0, le-leb _ _ (c .before .before .if1 .left), le-leb _ _ (c .before .if2 .left), ne-eqb _ _ (c .if3 .taken))
-
-shared-slice-read-result : tie.Need-shared-slice-read-result
-shared-slice-read-result c = search needs
 
 returns-4 : tie.Need-returns-4
 unfolding closes
@@ -37,10 +28,10 @@ pub closes-bracket-spec : {M : Type 1} → statement M
 closes-bracket-spec =
     tie.close
     (tie.spec
-    digit-run-requires
+    (λ c κs. search needs)
     returns
     returns-2
-    add-if3
+    (λ c. search needs)
     returns-3
-    shared-slice-read-result
+    (λ c. search needs)
     returns-4)

@@ -16,26 +16,11 @@ Inv-loop s acc₀ i₀ acc i = (i ≤ length s) × (valueFrom 0 s ≡ valueFrom 
 abbrev μ-loop : tie.MeasureT-loop
 μ-loop s acc₀ i₀ acc i = length s - i
 
-loop-holds : tie.Need-loop-holds Inv-loop μ-loop
-loop-holds c = omega arith
-
 mul-acc : tie.Need-mul-acc Inv-loop μ-loop
 mul-acc c = omega (arith, ten-le (c .before .loop .i) 9 (omega arith))
 
-shared-slice-read-digit-value : tie.Need-shared-slice-read-digit-value Inv-loop μ-loop
-shared-slice-read-digit-value c = omega arith
-
-digit-value-requires : tie.Need-digit-value-requires Inv-loop μ-loop
-digit-value-requires c κs = omega arith
-
 add-acc : tie.Need-add-acc Inv-loop μ-loop
 add-acc c = omega (arith, ten-le (c .before .before .before .loop .i) 8 (omega arith))
-
-add-i : tie.Need-add-i Inv-loop μ-loop
-add-i c = omega arith
-
-loop-less : tie.Need-loop-less Inv-loop μ-loop
-loop-less c = omega arith
 
 loop-again : tie.Need-loop-again Inv-loop μ-loop
 loop-again c =
@@ -60,12 +45,12 @@ digits-value-spec =
     (tie.spec
     Inv-loop
     μ-loop
-    loop-holds
+    (λ c. omega arith)
     mul-acc
-    shared-slice-read-digit-value
-    digit-value-requires
+    (λ c. omega arith)
+    (λ c κs. omega arith)
     add-acc
-    add-i
-    loop-less
+    (λ c. omega arith)
+    (λ c. omega arith)
     loop-again
     returns)

@@ -6,15 +6,6 @@ use borrow.Author.Needs.{needs}
 use Rattle.decimal.proofs.is_number.Statement.{statement}
 use Rattle.decimal.proofs.is_number.Tie as tie
 
-read-number-requires : tie.Need-read-number-requires
-read-number-requires c κs = search needs
-
-enum-told : tie.Need-enum-told
-enum-told c = search needs
-
-enum-told-2 : tie.Need-enum-told-2
-enum-told-2 c = search needs
-
 returns : tie.Need-returns
 unfolding isNumber
 returns c = ap isFound (sym (c .enum-told2 .given .1) ∙ c .before .before .read-number .ensures)
@@ -24,4 +15,4 @@ unfolding isNumber
 returns-2 c = ap isFound (sym (c .enum-told .given .1) ∙ c .before .before .read-number .ensures)
 
 pub is-number-spec : {M : Type 1} → statement M
-is-number-spec = tie.close (tie.spec read-number-requires enum-told enum-told-2 returns returns-2)
+is-number-spec = tie.close (tie.spec (λ c κs. search needs) (λ c. search needs) (λ c. search needs) returns returns-2)

@@ -12,24 +12,9 @@ returns : tie.Need-returns
 unfolding isTail
 returns c = simp (eq-eqb _ _ (c .if1 .taken))
 
-shared-slice-read-if2 : tie.Need-shared-slice-read-if2
-shared-slice-read-if2 c = search needs
-
 returns-2 : tie.Need-returns-2
 unfolding isTail
 returns-2 c = simp (ne-eqb _ _ (c .before .before .if1 .left), ne-eqb _ _ (c .if2 .taken))
-
-sub-closes-bracket : tie.Need-sub-closes-bracket
-sub-closes-bracket c = search needs
-
-part-closes-bracket-start : tie.Need-part-closes-bracket-start
-part-closes-bracket-start c = search needs
-
-part-closes-bracket-end : tie.Need-part-closes-bracket-end
-part-closes-bracket-end c = search needs
-
-closes-bracket-requires : tie.Need-closes-bracket-requires
-closes-bracket-requires c κs = search needs
 
 returns-3 : tie.Need-returns-3
 unfolding isTail
@@ -43,10 +28,10 @@ is-tail-spec =
     tie.close
     (tie.spec
     returns
-    shared-slice-read-if2
+    (λ c. search needs)
     returns-2
-    sub-closes-bracket
-    part-closes-bracket-start
-    part-closes-bracket-end
-    closes-bracket-requires
+    (λ c. search needs)
+    (λ c. search needs)
+    (λ c. search needs)
+    (λ c κs. search needs)
     returns-3)

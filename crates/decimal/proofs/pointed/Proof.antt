@@ -10,27 +10,12 @@ use borrow.Author.Needs.{needs}
 use Rattle.decimal.proofs.pointed.Statement.{statement}
 use Rattle.decimal.proofs.pointed.Tie as tie
 
-digit-run-requires : tie.Need-digit-run-requires
-digit-run-requires c κs = search needs
-
 returns : tie.Need-returns
 unfolding pointedOf
 returns c = (simp (← c .before .digit-run .ensures .0, lt-leb _ _ (c .if1 .taken)), tt)
 
 slice-aggregate-sized : tie.Need-slice-aggregate-sized
 slice-aggregate-sized c = simp length-take (omega arith)
-
-sub-sized : tie.Need-sub-sized
-sub-sized c = search needs
-
-part-sized-start : tie.Need-part-sized-start
-part-sized-start c = search needs
-
-part-sized-end : tie.Need-part-sized-end
-part-sized-end c = search needs
-
-sized-requires : tie.Need-sized-requires
-sized-requires c κs = search needs
 
 returns-2 : tie.Need-returns-2
 unfolding pointedOf
@@ -42,11 +27,11 @@ pub pointed-spec : {M : Type 1} → statement M
 pointed-spec =
     tie.close
     (tie.spec
-    digit-run-requires
+    (λ c κs. search needs)
     returns
     slice-aggregate-sized
-    sub-sized
-    part-sized-start
-    part-sized-end
-    sized-requires
+    (λ c. search needs)
+    (λ c. search needs)
+    (λ c. search needs)
+    (λ c κs. search needs)
     returns-2)

@@ -9,23 +9,11 @@ use borrow.Author.Needs.{needs}
 use Rattle.decimal.proofs.read_number.Statement.{statement}
 use Rattle.decimal.proofs.read_number.Tie as tie
 
-has-requires : tie.Need-has-requires
-has-requires c κs = search needs
-
 sub-unsigned : tie.Need-sub-unsigned
 sub-unsigned c = has-within _ _ _ (sym (c .before .has .ensures) ∙ c .if1 .taken)
 
 part-unsigned-start : tie.Need-part-unsigned-start
 part-unsigned-start c = omega (arith, has-within _ _ _ (sym (c .before .has .ensures) ∙ c .if1 .taken))
-
-part-unsigned-end : tie.Need-part-unsigned-end
-part-unsigned-end c = search needs
-
-unsigned-requires : tie.Need-unsigned-requires
-unsigned-requires c κs = search needs
-
-with-sign-requires : tie.Need-with-sign-requires
-with-sign-requires c κs = search needs
 
 returns : tie.Need-returns
 unfolding readingOf
@@ -34,23 +22,11 @@ returns c =
     let p = sym (k .before .has .ensures) ∙ k .if1 .taken in
     c .with-sign .ensures ∙ simp (p, c .before .unsigned .ensures .0, rest-part)
 
-has-requires-2 : tie.Need-has-requires-2
-has-requires-2 c κs = search needs
-
 sub-unsigned-2 : tie.Need-sub-unsigned-2
 sub-unsigned-2 c = has-within _ _ _ (sym (c .before .has2 .ensures) ∙ c .if2 .taken)
 
 part-unsigned-start-2 : tie.Need-part-unsigned-start-2
 part-unsigned-start-2 c = omega (arith, has-within _ _ _ (sym (c .before .has2 .ensures) ∙ c .if2 .taken))
-
-part-unsigned-end-2 : tie.Need-part-unsigned-end-2
-part-unsigned-end-2 c = search needs
-
-unsigned-requires-2 : tie.Need-unsigned-requires-2
-unsigned-requires-2 c κs = search needs
-
-with-sign-requires-2 : tie.Need-with-sign-requires-2
-with-sign-requires-2 c κs = search needs
 
 returns-2 : tie.Need-returns-2
 unfolding readingOf
@@ -60,12 +36,6 @@ returns-2 c =
     let p = sym (g .before .has .ensures) ∙ g .if1 .left in
     let q = sym (k .before .has2 .ensures) ∙ k .if2 .taken in
     c .with-sign2 .ensures ∙ simp (p, q, c .before .unsigned2 .ensures .0, rest-part)
-
-unsigned-requires-3 : tie.Need-unsigned-requires-3
-unsigned-requires-3 c κs = search needs
-
-with-sign-requires-3 : tie.Need-with-sign-requires-3
-with-sign-requires-3 c κs = search needs
 
 returns-3 : tie.Need-returns-3
 unfolding readingOf
@@ -80,20 +50,20 @@ pub read-number-spec : {M : Type 1} → statement M
 read-number-spec =
     tie.close
     (tie.spec
-    has-requires
+    (λ c κs. search needs)
     sub-unsigned
     part-unsigned-start
-    part-unsigned-end
-    unsigned-requires
-    with-sign-requires
+    (λ c. search needs)
+    (λ c κs. search needs)
+    (λ c κs. search needs)
     returns
-    has-requires-2
+    (λ c κs. search needs)
     sub-unsigned-2
     part-unsigned-start-2
-    part-unsigned-end-2
-    unsigned-requires-2
-    with-sign-requires-2
+    (λ c. search needs)
+    (λ c κs. search needs)
+    (λ c κs. search needs)
     returns-2
-    unsigned-requires-3
-    with-sign-requires-3
+    (λ c κs. search needs)
+    (λ c κs. search needs)
     returns-3)

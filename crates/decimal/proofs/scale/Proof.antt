@@ -9,16 +9,10 @@ use borrow.Author.Needs.{needs}
 use Rattle.decimal.proofs.scale.Statement.{statement}
 use Rattle.decimal.proofs.scale.Tie as tie
 
-mul-result : tie.Need-mul-result
-mul-result c = search needs
-
-array-read-result : tie.Need-array-read-result
-array-read-result c = search needs
-
 returns : tie.Need-returns
 returns c =
     let e = entry scaleOf 0 7 (c .args .n) (omega arith) in
     (e, rw e (ten-le (6 - c .args .n) 6 (omega arith)))
 
 pub scale-spec : {M : Type 1} → statement M
-scale-spec = tie.close (tie.spec mul-result array-read-result returns)
+scale-spec = tie.close (tie.spec (λ c. search needs) (λ c. search needs) returns)

@@ -25,15 +25,9 @@ returns-2 : tie.Need-returns-2
 unfolding sizeOf
 returns-2 c = (simp (le-leb _ _ (c .before .if1 .left), lt-leb _ _ (c .if2 .taken)), tt)
 
-add-if3 : tie.Need-add-if3
-add-if3 c = search needs
-
 returns-3 : tie.Need-returns-3
 unfolding sizeOf
 returns-3 c = (simp (le-leb _ _ (c .before .before .if1 .left), le-leb _ _ (c .before .if2 .left), lt-leb _ _ (c .if3 .taken)), tt)
-
-is-tail-requires : tie.Need-is-tail-requires
-is-tail-requires c κs = search needs
 
 returns-4 : tie.Need-returns-4
 unfolding sizeOf
@@ -42,20 +36,8 @@ returns-4 c =
     let tl = sym (c .before .is-tail .ensures) ∙ not-true _ (c .if4 .taken) in
     (simp (le-leb _ _ (k .before .before .if1 .left), le-leb _ _ (k .before .if2 .left), le-leb _ _ (k .if3 .left), tl), tt)
 
-digits-value-requires : tie.Need-digits-value-requires
-digits-value-requires c κs = search needs
-
-scale-requires : tie.Need-scale-requires
-scale-requires c κs = search needs
-
 mul-whole : tie.Need-mul-whole
 mul-whole c = omega (arith, small-product _ _ (c .before .digits-value .ensures .1) (c .scale .ensures .1))
-
-digits-value-requires-2 : tie.Need-digits-value-requires-2
-digits-value-requires-2 c κs = search needs
-
-scale-requires-2 : tie.Need-scale-requires-2
-scale-requires-2 c κs = search needs
 
 mul-part : tie.Need-mul-part
 mul-part c = omega (arith, small-product _ _ (c .before .digits-value2 .ensures .1) (c .scale2 .ensures .1))
@@ -80,15 +62,15 @@ sized-spec =
     (tie.spec
     returns
     returns-2
-    add-if3
+    (λ c. search needs)
     returns-3
-    is-tail-requires
+    (λ c κs. search needs)
     returns-4
-    digits-value-requires
-    scale-requires
+    (λ c κs. search needs)
+    (λ c κs. search needs)
     mul-whole
-    digits-value-requires-2
-    scale-requires-2
+    (λ c κs. search needs)
+    (λ c κs. search needs)
     mul-part
     add-t11
     returns-5)

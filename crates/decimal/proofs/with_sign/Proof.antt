@@ -14,15 +14,6 @@ use Rattle.decimal.proofs.with_sign.Tie as tie
 less : (c : tie.After-z) → c .z .given .0 .0 < 2 ^ 63
 less c = let h = subst Small (c .z .given .1) (c .before .before .pre) in omega arith
 
-enum-known-z : tie.Need-enum-known-z
-enum-known-z c = search needs
-
-enum-told : tie.Need-enum-told
-enum-told c = search needs
-
-returns : tie.Need-returns
-returns c = search needs
-
 cast-v : tie.Need-cast-v
 cast-v c = fits-pos _ (less (c .before))
 
@@ -37,4 +28,4 @@ returns-3 c = let k = c .before .before in simp (c .if1 .left, k .z .given .1, t
 
 pub with-sign-spec : {M : Type 1} → statement M
 with-sign-spec =
-    tie.close (tie.spec enum-known-z enum-told returns cast-v sub-t7 returns-2 returns-3)
+    tie.close (tie.spec (λ c. search needs) (λ c. search needs) (λ c. search needs) cast-v sub-t7 returns-2 returns-3)

@@ -16,36 +16,18 @@ Inv-loop log₀ played₀ turns₀ log played turns = Reached log₀ (standsAfte
 abbrev μ-loop : tie.MeasureT-loop
 μ-loop log₀ played₀ turns₀ log played turns = turns
 
-fresh-desk-requires : tie.Need-fresh-desk-requires Inv-loop μ-loop
-fresh-desk-requires c κs = search needs
-
 loop-holds : tie.Need-loop-holds Inv-loop μ-loop
 loop-holds c = (reached-none _ _ (c .fresh-desk .ensures), omega arith)
-
-play-part-requires : tie.Need-play-part-requires Inv-loop μ-loop
-play-part-requires c κs = search needs
-
-same-length : tie.Need-same-length Inv-loop μ-loop
-same-length c = omega arith
 
 returns : tie.Need-returns Inv-loop μ-loop
 returns c =
     let p = c .before .before .before .before .before .before in
     reached-end (p .before .before .before .loop .inv .0) (p .play-part .ensures)
 
-sub-turns : tie.Need-sub-turns Inv-loop μ-loop
-sub-turns c = omega arith
-
-loop-less : tie.Need-loop-less Inv-loop μ-loop
-loop-less c = omega arith
-
 loop-again : tie.Need-loop-again Inv-loop μ-loop
 loop-again c =
     let p = c .before .before .before .before .before in
     (reached-next (p .before .before .before .loop .inv .0) (p .play-part .ensures) (not-false _ (c .if1 .left)), omega arith)
-
-same-length-2 : tie.Need-same-length-2 Inv-loop μ-loop
-same-length-2 c = omega arith
 
 returns-2 : tie.Need-returns-2 Inv-loop μ-loop
 returns-2 c = reached-all (c .before .before .loop .inv .0)
@@ -56,13 +38,13 @@ play-all-spec =
     (tie.spec
     Inv-loop
     μ-loop
-    fresh-desk-requires
+    (λ c κs. search needs)
     loop-holds
-    play-part-requires
-    same-length
+    (λ c κs. search needs)
+    (λ c. omega arith)
     returns
-    sub-turns
-    loop-less
+    (λ c. omega arith)
+    (λ c. omega arith)
     loop-again
-    same-length-2
+    (λ c. omega arith)
     returns-2)

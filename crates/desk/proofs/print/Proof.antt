@@ -17,43 +17,22 @@ within c =
     let h = printed-within _ (printedOf (p .before .before .args .d)) _ (sym (p .print-report .ensures .0) ∙ c .before .n .given .1) in
     omega (arith, h)
 
-slice-aggregate-print-report : tie.Need-slice-aggregate-print-report
-slice-aggregate-print-report c = search needs
-
-print-report-requires : tie.Need-print-report-requires
-print-report-requires c κs = search needs
-
-enum-known-n : tie.Need-enum-known-n
-enum-known-n c = search needs
-
-enum-told : tie.Need-enum-told
-enum-told c = search needs
-
-returns : tie.Need-returns
-returns c = search needs
-
 array-share-prefix-out : tie.Need-array-share-prefix-out
 array-share-prefix-out c = within c
 
 slice-aggregate-write-all : tie.Need-slice-aggregate-write-all
 slice-aggregate-write-all c = sym (length-take-le _ (c .before .before .before .before .before .print-report .last .1 .0) (within (c .before)))
 
-write-all-requires : tie.Need-write-all-requires
-write-all-requires c κs = search needs
-
-returns-2 : tie.Need-returns-2
-returns-2 c = search needs
-
 pub print-spec : {M : Type 1} → statement M
 print-spec =
     tie.close
     (tie.spec
-    slice-aggregate-print-report
-    print-report-requires
-    enum-known-n
-    enum-told
-    returns
+    (λ c. search needs)
+    (λ c κs. search needs)
+    (λ c. search needs)
+    (λ c. search needs)
+    (λ c. search needs)
     array-share-prefix-out
     slice-aggregate-write-all
-    write-all-requires
-    returns-2)
+    (λ c κs. search needs)
+    (λ c. search needs))

@@ -17,40 +17,10 @@ abbrev μ-loop : tie.MeasureT-loop
 loop-holds : tie.Need-loop-holds Inv-loop μ-loop
 loop-holds c = start _ _ _
 
-mul-loop : tie.Need-mul-loop Inv-loop μ-loop
-mul-loop c = omega arith
-
-add-loop : tie.Need-add-loop Inv-loop μ-loop
-add-loop c = omega arith
-
-mul-same-symbol : tie.Need-mul-same-symbol Inv-loop μ-loop
-mul-same-symbol c = omega arith
-
-shared-slice-read-same-symbol : tie.Need-shared-slice-read-same-symbol Inv-loop μ-loop
-shared-slice-read-same-symbol c = omega arith
-
-mul-same-symbol-2 : tie.Need-mul-same-symbol-2 Inv-loop μ-loop
-mul-same-symbol-2 c = omega arith
-
-add-same-symbol : tie.Need-add-same-symbol Inv-loop μ-loop
-add-same-symbol c = omega arith
-
-shared-slice-read-same-symbol-2 : tie.Need-shared-slice-read-same-symbol-2 Inv-loop μ-loop
-shared-slice-read-same-symbol-2 c = omega arith
-
-same-symbol-requires : tie.Need-same-symbol-requires Inv-loop μ-loop
-same-symbol-requires c κs = omega arith
-
 returns : tie.Need-returns Inv-loop μ-loop
 returns c =
     let l = c .before .before .before .before .before in
     sym (found _ _ _ (l .loop .inv) (c .before .before .before .before .loop-test .taken) (sym (c .before .same-symbol .ensures) ∙ c .if1 .taken))
-
-add-k : tie.Need-add-k Inv-loop μ-loop
-add-k c = omega arith
-
-loop-less : tie.Need-loop-less Inv-loop μ-loop
-loop-less c = omega arith
 
 loop-again : tie.Need-loop-again Inv-loop μ-loop
 loop-again c =
@@ -67,16 +37,16 @@ find-spec =
     Inv-loop
     μ-loop
     loop-holds
-    mul-loop
-    add-loop
-    mul-same-symbol
-    shared-slice-read-same-symbol
-    mul-same-symbol-2
-    add-same-symbol
-    shared-slice-read-same-symbol-2
-    same-symbol-requires
+    (λ c. omega arith)
+    (λ c. omega arith)
+    (λ c. omega arith)
+    (λ c. omega arith)
+    (λ c. omega arith)
+    (λ c. omega arith)
+    (λ c. omega arith)
+    (λ c κs. omega arith)
     returns
-    add-k
-    loop-less
+    (λ c. omega arith)
+    (λ c. omega arith)
     loop-again
     returns-2)

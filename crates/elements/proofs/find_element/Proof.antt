@@ -5,15 +5,9 @@ use borrow.Author.Needs.{needs}
 use Rattle.elements.proofs.find_element.Statement.{statement}
 use Rattle.elements.proofs.find_element.Tie as tie
 
-slice-aggregate-find : tie.Need-slice-aggregate-find
-slice-aggregate-find c = search needs
-
-find-requires : tie.Need-find-requires
-find-requires c κs = search needs
-
 returns : tie.Need-returns
 unfolding elementOf symbols
 returns c = c .find .ensures
 
 pub find-element-spec : {M : Type 1} → statement M
-find-element-spec = tie.close (tie.spec slice-aggregate-find find-requires returns)
+find-element-spec = tie.close (tie.spec (λ c. search needs) (λ c κs. search needs) returns)

@@ -6,15 +6,6 @@ use borrow.Author.Needs.{needs}
 use Rattle.elements.proofs.is_element.Statement.{statement}
 use Rattle.elements.proofs.is_element.Tie as tie
 
-find-element-requires : tie.Need-find-element-requires
-find-element-requires c κs = search needs
-
-enum-told : tie.Need-enum-told
-enum-told c = search needs
-
-enum-told-2 : tie.Need-enum-told-2
-enum-told-2 c = search needs
-
 returns : tie.Need-returns
 unfolding isElement
 returns c = sym (ap isSomewhere (sym (c .before .before .find-element .ensures) ∙ c .enum-told2 .given .1))
@@ -25,4 +16,4 @@ returns-2 c = sym (ap isSomewhere (sym (c .before .before .find-element .ensures
 
 pub is-element-spec : {M : Type 1} → statement M
 is-element-spec =
-    tie.close (tie.spec find-element-requires enum-told enum-told-2 returns returns-2)
+    tie.close (tie.spec (λ c κs. search needs) (λ c. search needs) (λ c. search needs) returns returns-2)

@@ -19,24 +19,9 @@ metal c x e =
     let there : isSomewhere (placeOf notMetals a b) ≡ x = ap isSomewhere (sym (c .find .ensures)) ∙ e in
     sym (ap (λ (y : Bool). y && not (isSomewhere (placeOf notMetals a b))) known ∙ ap not there)
 
-is-element-requires : tie.Need-is-element-requires
-is-element-requires c κs = search needs
-
 returns : tie.Need-returns
 unfolding isMetal
 returns c = simp (sym (c .before .is-element .ensures) ∙ not-true _ (c .if1 .taken))
-
-slice-aggregate-find : tie.Need-slice-aggregate-find
-slice-aggregate-find c = search needs
-
-find-requires : tie.Need-find-requires
-find-requires c κs = search needs
-
-enum-told : tie.Need-enum-told
-enum-told c = search needs
-
-enum-told-2 : tie.Need-enum-told-2
-enum-told-2 c = search needs
 
 returns-2 : tie.Need-returns-2
 returns-2 c = metal (c .before .before) false (ap isSomewhere (c .enum-told2 .given .1))
@@ -48,11 +33,11 @@ pub is-metal-spec : {M : Type 1} → statement M
 is-metal-spec =
     tie.close
     (tie.spec
-    is-element-requires
+    (λ c κs. search needs)
     returns
-    slice-aggregate-find
-    find-requires
-    enum-told
-    enum-told-2
+    (λ c. search needs)
+    (λ c κs. search needs)
+    (λ c. search needs)
+    (λ c. search needs)
     returns-2
     returns-3)

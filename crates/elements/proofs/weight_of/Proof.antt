@@ -22,18 +22,6 @@ within c =
     let h = place-within (symbolsIn weights) _ _ _ (sym (f .find .ensures) ∙ c .k .given .1) in
     omega arith
 
-slice-aggregate-find : tie.Need-slice-aggregate-find
-slice-aggregate-find c = search needs
-
-find-requires : tie.Need-find-requires
-find-requires c κs = search needs
-
-enum-known-k : tie.Need-enum-known-k
-enum-known-k c = search needs
-
-enum-told : tie.Need-enum-told
-enum-told c = search needs
-
 returns : tie.Need-returns
 returns c = sym (weighed (c .before .before) ∙ ap (weightAt (valuesIn weights)) (c .enum-told .given .1))
 
@@ -51,10 +39,10 @@ pub weight-of-spec : {M : Type 1} → statement M
 weight-of-spec =
     tie.close
     (tie.spec
-    slice-aggregate-find
-    find-requires
-    enum-known-k
-    enum-told
+    (λ c. search needs)
+    (λ c κs. search needs)
+    (λ c. search needs)
+    (λ c. search needs)
     returns
     mul-t9
     array-read-t12

@@ -16,13 +16,10 @@ returns c = sym (other-length lower _ _ (λ e. omega (arith, simp length-take at
 slice-aggregate-same-folded : tie.Need-slice-aggregate-same-folded
 slice-aggregate-same-folded c = simp length-take (omega arith)
 
-same-folded-requires : tie.Need-same-folded-requires
-same-folded-requires c κs = search needs
-
 returns-2 : tie.Need-returns-2
 unfolding beginsFolded
 returns-2 c = c .same-folded .ensures
 
 pub begins-folded-spec : {M : Type 1} → statement M
 begins-folded-spec =
-    tie.close (tie.spec returns slice-aggregate-same-folded same-folded-requires returns-2)
+    tie.close (tie.spec returns slice-aggregate-same-folded (λ c κs. search needs) returns-2)

@@ -26,24 +26,6 @@ returns c = sym (other-length lower _ _ (c .if1 .taken))
 loop-holds : tie.Need-loop-holds Inv-loop μ-loop
 loop-holds c = agree-none lower _ _ (c .if1 .left)
 
-shared-slice-read-to-lower : tie.Need-shared-slice-read-to-lower Inv-loop μ-loop
-shared-slice-read-to-lower c = omega arith
-
-to-lower-requires : tie.Need-to-lower-requires Inv-loop μ-loop
-to-lower-requires c κs = omega arith
-
-shared-slice-read-to-lower-2 : tie.Need-shared-slice-read-to-lower-2 Inv-loop μ-loop
-shared-slice-read-to-lower-2 c = omega arith
-
-to-lower-requires-2 : tie.Need-to-lower-requires-2 Inv-loop μ-loop
-to-lower-requires-2 c κs = omega arith
-
-add-i : tie.Need-add-i Inv-loop μ-loop
-add-i c = omega arith
-
-loop-less : tie.Need-loop-less Inv-loop μ-loop
-loop-less c = omega arith
-
 loop-again : tie.Need-loop-again Inv-loop μ-loop
 loop-again c =
     let y = c .before in
@@ -70,11 +52,11 @@ same-folded-spec =
     μ-loop
     returns
     loop-holds
-    shared-slice-read-to-lower
-    to-lower-requires
-    shared-slice-read-to-lower-2
-    to-lower-requires-2
-    add-i
-    loop-less
+    (λ c. omega arith)
+    (λ c κs. omega arith)
+    (λ c. omega arith)
+    (λ c κs. omega arith)
+    (λ c. omega arith)
+    (λ c. omega arith)
     loop-again
     returns-2)

@@ -16,20 +16,8 @@ use borrow.Author.Needs.{needs}
 use Rattle.formula_rows.proofs.class_row.Statement.{statement}
 use Rattle.formula_rows.proofs.class_row.Tie as tie
 
-is-missing-requires : tie.Need-is-missing-requires
-is-missing-requires c κs = search needs
-
-make-row-requires : tie.Need-make-row-requires
-make-row-requires c κs = search needs
-
 returns : tie.Need-returns
 returns c = let a = c .before .before .before .before .before .args in c .make-row .ensures ∙ sym (class-formula (now (a .formula)) (now (a .category)) (sym (c .before .before .is-missing .ensures) ∙ c .before .if1 .taken))
-
-is-missing-requires-2 : tie.Need-is-missing-requires-2
-is-missing-requires-2 c κs = search needs
-
-make-row-requires-2 : tie.Need-make-row-requires-2
-make-row-requires-2 c κs = search needs
 
 returns-2 : tie.Need-returns-2
 returns-2 c =
@@ -37,15 +25,6 @@ returns-2 c =
     let a = e1 .before .before .before .before .args in
     c .make-row2 .ensures
     ∙ sym (class-category (now (a .formula)) (now (a .category)) (sym (e1 .before .is-missing .ensures) ∙ e1 .if1 .left) (sym (c .before .before .is-missing2 .ensures) ∙ c .before .if2 .taken))
-
-text-of-requires : tie.Need-text-of-requires
-text-of-requires c κs = search needs
-
-all-recognised-requires : tie.Need-all-recognised-requires
-all-recognised-requires c κs = search needs
-
-make-row-requires-3 : tie.Need-make-row-requires-3
-make-row-requires-3 c κs = search needs
 
 returns-3 : tie.Need-returns-3
 returns-3 c =
@@ -57,21 +36,6 @@ returns-3 c =
     c .make-row3 .ensures
     ∙ sym (class-unread (now (a .formula)) (now (a .category)) (sym (e1 .before .is-missing .ensures) ∙ e1 .if1 .left) (sym (e2 .before .is-missing2 .ensures) ∙ e2 .if2 .left)
     (ap allRecognised (sym (t .text-of .ensures)) ∙ sym (e3 .before .all-recognised .ensures) ∙ not-true _ (e3 .if3 .taken)))
-
-class-of-requires : tie.Need-class-of-requires
-class-of-requires c κs = search needs
-
-text-of-requires-2 : tie.Need-text-of-requires-2
-text-of-requires-2 c κs = search needs
-
-is-in-class-requires : tie.Need-is-in-class-requires
-is-in-class-requires c κs = search needs
-
-make-row-requires-4 : tie.Need-make-row-requires-4
-make-row-requires-4 c κs = search needs
-
-make-row-requires-5 : tie.Need-make-row-requires-5
-make-row-requires-5 c κs = search needs
 
 returns-4 : tie.Need-returns-4
 returns-4 c =
@@ -109,20 +73,20 @@ pub class-row-spec : {M : Type 1} → statement M
 class-row-spec =
     tie.close
     (tie.spec
-    is-missing-requires
-    make-row-requires
+    (λ c κs. search needs)
+    (λ c κs. search needs)
     returns
-    is-missing-requires-2
-    make-row-requires-2
+    (λ c κs. search needs)
+    (λ c κs. search needs)
     returns-2
-    text-of-requires
-    all-recognised-requires
-    make-row-requires-3
+    (λ c κs. search needs)
+    (λ c κs. search needs)
+    (λ c κs. search needs)
     returns-3
-    class-of-requires
-    text-of-requires-2
-    is-in-class-requires
-    make-row-requires-4
-    make-row-requires-5
+    (λ c κs. search needs)
+    (λ c κs. search needs)
+    (λ c κs. search needs)
+    (λ c κs. search needs)
+    (λ c κs. search needs)
     returns-4
     returns-5)

@@ -5,17 +5,11 @@ use borrow.Author.Needs.{needs}
 use Rattle.formula_rows.proofs.is_either.Statement.{statement}
 use Rattle.formula_rows.proofs.is_either.Tie as tie
 
-same-requires : tie.Need-same-requires
-same-requires c κs = search needs
-
 returns : tie.Need-returns
 returns c = simp (sym (c .before .same .ensures) ∙ c .if1 .taken)
-
-same-requires-2 : tie.Need-same-requires-2
-same-requires-2 c κs = search needs
 
 returns-2 : tie.Need-returns-2
 returns-2 c = simp (sym (c .before .before .same .ensures) ∙ c .before .if1 .left, c .same2 .ensures)
 
 pub is-either-spec : {M : Type 1} → statement M
-is-either-spec = tie.close (tie.spec same-requires returns same-requires-2 returns-2)
+is-either-spec = tie.close (tie.spec (λ c κs. search needs) returns (λ c κs. search needs) returns-2)

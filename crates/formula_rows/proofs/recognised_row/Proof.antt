@@ -7,27 +7,9 @@ use borrow.Author.Needs.{needs}
 use Rattle.formula_rows.proofs.recognised_row.Statement.{statement}
 use Rattle.formula_rows.proofs.recognised_row.Tie as tie
 
-is-missing-requires : tie.Need-is-missing-requires
-is-missing-requires c κs = search needs
-
-make-row-requires : tie.Need-make-row-requires
-make-row-requires c κs = search needs
-
 returns : tie.Need-returns
 unfolding row1
 returns c = c .make-row .ensures ∙ simp (sym (c .before .before .is-missing .ensures) ∙ c .before .if1 .taken)
-
-text-of-requires : tie.Need-text-of-requires
-text-of-requires c κs = search needs
-
-all-recognised-requires : tie.Need-all-recognised-requires
-all-recognised-requires c κs = search needs
-
-make-row-requires-2 : tie.Need-make-row-requires-2
-make-row-requires-2 c κs = search needs
-
-make-row-requires-3 : tie.Need-make-row-requires-3
-make-row-requires-3 c κs = search needs
 
 returns-2 : tie.Need-returns-2
 unfolding row1
@@ -51,12 +33,12 @@ pub recognised-row-spec : {M : Type 1} → statement M
 recognised-row-spec =
     tie.close
     (tie.spec
-    is-missing-requires
-    make-row-requires
+    (λ c κs. search needs)
+    (λ c κs. search needs)
     returns
-    text-of-requires
-    all-recognised-requires
-    make-row-requires-2
-    make-row-requires-3
+    (λ c κs. search needs)
+    (λ c κs. search needs)
+    (λ c κs. search needs)
+    (λ c κs. search needs)
     returns-2
     returns-3)

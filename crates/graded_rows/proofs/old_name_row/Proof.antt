@@ -6,15 +6,6 @@ use borrow.Author.Needs.{needs}
 use Rattle.graded_rows.proofs.old_name_row.Statement.{statement}
 use Rattle.graded_rows.proofs.old_name_row.Tie as tie
 
-is-missing-requires : tie.Need-is-missing-requires
-is-missing-requires c κs = search needs
-
-make-row-requires : tie.Need-make-row-requires
-make-row-requires c κs = search needs
-
-make-row-requires-2 : tie.Need-make-row-requires-2
-make-row-requires-2 c κs = search needs
-
 returns : tie.Need-returns
 unfolding oldNameRow
 returns c = c .make-row .ensures ∙ simp (sym (c .before .before .is-missing .ensures) ∙ c .before .if1 .taken)
@@ -26,4 +17,4 @@ returns-2 c = c .make-row2 .ensures ∙ simp (sym (c .before .before .is-missing
 pub old-name-row-spec : {M : Type 1} → statement M
 old-name-row-spec =
     tie.close
-    (tie.spec is-missing-requires make-row-requires make-row-requires-2 returns returns-2)
+    (tie.spec (λ c κs. search needs) (λ c κs. search needs) (λ c κs. search needs) returns returns-2)

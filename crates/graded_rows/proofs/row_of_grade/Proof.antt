@@ -6,15 +6,6 @@ use borrow.Author.Needs.{needs}
 use Rattle.graded_rows.proofs.row_of_grade.Statement.{statement}
 use Rattle.graded_rows.proofs.row_of_grade.Tie as tie
 
-enum-known-g : tie.Need-enum-known-g
-enum-known-g c = search needs
-
-enum-told : tie.Need-enum-told
-enum-told c = search needs
-
-enum-told-2 : tie.Need-enum-told-2
-enum-told-2 c = search needs
-
 returns : tie.Need-returns
 returns c = sym (ap gradeRow (c .before .g .given .1))
 
@@ -26,4 +17,4 @@ returns-3 c = sym (ap gradeRow (c .enum-told2 .given .1))
 
 pub row-of-grade-spec : {M : Type 1} → statement M
 row-of-grade-spec =
-    tie.close (tie.spec enum-known-g enum-told enum-told-2 returns returns-2 returns-3)
+    tie.close (tie.spec (λ c. search needs) (λ c. search needs) (λ c. search needs) returns returns-2 returns-3)

@@ -19,17 +19,11 @@ returns-2 c =
     let a = c .before .before .before .args in
     sym (ap (copied (now (a .out)) (a .at)) (no-name-after (a .item) (omega arith) (c .if2 .taken)) ∙ copied-none (now (a .out)) (a .at))
 
-array-read-from : tie.Need-array-read-from
-array-read-from c = search needs
-
 cast-from : tie.Need-cast-from
 unfolding starts
 cast-from c =
     let item = c .before .before .before .args .item in
     omega (arith, item-ordered item (omega arith) (omega arith), item-within item (omega arith) (omega arith))
-
-array-read-to : tie.Need-array-read-to
-array-read-to c = search needs
 
 cast-to : tie.Need-cast-to
 unfolding starts
@@ -47,12 +41,6 @@ part-copy-in-end : tie.Need-part-copy-in-end
 unfolding starts
 part-copy-in-end c = item-within (c .before .before .before .before .before .args .item) (omega arith) (omega arith)
 
-copy-in-requires : tie.Need-copy-in-requires
-copy-in-requires c κs = search needs
-
-same-length : tie.Need-same-length
-same-length c = search needs
-
 returns-3 : tie.Need-returns-3
 unfolding flat starts
 returns-3 c =
@@ -67,13 +55,13 @@ copy-name-spec =
     (tie.spec
     returns
     returns-2
-    array-read-from
+    (λ c. search needs)
     cast-from
-    array-read-to
+    (λ c. search needs)
     cast-to
     sub-copy-in
     part-copy-in-start
     part-copy-in-end
-    copy-in-requires
-    same-length
+    (λ c κs. search needs)
+    (λ c. search needs)
     returns-3)

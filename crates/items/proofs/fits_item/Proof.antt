@@ -23,31 +23,19 @@ passed c = sym (c .before .passes-kind .ensures) ∙ not-false _ (c .if1 .left)
 known : (c : tie.Else1) → (1 ≤ c .before .before .before .args .item) × (c .before .before .before .args .item ≤ itemCount)
 known c = passes-known _ _ (passed c)
 
-passes-kind-requires : tie.Need-passes-kind-requires
-passes-kind-requires c κs = search needs
-
 returns : tie.Need-returns
 unfolding fits
 returns c = simp (sym (c .before .passes-kind .ensures) ∙ not-true _ (c .if1 .taken))
 
-is-value-requires : tie.Need-is-value-requires
-is-value-requires c κs = search needs
-
 returns-2 : tie.Need-returns-2
 unfolding fits
 returns-2 c = simp (passed (c .before .before), sym (c .before .is-value .ensures) ∙ not-true _ (c .if2 .taken))
-
-all-between-requires : tie.Need-all-between-requires
-all-between-requires c κs = search needs
 
 returns-3 : tie.Need-returns-3
 unfolding fits
 returns-3 c =
     let v = c .before .before in
     simp (passed (v .before .before), sym (v .before .is-value .ensures) ∙ not-false _ (v .if2 .left), sym (c .before .all-between .ensures) ∙ not-true _ (c .if3 .taken))
-
-name-length-requires : tie.Need-name-length-requires
-name-length-requires c κs = search needs
 
 add-result : tie.Need-add-result
 add-result c =
@@ -77,13 +65,13 @@ pub fits-item-spec : {M : Type 1} → statement M
 fits-item-spec =
     tie.close
     (tie.spec
-    passes-kind-requires
+    (λ c κs. search needs)
     returns
-    is-value-requires
+    (λ c κs. search needs)
     returns-2
-    all-between-requires
+    (λ c κs. search needs)
     returns-3
-    name-length-requires
+    (λ c κs. search needs)
     add-result
     add-result-2
     returns-4)

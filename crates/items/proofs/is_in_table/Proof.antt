@@ -8,18 +8,9 @@ use borrow.Author.Needs.{needs}
 use Rattle.items.proofs.is_in_table.Statement.{statement}
 use Rattle.items.proofs.is_in_table.Tie as tie
 
-array-read-from : tie.Need-array-read-from
-array-read-from c = search needs
-
 cast-from : tie.Need-cast-from
 unfolding starts
 cast-from c = let s = c .before in omega (arith, starts-ordered (s .args .k) (s .pre), starts-within (s .args .k) (s .pre))
-
-add-to : tie.Need-add-to
-add-to c = search needs
-
-array-read-to : tie.Need-array-read-to
-array-read-to c = search needs
 
 cast-to : tie.Need-cast-to
 unfolding starts
@@ -37,9 +28,6 @@ part-same-folded-end : tie.Need-part-same-folded-end
 unfolding starts
 part-same-folded-end c = starts-within (c .before .before .args .k) (c .before .before .pre)
 
-same-folded-requires : tie.Need-same-folded-requires
-same-folded-requires c κs = search needs
-
 returns : tie.Need-returns
 unfolding flat starts
 returns c =
@@ -50,13 +38,13 @@ pub is-in-table-spec : {M : Type 1} → statement M
 is-in-table-spec =
     tie.close
     (tie.spec
-    array-read-from
+    (λ c. search needs)
     cast-from
-    add-to
-    array-read-to
+    (λ c. search needs)
+    (λ c. search needs)
     cast-to
     sub-same-folded
     part-same-folded-start
     part-same-folded-end
-    same-folded-requires
+    (λ c κs. search needs)
     returns)

@@ -12,12 +12,6 @@ use borrow.Author.Needs.{needs}
 use Rattle.items.proofs.is_name.Statement.{statement}
 use Rattle.items.proofs.is_name.Tie as tie
 
-add-name-length : tie.Need-add-name-length
-add-name-length c = search needs
-
-name-length-requires : tie.Need-name-length-requires
-name-length-requires c κs = search needs
-
 returns : tie.Need-returns
 returns c =
     let n = c .before in
@@ -25,11 +19,5 @@ returns c =
     let name = ap (λ (l : List ℕ). length l) (name-of (k + 1) (omega arith) (omega arith)) in
     sym (other-length lower _ _ (λ e. c .if1 .taken (e ∙ sym (n .name-length .ensures ∙ name))))
 
-is-in-table-requires : tie.Need-is-in-table-requires
-is-in-table-requires c κs = search needs
-
-returns-2 : tie.Need-returns-2
-returns-2 c = search needs
-
 pub is-name-spec : {M : Type 1} → statement M
-is-name-spec = tie.close (tie.spec add-name-length name-length-requires returns is-in-table-requires returns-2)
+is-name-spec = tie.close (tie.spec (λ c. search needs) (λ c κs. search needs) returns (λ c κs. search needs) (λ c. search needs))

@@ -7,27 +7,6 @@ use borrow.Author.Needs.{needs}
 use Rattle.items.proofs.is_of_kind.Statement.{statement}
 use Rattle.items.proofs.is_of_kind.Tie as tie
 
-enum-told : tie.Need-enum-told
-enum-told c = search needs
-
-enum-told-2 : tie.Need-enum-told-2
-enum-told-2 c = search needs
-
-is-number-requires : tie.Need-is-number-requires
-is-number-requires c κs = search needs
-
-enum-told-3 : tie.Need-enum-told-3
-enum-told-3 c = search needs
-
-text-of-requires : tie.Need-text-of-requires
-text-of-requires c κs = search needs
-
-is-category-requires : tie.Need-is-category-requires
-is-category-requires c κs = search needs
-
-returns : tie.Need-returns
-returns c = search needs
-
 returns-2 : tie.Need-returns-2
 returns-2 c =
     let v = c .before .before .before .before .args .v .now in
@@ -43,12 +22,12 @@ pub is-of-kind-spec : {M : Type 1} → statement M
 is-of-kind-spec =
     tie.close
     (tie.spec
-    enum-told
-    enum-told-2
-    is-number-requires
-    enum-told-3
-    text-of-requires
-    is-category-requires
-    returns
+    (λ c. search needs)
+    (λ c. search needs)
+    (λ c κs. search needs)
+    (λ c. search needs)
+    (λ c κs. search needs)
+    (λ c κs. search needs)
+    (λ c. search needs)
     returns-2
     returns-3)

@@ -19,22 +19,10 @@ abbrev μ-loop : tie.MeasureT-loop
 loop-holds : tie.Need-loop-holds Inv-loop μ-loop
 loop-holds c = (omega arith, refl)
 
-is-name-requires : tie.Need-is-name-requires Inv-loop μ-loop
-is-name-requires c κs = omega arith
-
-add-t5 : tie.Need-add-t5 Inv-loop μ-loop
-add-t5 c = omega arith
-
 returns : tie.Need-returns Inv-loop μ-loop
 returns c =
     let l = c .before .before .before in
     sym (l .loop .inv .1 ∙ find-at _ (l .loop .k) true (omega arith) (sym (c .before .is-name .ensures) ∙ c .if1 .taken))
-
-add-k : tie.Need-add-k Inv-loop μ-loop
-add-k c = omega arith
-
-loop-less : tie.Need-loop-less Inv-loop μ-loop
-loop-less c = omega arith
 
 loop-again : tie.Need-loop-again Inv-loop μ-loop
 loop-again c =
@@ -51,10 +39,10 @@ item-named-spec =
     Inv-loop
     μ-loop
     loop-holds
-    is-name-requires
-    add-t5
+    (λ c κs. omega arith)
+    (λ c. omega arith)
     returns
-    add-k
-    loop-less
+    (λ c. omega arith)
+    (λ c. omega arith)
     loop-again
     returns-2)

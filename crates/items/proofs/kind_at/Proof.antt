@@ -9,9 +9,6 @@ use borrow.Author.Needs.{needs}
 use Rattle.items.proofs.kind_at.Statement.{statement}
 use Rattle.items.proofs.kind_at.Tie as tie
 
-array-read-letter : tie.Need-array-read-letter
-array-read-letter c = search needs
-
 returns : tie.Need-returns
 unfolding letters
 returns c = sym (is-number _ (sym (letter-at (c .before .args .k) (c .before .pre)) ∙ c .match .keys1))
@@ -27,4 +24,4 @@ returns-3 c =
     sym (is-text _ (λ h. c .match .rest .0 .1 (e ∙ h)) (λ h. c .match .rest .1 (e ∙ h)))
 
 pub kind-at-spec : {M : Type 1} → statement M
-kind-at-spec = tie.close (tie.spec array-read-letter returns returns-2 returns-3)
+kind-at-spec = tie.close (tie.spec (λ c. search needs) returns returns-2 returns-3)

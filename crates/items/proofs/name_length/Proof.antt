@@ -17,12 +17,6 @@ returns c = sym (ap (λ (l : List ℕ). length l) (no-name-before _ (c .if1 .tak
 returns-2 : tie.Need-returns-2
 returns-2 c = sym (ap (λ (l : List ℕ). length l) (no-name-after _ (omega arith) (c .if2 .taken)))
 
-array-read-result : tie.Need-array-read-result
-array-read-result c = search needs
-
-array-read-result-2 : tie.Need-array-read-result-2
-array-read-result-2 c = search needs
-
 sub-result : tie.Need-sub-result
 unfolding starts
 sub-result c = item-ordered (c .before .before .args .item) (omega arith) (omega arith)
@@ -36,4 +30,4 @@ unfolding starts
 returns-3 c = item-length _ (omega arith) (omega arith)
 
 pub name-length-spec : {M : Type 1} → statement M
-name-length-spec = tie.close (tie.spec returns returns-2 array-read-result array-read-result-2 sub-result cast-result returns-3)
+name-length-spec = tie.close (tie.spec returns returns-2 (λ c. search needs) (λ c. search needs) sub-result cast-result returns-3)

@@ -18,20 +18,11 @@ returns-2 : tie.Need-returns-2
 unfolding passes
 returns-2 c = simp (le-leb _ _ (c .before .if1 .left), lt-leb _ _ (c .if2 .taken))
 
-is-unassigned-requires : tie.Need-is-unassigned-requires
-is-unassigned-requires c κs = search needs
-
 returns-3 : tie.Need-returns-3
 unfolding passes
 returns-3 c =
     let k = c .before .before in
     simp (le-leb _ _ (k .before .if1 .left), le-leb _ _ (k .if2 .left), sym (c .before .is-unassigned .ensures) ∙ c .if3 .taken)
-
-kind-at-requires : tie.Need-kind-at-requires
-kind-at-requires c κs = search needs
-
-is-of-kind-requires : tie.Need-is-of-kind-requires
-is-of-kind-requires c κs = search needs
 
 returns-4 : tie.Need-returns-4
 unfolding passes
@@ -51,8 +42,8 @@ passes-kind-spec =
     (tie.spec
     returns
     returns-2
-    is-unassigned-requires
+    (λ c κs. search needs)
     returns-3
-    kind-at-requires
-    is-of-kind-requires
+    (λ c κs. search needs)
+    (λ c κs. search needs)
     returns-4)

@@ -7,36 +7,6 @@ use borrow.Author.Needs.{needs}
 use Rattle.levels.proofs.grade.Statement.{statement}
 use Rattle.levels.proofs.grade.Tie as tie
 
-judged-requires : tie.Need-judged-requires
-judged-requires c κs = search needs
-
-mul-bound : tie.Need-mul-bound
-mul-bound c = search needs
-
-bound-requires : tie.Need-bound-requires
-bound-requires c κs = search needs
-
-mul-bound-2 : tie.Need-mul-bound-2
-mul-bound-2 c = search needs
-
-add-bound : tie.Need-add-bound
-add-bound c = search needs
-
-bound-requires-2 : tie.Need-bound-requires-2
-bound-requires-2 c κs = search needs
-
-mul-bound-3 : tie.Need-mul-bound-3
-mul-bound-3 c = search needs
-
-add-bound-2 : tie.Need-add-bound-2
-add-bound-2 c = search needs
-
-bound-requires-3 : tie.Need-bound-requires-3
-bound-requires-3 c κs = search needs
-
-level-requires : tie.Need-level-requires
-level-requires c κs = search needs
-
 returns : tie.Need-returns
 unfolding gradeOf
 returns c =
@@ -54,14 +24,14 @@ pub grade-spec : {M : Type 1} → statement M
 grade-spec =
     tie.close
     (tie.spec
-    judged-requires
-    mul-bound
-    bound-requires
-    mul-bound-2
-    add-bound
-    bound-requires-2
-    mul-bound-3
-    add-bound-2
-    bound-requires-3
-    level-requires
+    (λ c κs. search needs)
+    (λ c. search needs)
+    (λ c κs. search needs)
+    (λ c. search needs)
+    (λ c. search needs)
+    (λ c κs. search needs)
+    (λ c. search needs)
+    (λ c. search needs)
+    (λ c κs. search needs)
+    (λ c κs. search needs)
     returns)

@@ -34,29 +34,11 @@ read c = sym (c .before .before .read-number .ensures) ∙ c .v .given .1
 small : (c : tie.After-v) → mag (c .v .given .0 .0) < 2 ^ 62
 small c = let h = number-small _ _ (read c) in omega arith
 
-place-of-requires : tie.Need-place-of-requires
-place-of-requires c κs = search needs
-
-enum-known-place : tie.Need-enum-known-place
-enum-known-place c = search needs
-
-enum-told : tie.Need-enum-told
-enum-told c = search needs
-
 returns : tie.Need-returns
 unfolding gradedOf
 returns c =
     let s = c .before .before .before .before in
     sym (ap (λ (p : Place). placedGrade p (s .args .typed .now)) (sym (c .before .before .place-of .ensures) ∙ c .enum-told .given .1))
-
-read-number-requires : tie.Need-read-number-requires
-read-number-requires c κs = search needs
-
-enum-known-v : tie.Need-enum-known-v
-enum-known-v c = search needs
-
-enum-told-2 : tie.Need-enum-told-2
-enum-told-2 c = search needs
 
 returns-2 : tie.Need-returns-2
 returns-2 c =
@@ -83,13 +65,13 @@ pub grade-value-spec : {M : Type 1} → statement M
 grade-value-spec =
     tie.close
     (tie.spec
-    place-of-requires
-    enum-known-place
-    enum-told
+    (λ c κs. search needs)
+    (λ c. search needs)
+    (λ c. search needs)
     returns
-    read-number-requires
-    enum-known-v
-    enum-told-2
+    (λ c κs. search needs)
+    (λ c. search needs)
+    (λ c. search needs)
     returns-2
     grade-requires
     returns-3)

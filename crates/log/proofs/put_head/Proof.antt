@@ -9,18 +9,6 @@ use borrow.Author.Needs.{needs}
 use Rattle.log.proofs.put_head.Statement.{statement}
 use Rattle.log.proofs.put_head.Tie as tie
 
-add-all : tie.Need-add-all
-add-all c = search needs
-
-cast-free : tie.Need-cast-free
-cast-free c = search needs
-
-slice-write-free : tie.Need-slice-write-free
-slice-write-free c = search needs
-
-cast-free-2 : tie.Need-cast-free-2
-cast-free-2 c = search needs
-
 slice-write-free-2 : tie.Need-slice-write-free-2
 slice-write-free-2 c = simp length-set (omega arith)
 
@@ -33,12 +21,6 @@ slice-write-free-4 c = simp length-set (omega arith)
 slice-write-free-5 : tie.Need-slice-write-free-5
 slice-write-free-5 c = simp length-set (omega arith)
 
-slice-write-free-6 : tie.Need-slice-write-free-6
-slice-write-free-6 c = search needs
-
-same-length : tie.Need-same-length
-same-length c = search needs
-
 returns : tie.Need-returns
 returns c =
     let a = c .args in
@@ -48,14 +30,14 @@ pub put-head-spec : {M : Type 1} → statement M
 put-head-spec =
     tie.close
     (tie.spec
-    add-all
-    cast-free
-    slice-write-free
-    cast-free-2
+    (λ c. search needs)
+    (λ c. search needs)
+    (λ c. search needs)
+    (λ c. search needs)
     slice-write-free-2
     slice-write-free-3
     slice-write-free-4
     slice-write-free-5
-    slice-write-free-6
-    same-length
+    (λ c. search needs)
+    (λ c. search needs)
     returns)

@@ -14,9 +14,6 @@ use borrow.Author.Needs.{needs}
 use Rattle.log.proofs.write_record.Statement.{statement}
 use Rattle.log.proofs.write_record.Tie as tie
 
-sub-if1 : tie.Need-sub-if1
-sub-if1 c = search needs
-
 returns : tie.Need-returns
 unfolding writtenOf freeAfter
 returns c =
@@ -24,27 +21,12 @@ returns c =
     let no = too-long (now (a .free)) (now (a .value)) (omega arith) in
     (simp no, simp no)
 
-add-if2 : tie.Need-add-if2
-add-if2 c = search needs
-
 returns-2 : tie.Need-returns-2
 unfolding writtenOf freeAfter
 returns-2 c =
     let a = c .before .before .before .before .args in
     let no = too-little (now (a .free)) (now (a .value)) (omega arith) in
     (simp no, simp no)
-
-put-head-requires : tie.Need-put-head-requires
-put-head-requires c κs = search needs
-
-copy-in-requires : tie.Need-copy-in-requires
-copy-in-requires c κs = search needs
-
-add-t6 : tie.Need-add-t6
-add-t6 c = search needs
-
-same-length : tie.Need-same-length
-same-length c = search needs
 
 returns-3 : tie.Need-returns-3
 unfolding writtenOf freeAfter
@@ -62,12 +44,12 @@ pub write-record-spec : {M : Type 1} → statement M
 write-record-spec =
     tie.close
     (tie.spec
-    sub-if1
+    (λ c. search needs)
     returns
-    add-if2
+    (λ c. search needs)
     returns-2
-    put-head-requires
-    copy-in-requires
-    add-t6
-    same-length
+    (λ c κs. search needs)
+    (λ c κs. search needs)
+    (λ c. search needs)
+    (λ c. search needs)
     returns-3)

@@ -24,9 +24,6 @@ Inv-loop calls n log₀ out₀ d₀ used₀ i₀ log out d used i = (i ≤ n) ×
 abbrev μ-loop : tie.MeasureT-loop
 μ-loop calls n log₀ out₀ d₀ used₀ i₀ log out d used i = n - i
 
-fresh-desk-requires : tie.Need-fresh-desk-requires Inv-loop μ-loop
-fresh-desk-requires c κs = search needs
-
 loop-holds : tie.Need-loop-holds Inv-loop μ-loop
 loop-holds c =
     let a = c .before .before .before .before .args in
@@ -39,35 +36,8 @@ loop-holds c =
           (ap (λ (d : Desk). stateOf d 0 log) (c .fresh-desk .ensures)) (ap (λ (k : ℕ). callsIn k calls) e),
     )
 
-mul-at : tie.Need-mul-at Inv-loop μ-loop
-mul-at c = omega arith
-
-sub-play-call : tie.Need-sub-play-call Inv-loop μ-loop
-sub-play-call c = omega arith
-
-part-play-call-start : tie.Need-part-play-call-start Inv-loop μ-loop
-part-play-call-start c = omega arith
-
-part-play-call-end : tie.Need-part-play-call-end Inv-loop μ-loop
-part-play-call-end c = omega arith
-
 play-call-requires : tie.Need-play-call-requires Inv-loop μ-loop
 play-call-requires c κs = simp (length-take, length-drop) (omega arith)
-
-mul-copy-in : tie.Need-mul-copy-in Inv-loop μ-loop
-mul-copy-in c = omega arith
-
-slice-aggregate-copy-in : tie.Need-slice-aggregate-copy-in Inv-loop μ-loop
-slice-aggregate-copy-in c = search needs
-
-copy-in-requires : tie.Need-copy-in-requires Inv-loop μ-loop
-copy-in-requires c κs = search needs
-
-add-i : tie.Need-add-i Inv-loop μ-loop
-add-i c = omega arith
-
-loop-less : tie.Need-loop-less Inv-loop μ-loop
-loop-less c = omega arith
 
 loop-again : tie.Need-loop-again Inv-loop μ-loop
 loop-again c =
@@ -87,12 +57,6 @@ loop-again c =
           (l .loop .inv .2) (calls-next calls (a .n) (l .loop .i) (omega arith)) (ap (λ (o : One). o .state) e) (ap (λ (o : One). o .reply) e) long (omega (arith, start .pre .1)) (w .copy-in .ensures),
     )
 
-same-length : tie.Need-same-length Inv-loop μ-loop
-same-length c = omega arith
-
-same-length-2 : tie.Need-same-length-2 Inv-loop μ-loop
-same-length-2 c = omega arith
-
 returns : tie.Need-returns Inv-loop μ-loop
 returns c =
     let l = c .before in
@@ -109,19 +73,19 @@ answer-calls-spec =
     (tie.spec
     Inv-loop
     μ-loop
-    fresh-desk-requires
+    (λ c κs. search needs)
     loop-holds
-    mul-at
-    sub-play-call
-    part-play-call-start
-    part-play-call-end
+    (λ c. omega arith)
+    (λ c. omega arith)
+    (λ c. omega arith)
+    (λ c. omega arith)
     play-call-requires
-    mul-copy-in
-    slice-aggregate-copy-in
-    copy-in-requires
-    add-i
-    loop-less
+    (λ c. omega arith)
+    (λ c. search needs)
+    (λ c κs. search needs)
+    (λ c. omega arith)
+    (λ c. omega arith)
     loop-again
-    same-length
-    same-length-2
+    (λ c. omega arith)
+    (λ c. omega arith)
     returns)

@@ -17,9 +17,6 @@ returns : tie.Need-returns
 unfolding playOf
 returns c = simp (ne-eqb _ 0 (c .if1 .taken))
 
-are-kinds-requires : tie.Need-are-kinds-requires
-are-kinds-requires c κs = search needs
-
 returns-2 : tie.Need-returns-2
 unfolding playOf
 returns-2 c =
@@ -40,21 +37,6 @@ returns-4 c =
     let a = k .before .before .before .before .before .args in
     simp (eq-eqb _ 0 (k .before .if1 .left), sym (k .are-kinds .ensures) ∙ not-false _ (c .before .before .if2 .left), lt-leb (writtenLength (callCount (now (a .calls)))) (length (now (a .out))) (omega arith))
 
-play-fitting-requires : tie.Need-play-fitting-requires
-play-fitting-requires c κs = search needs
-
-mul-t7 : tie.Need-mul-t7
-mul-t7 c = search needs
-
-add-t10 : tie.Need-add-t10
-add-t10 c = search needs
-
-same-length : tie.Need-same-length
-same-length c = search needs
-
-same-length-2 : tie.Need-same-length-2
-same-length-2 c = search needs
-
 returns-5 : tie.Need-returns-5
 unfolding playOf
 returns-5 c =
@@ -72,13 +54,13 @@ play-calls-spec =
     tie.close
     (tie.spec
     returns
-    are-kinds-requires
+    (λ c κs. search needs)
     returns-2
     returns-3
     returns-4
-    play-fitting-requires
-    mul-t7
-    add-t10
-    same-length
-    same-length-2
+    (λ c κs. search needs)
+    (λ c. search needs)
+    (λ c. search needs)
+    (λ c. search needs)
+    (λ c. search needs)
     returns-5)

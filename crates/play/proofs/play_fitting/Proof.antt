@@ -8,21 +8,6 @@ use borrow.Author.Needs.{needs}
 use Rattle.play.proofs.play_fitting.Statement.{statement}
 use Rattle.play.proofs.play_fitting.Tie as tie
 
-answer-calls-requires : tie.Need-answer-calls-requires
-answer-calls-requires c κs = search needs
-
-mul-put-desk : tie.Need-mul-put-desk
-mul-put-desk c = search needs
-
-put-desk-requires : tie.Need-put-desk-requires
-put-desk-requires c κs = search needs
-
-same-length : tie.Need-same-length
-same-length c = search needs
-
-same-length-2 : tie.Need-same-length-2
-same-length-2 c = search needs
-
 returns : tie.Need-returns
 returns c =
     let p = c .before .before in
@@ -35,9 +20,9 @@ pub play-fitting-spec : {M : Type 1} → statement M
 play-fitting-spec =
     tie.close
     (tie.spec
-    answer-calls-requires
-    mul-put-desk
-    put-desk-requires
-    same-length
-    same-length-2
+    (λ c κs. search needs)
+    (λ c. search needs)
+    (λ c κs. search needs)
+    (λ c. search needs)
+    (λ c. search needs)
     returns)

@@ -6,18 +6,6 @@ use borrow.Author.Needs.{needs}
 use Rattle.play.proofs.play_sequence.Statement.{statement}
 use Rattle.play.proofs.play_sequence.Tie as tie
 
-play-calls-requires : tie.Need-play-calls-requires
-play-calls-requires c κs = search needs
-
-result-of-requires : tie.Need-result-of-requires
-result-of-requires c κs = search needs
-
-same-length : tie.Need-same-length
-same-length c = search needs
-
-same-length-2 : tie.Need-same-length-2
-same-length-2 c = search needs
-
 returns : tie.Need-returns
 returns c =
     let p = c .before .before .before .before .before in
@@ -25,4 +13,4 @@ returns c =
 
 pub play-sequence-spec : {M : Type 1} → statement M
 play-sequence-spec =
-    tie.close (tie.spec play-calls-requires result-of-requires same-length same-length-2 returns)
+    tie.close (tie.spec (λ c κs. search needs) (λ c κs. search needs) (λ c. search needs) (λ c. search needs) returns)

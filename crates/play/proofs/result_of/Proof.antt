@@ -6,18 +6,6 @@ use borrow.Author.Needs.{needs}
 use Rattle.play.proofs.result_of.Statement.{statement}
 use Rattle.play.proofs.result_of.Tie as tie
 
-enum-known-p : tie.Need-enum-known-p
-enum-known-p c = search needs
-
-enum-told : tie.Need-enum-told
-enum-told c = search needs
-
-enum-told-2 : tie.Need-enum-told-2
-enum-told-2 c = search needs
-
-enum-told-3 : tie.Need-enum-told-3
-enum-told-3 c = search needs
-
 returns : tie.Need-returns
 returns c = sym (ap resultOf (c .before .p .given .1))
 
@@ -33,4 +21,4 @@ returns-4 c = sym (ap resultOf (c .enum-told3 .given .1))
 pub result-of-spec : {M : Type 1} → statement M
 result-of-spec =
     tie.close
-    (tie.spec enum-known-p enum-told enum-told-2 enum-told-3 returns returns-2 returns-3 returns-4)
+    (tie.spec (λ c. search needs) (λ c. search needs) (λ c. search needs) (λ c. search needs) returns returns-2 returns-3 returns-4)

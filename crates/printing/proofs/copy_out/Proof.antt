@@ -36,12 +36,6 @@ array-share-prefix-bytes c = omega (arith, long (c .before .before .before .befo
 slice-aggregate-copy-in : tie.Need-slice-aggregate-copy-in
 slice-aggregate-copy-in c = sym (size (c .before .before .before .before .before))
 
-copy-in-requires : tie.Need-copy-in-requires
-copy-in-requires c κs = search needs
-
-same-length : tie.Need-same-length
-same-length c = search needs
-
 returns-2 : tie.Need-returns-2
 unfolding printedIn outAfter
 returns-2 c =
@@ -60,6 +54,6 @@ copy-out-spec =
     returns
     array-share-prefix-bytes
     slice-aggregate-copy-in
-    copy-in-requires
-    same-length
+    (λ c κs. search needs)
+    (λ c. search needs)
     returns-2)

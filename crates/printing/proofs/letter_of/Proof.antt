@@ -9,9 +9,6 @@ use borrow.Author.Needs.{needs}
 use Rattle.printing.proofs.letter_of.Statement.{statement}
 use Rattle.printing.proofs.letter_of.Tie as tie
 
-array-read-result : tie.Need-array-read-result
-array-read-result c = search needs
-
 returns : tie.Need-returns
 returns c = entry (λ (k : ℕ). getD (bytes "-GCBA") k 63) 0 5 (c .before .args .level) (c .if1 .taken)
 
@@ -19,4 +16,4 @@ returns-2 : tie.Need-returns-2
 returns-2 c = sym (List·getD-eq-default (bytes "-GCBA") 63 {n = c .before .args .level} (c .if1 .left))
 
 pub letter-of-spec : {M : Type 1} → statement M
-letter-of-spec = tie.close (tie.spec array-read-result returns returns-2)
+letter-of-spec = tie.close (tie.spec (λ c. search needs) returns returns-2)

@@ -8,15 +8,6 @@ use borrow.Author.Needs.{needs}
 use Rattle.printing.proofs.print_report.Statement.{statement}
 use Rattle.printing.proofs.print_report.Tie as tie
 
-report-page-requires : tie.Need-report-page-requires
-report-page-requires c κs = search needs
-
-copy-out-requires : tie.Need-copy-out-requires
-copy-out-requires c κs = search needs
-
-same-length : tie.Need-same-length
-same-length c = search needs
-
 returns : tie.Need-returns
 returns c =
     let k = c .before .before in
@@ -26,4 +17,4 @@ returns c =
     (k .copy-out .ensures .0 ∙ ap (printedIn out) text, k .copy-out .ensures .1 ∙ ap (outAfter out) text, omega arith)
 
 pub print-report-spec : {M : Type 1} → statement M
-print-report-spec = tie.close (tie.spec report-page-requires copy-out-requires same-length returns)
+print-report-spec = tie.close (tie.spec (λ c κs. search needs) (λ c κs. search needs) (λ c. search needs) returns)

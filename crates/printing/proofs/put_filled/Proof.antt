@@ -8,52 +8,10 @@ use borrow.Author.Needs.{needs}
 use Rattle.printing.proofs.put_filled.Statement.{statement}
 use Rattle.printing.proofs.put_filled.Tie as tie
 
-slice-aggregate-put : tie.Need-slice-aggregate-put
-slice-aggregate-put c = search needs
-
-put-requires : tie.Need-put-requires
-put-requires c κs = search needs
-
-add-put-two-digits : tie.Need-add-put-two-digits
-add-put-two-digits c = search needs
-
-put-two-digits-requires : tie.Need-put-two-digits-requires
-put-two-digits-requires c κs = search needs
-
-slice-aggregate-put-2 : tie.Need-slice-aggregate-put-2
-slice-aggregate-put-2 c = search needs
-
-put-requires-2 : tie.Need-put-requires-2
-put-requires-2 c κs = search needs
-
-wide-requires : tie.Need-wide-requires
-wide-requires c κs = search needs
-
-put-decimal-requires : tie.Need-put-decimal-requires
-put-decimal-requires c κs = search needs
-
-slice-aggregate-put-3 : tie.Need-slice-aggregate-put-3
-slice-aggregate-put-3 c = search needs
-
-put-requires-3 : tie.Need-put-requires-3
-put-requires-3 c κs = search needs
-
-put-decimal-requires-2 : tie.Need-put-decimal-requires-2
-put-decimal-requires-2 c κs = search needs
-
-slice-aggregate-put-4 : tie.Need-slice-aggregate-put-4
-slice-aggregate-put-4 c = search needs
-
-put-requires-4 : tie.Need-put-requires-4
-put-requires-4 c κs = search needs
-
 put-value-requires : tie.Need-put-value-requires
 put-value-requires c κs =
     let c₃ = c .before .before .before .before .before .before .before in
     omega arith
-
-slice-aggregate-put-5 : tie.Need-slice-aggregate-put-5
-slice-aggregate-put-5 c = search needs
 
 put-requires-5 : tie.Need-put-requires-5
 put-requires-5 c κs =
@@ -88,20 +46,20 @@ pub put-filled-spec : {M : Type 1} → statement M
 put-filled-spec =
     tie.close
     (tie.spec
-    slice-aggregate-put
-    put-requires
-    add-put-two-digits
-    put-two-digits-requires
-    slice-aggregate-put-2
-    put-requires-2
-    wide-requires
-    put-decimal-requires
-    slice-aggregate-put-3
-    put-requires-3
-    put-decimal-requires-2
-    slice-aggregate-put-4
-    put-requires-4
+    (λ c. search needs)
+    (λ c κs. search needs)
+    (λ c. search needs)
+    (λ c κs. search needs)
+    (λ c. search needs)
+    (λ c κs. search needs)
+    (λ c κs. search needs)
+    (λ c κs. search needs)
+    (λ c. search needs)
+    (λ c κs. search needs)
+    (λ c κs. search needs)
+    (λ c. search needs)
+    (λ c κs. search needs)
     put-value-requires
-    slice-aggregate-put-5
+    (λ c. search needs)
     put-requires-5
     returns)

@@ -18,9 +18,6 @@ returns c =
     let none : itemLine (a .k + 1) (a .item) ≡ [] = simp (eq-eqb _ _ (c .if1 .taken)) in
     (adds-as (sym none) (adds-none (a .p)), omega arith)
 
-put-filled-requires : tie.Need-put-filled-requires
-put-filled-requires c κs = search needs
-
 returns-2 : tie.Need-returns-2
 unfolding itemLine
 returns-2 c =
@@ -29,4 +26,4 @@ returns-2 c =
     (adds-as (sym one) (c .put-filled .ensures .0), c .put-filled .ensures .1)
 
 pub put-item-spec : {M : Type 1} → statement M
-put-item-spec = tie.close (tie.spec returns put-filled-requires returns-2)
+put-item-spec = tie.close (tie.spec returns (λ c κs. search needs) returns-2)

@@ -23,21 +23,6 @@ ten c = sym (length-map (c .args .t2 .items) _) ∙ c .good .1 .0 .1 .1 .0 .1 .0
 loop-holds : tie.Need-loop-holds Inv-loop μ-loop
 loop-holds c = (omega arith, omega arith, listed-none _ _ _)
 
-mul-item : tie.Need-mul-item Inv-loop μ-loop
-mul-item c = omega arith
-
-element-copy-out-item : tie.Need-element-copy-out-item Inv-loop μ-loop
-element-copy-out-item c = search needs
-
-put-item-requires : tie.Need-put-item-requires Inv-loop μ-loop
-put-item-requires c κs = omega arith
-
-add-i : tie.Need-add-i Inv-loop μ-loop
-add-i c = omega arith
-
-loop-less : tie.Need-loop-less Inv-loop μ-loop
-loop-less c = omega arith
-
 loop-again : tie.Need-loop-again Inv-loop μ-loop
 loop-again c =
     let l = c .before .before .before .loop in
@@ -59,10 +44,10 @@ put-items-spec =
     Inv-loop
     μ-loop
     loop-holds
-    mul-item
-    element-copy-out-item
-    put-item-requires
-    add-i
-    loop-less
+    (λ c. omega arith)
+    (λ c. search needs)
+    (λ c κs. omega arith)
+    (λ c. omega arith)
+    (λ c. omega arith)
     loop-again
     returns)

@@ -11,21 +11,6 @@ use borrow.Author.Needs.{needs}
 use Rattle.printing.proofs.put_name.Statement.{statement}
 use Rattle.printing.proofs.put_name.Tie as tie
 
-mul-from : tie.Need-mul-from
-mul-from c = search needs
-
-array-read-from : tie.Need-array-read-from
-array-read-from c = search needs
-
-add-to : tie.Need-add-to
-add-to c = search needs
-
-mul-to : tie.Need-mul-to
-mul-to c = search needs
-
-array-read-to : tie.Need-array-read-to
-array-read-to c = search needs
-
 sub-put : tie.Need-sub-put
 unfolding starts
 sub-put c = starts-ordered (c .args .k) (c .pre .1)
@@ -58,11 +43,11 @@ pub put-name-spec : {M : Type 1} → statement M
 put-name-spec =
     tie.close
     (tie.spec
-    mul-from
-    array-read-from
-    add-to
-    mul-to
-    array-read-to
+    (λ c. search needs)
+    (λ c. search needs)
+    (λ c. search needs)
+    (λ c. search needs)
+    (λ c. search needs)
     sub-put
     part-put-start
     part-put-end

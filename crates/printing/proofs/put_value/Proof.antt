@@ -12,9 +12,6 @@ use Rattle.printing.proofs.put_value.Tie as tie
 long : (c : tie.Start) → length (c .args .item .value) ≡ 80
 long c = search needs
 
-slice-aggregate-put : tie.Need-slice-aggregate-put
-slice-aggregate-put c = search needs
-
 put-requires : tie.Need-put-requires
 put-requires c κs = omega (arith, long (c .before .before .before))
 
@@ -46,7 +43,7 @@ pub put-value-spec : {M : Type 1} → statement M
 put-value-spec =
     tie.close
     (tie.spec
-    slice-aggregate-put
+    (λ c. search needs)
     put-requires
     returns
     array-share-prefix-value

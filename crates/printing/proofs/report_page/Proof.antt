@@ -12,24 +12,6 @@ use borrow.Author.Needs.{needs}
 use Rattle.printing.proofs.report_page.Statement.{statement}
 use Rattle.printing.proofs.report_page.Tie as tie
 
-report-requires : tie.Need-report-requires
-report-requires c κs = search needs
-
-empty-page-requires : tie.Need-empty-page-requires
-empty-page-requires c κs = search needs
-
-slice-aggregate-put : tie.Need-slice-aggregate-put
-slice-aggregate-put c = search needs
-
-put-requires : tie.Need-put-requires
-put-requires c κs = search needs
-
-put-rows-requires : tie.Need-put-rows-requires
-put-rows-requires c κs = search needs
-
-put-items-requires : tie.Need-put-items-requires
-put-items-requires c κs = search needs
-
 returns : tie.Need-returns
 unfolding printedOf
 returns c =
@@ -49,10 +31,10 @@ pub report-page-spec : {M : Type 1} → statement M
 report-page-spec =
     tie.close
     (tie.spec
-    report-requires
-    empty-page-requires
-    slice-aggregate-put
-    put-requires
-    put-rows-requires
-    put-items-requires
+    (λ c κs. search needs)
+    (λ c κs. search needs)
+    (λ c. search needs)
+    (λ c κs. search needs)
+    (λ c κs. search needs)
+    (λ c κs. search needs)
     returns)

@@ -6,15 +6,6 @@ use borrow.Author.Needs.{needs}
 use Rattle.probe.proofs.probe_item.Statement.{statement}
 use Rattle.probe.proofs.probe_item.Tie as tie
 
-item-named-requires : tie.Need-item-named-requires
-item-named-requires c κs = search needs
-
-enum-known-item : tie.Need-enum-known-item
-enum-known-item c = search needs
-
-enum-told : tie.Need-enum-told
-enum-told c = search needs
-
 returns : tie.Need-returns
 returns c = sym (ap itemTold (sym (c .before .before .item-named .ensures) ∙ c .enum-told .given .1))
 
@@ -23,4 +14,4 @@ returns-2 c = sym (ap itemTold (sym (c .before .before .before .item-named .ensu
 
 pub probe-item-spec : {M : Type 1} → statement M
 probe-item-spec =
-    tie.close (tie.spec item-named-requires enum-known-item enum-told returns returns-2)
+    tie.close (tie.spec (λ c κs. search needs) (λ c. search needs) (λ c. search needs) returns returns-2)

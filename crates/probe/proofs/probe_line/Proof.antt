@@ -6,15 +6,6 @@ use borrow.Author.Needs.{needs}
 use Rattle.probe.proofs.probe_line.Statement.{statement}
 use Rattle.probe.proofs.probe_line.Tie as tie
 
-split-line-requires : tie.Need-split-line-requires
-split-line-requires c κs = search needs
-
-enum-known-name : tie.Need-enum-known-name
-enum-known-name c = search needs
-
-enum-told : tie.Need-enum-told
-enum-told c = search needs
-
 returns : tie.Need-returns
 returns c = sym (ap lineTold (sym (c .before .before .split-line .ensures) ∙ c .enum-told .given .1))
 
@@ -23,4 +14,4 @@ returns-2 c = sym (ap lineTold (sym (c .before .before .before .split-line .ensu
 
 pub probe-line-spec : {M : Type 1} → statement M
 probe-line-spec =
-    tie.close (tie.spec split-line-requires enum-known-name enum-told returns returns-2)
+    tie.close (tie.spec (λ c κs. search needs) (λ c. search needs) (λ c. search needs) returns returns-2)

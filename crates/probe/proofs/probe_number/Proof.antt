@@ -19,15 +19,6 @@ use Rattle.probe.proofs.probe_number.Tie as tie
 told : {y z : ℤ} → y ≡ z → _≡_ {A = ProbeNumber} (record { millionths = y; found = 1 }) (record { millionths = z; found = 1 })
 told e = λ i. record { millionths = e i; found = 1 }
 
-read-number-requires : tie.Need-read-number-requires
-read-number-requires c κs = search needs
-
-enum-known-millionths : tie.Need-enum-known-millionths
-enum-known-millionths c = search needs
-
-enum-told : tie.Need-enum-told
-enum-told c = search needs
-
 returns : tie.Need-returns
 returns c = sym (ap numberTold (sym (c .before .before .read-number .ensures) ∙ c .enum-told .given .1))
 
@@ -40,4 +31,4 @@ returns-2 c =
 
 pub probe-number-spec : {M : Type 1} → statement M
 probe-number-spec =
-    tie.close (tie.spec read-number-requires enum-known-millionths enum-told returns returns-2)
+    tie.close (tie.spec (λ c κs. search needs) (λ c. search needs) (λ c. search needs) returns returns-2)

@@ -6,24 +6,15 @@ use borrow.Author.Needs.{needs}
 use Rattle.probe.proofs.probe_value.Statement.{statement}
 use Rattle.probe.proofs.probe_value.Tie as tie
 
-is-unassigned-requires : tie.Need-is-unassigned-requires
-is-unassigned-requires c κs = search needs
-
 returns : tie.Need-returns
 unfolding formTold
 returns c = simp (sym (c .before .is-unassigned .ensures) ∙ c .if1 .taken)
-
-is-quoted-requires : tie.Need-is-quoted-requires
-is-quoted-requires c κs = search needs
 
 returns-2 : tie.Need-returns-2
 unfolding formTold
 returns-2 c =
     let k = c .before .before in
     simp (sym (k .before .is-unassigned .ensures) ∙ k .if1 .left, sym (c .before .is-quoted .ensures) ∙ c .if2 .taken)
-
-is-value-requires : tie.Need-is-value-requires
-is-value-requires c κs = search needs
 
 returns-3 : tie.Need-returns-3
 unfolding formTold
@@ -43,10 +34,10 @@ pub probe-value-spec : {M : Type 1} → statement M
 probe-value-spec =
     tie.close
     (tie.spec
-    is-unassigned-requires
+    (λ c κs. search needs)
     returns
-    is-quoted-requires
+    (λ c κs. search needs)
     returns-2
-    is-value-requires
+    (λ c κs. search needs)
     returns-3
     returns-4)

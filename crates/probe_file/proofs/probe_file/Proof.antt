@@ -8,19 +8,10 @@ use borrow.Author.Needs.{needs}
 use Rattle.probe_file.proofs.probe_file.Statement.{statement}
 use Rattle.probe_file.proofs.probe_file.Tie as tie
 
-write-file-requires : tie.Need-write-file-requires
-write-file-requires c κs = search needs
-
-file-number-requires : tie.Need-file-number-requires
-file-number-requires c κs = search needs
-
-same-length : tie.Need-same-length
-same-length c = search needs
-
 returns : tie.Need-returns
 returns c =
     let k = c .before .before .before in
     simp (c .file-number .ensures) (ap numbered (k .write-file .ensures))
 
 pub probe-file-spec : {M : Type 1} → statement M
-probe-file-spec = tie.close (tie.spec write-file-requires file-number-requires same-length returns)
+probe-file-spec = tie.close (tie.spec (λ c κs. search needs) (λ c κs. search needs) (λ c. search needs) returns)

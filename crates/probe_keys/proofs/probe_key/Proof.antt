@@ -8,19 +8,10 @@ use borrow.Author.Needs.{needs}
 use Rattle.probe_keys.proofs.probe_key.Statement.{statement}
 use Rattle.probe_keys.proofs.probe_key.Tie as tie
 
-key-requires : tie.Need-key-requires
-key-requires c κs = search needs
-
-answer-number-requires : tie.Need-answer-number-requires
-answer-number-requires c κs = search needs
-
-same-length : tie.Need-same-length
-same-length c = search needs
-
 returns : tie.Need-returns
 returns c =
     let k = c .before .before .before .before in
     simp (c .answer-number .ensures) (ap numbered (k .key .ensures))
 
 pub probe-key-spec : {M : Type 1} → statement M
-probe-key-spec = tie.close (tie.spec key-requires answer-number-requires same-length returns)
+probe-key-spec = tie.close (tie.spec (λ c κs. search needs) (λ c κs. search needs) (λ c. search needs) returns)

@@ -10,12 +10,9 @@ returns : tie.Need-returns
 unfolding missing
 returns c = simp (eq-eqb _ 0 (c .if1 .taken))
 
-is-unassigned-requires : tie.Need-is-unassigned-requires
-is-unassigned-requires c κs = search needs
-
 returns-2 : tie.Need-returns-2
 unfolding missing
 returns-2 c = simp (ne-eqb _ 0 (c .before .if1 .left), c .is-unassigned .ensures)
 
 pub is-missing-spec : {M : Type 1} → statement M
-is-missing-spec = tie.close (tie.spec returns is-unassigned-requires returns-2)
+is-missing-spec = tie.close (tie.spec returns (λ c κs. search needs) returns-2)

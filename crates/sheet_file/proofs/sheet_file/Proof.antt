@@ -10,24 +10,6 @@ use borrow.Author.Needs.{needs}
 use Rattle.sheet_file.proofs.sheet_file.Statement.{statement}
 use Rattle.sheet_file.proofs.sheet_file.Tie as tie
 
-fresh-desk-requires : tie.Need-fresh-desk-requires
-fresh-desk-requires c κs = search needs
-
-play-pairs-requires : tie.Need-play-pairs-requires
-play-pairs-requires c κs = search needs
-
-write-file-requires : tie.Need-write-file-requires
-write-file-requires c κs = search needs
-
-file-number-requires : tie.Need-file-number-requires
-file-number-requires c κs = search needs
-
-same-length : tie.Need-same-length
-same-length c = search needs
-
-same-length-2 : tie.Need-same-length-2
-same-length-2 c = search needs
-
 returns : tie.Need-returns
 returns c =
     let w = c .before .before .before in
@@ -42,10 +24,10 @@ pub sheet-file-spec : {M : Type 1} → statement M
 sheet-file-spec =
     tie.close
     (tie.spec
-    fresh-desk-requires
-    play-pairs-requires
-    write-file-requires
-    file-number-requires
-    same-length
-    same-length-2
+    (λ c κs. search needs)
+    (λ c κs. search needs)
+    (λ c κs. search needs)
+    (λ c κs. search needs)
+    (λ c. search needs)
+    (λ c. search needs)
     returns)

@@ -26,15 +26,6 @@ four c = sym (length-map (c .args .t1 .lines) _) ∙ c .good .0 .1 .1 .0 .1 .0 .
 loop-holds : tie.Need-loop-holds Inv-loop μ-loop
 loop-holds c = (omega arith, refl)
 
-mul-l : tie.Need-mul-l Inv-loop μ-loop
-mul-l c = search needs
-
-element-copy-out-l : tie.Need-element-copy-out-l Inv-loop μ-loop
-element-copy-out-l c = search needs
-
-is-sound-line-requires : tie.Need-is-sound-line-requires Inv-loop μ-loop
-is-sound-line-requires c κs = omega arith
-
 returns : tie.Need-returns Inv-loop μ-loop
 unfolding soundLines
 returns c =
@@ -43,12 +34,6 @@ returns c =
     let d = s .args .t1 in
     let e : soundLine (getD (d .lines) (l .i) noLine) ≡ false = sym (c .before .is-sound-line .ensures) ∙ not-true _ (c .if1 .taken) in
     sym (l .inv .1 ∙ every-at (λ (k : ℕ) (l : Line). soundLine l) (d .lines) (l .i) noLine (omega (arith, four s)) ∙ rw e)
-
-add-i : tie.Need-add-i Inv-loop μ-loop
-add-i c = omega arith
-
-loop-less : tie.Need-loop-less Inv-loop μ-loop
-loop-less c = omega arith
 
 loop-again : tie.Need-loop-again Inv-loop μ-loop
 unfolding soundLines
@@ -70,11 +55,11 @@ are-sound-lines-spec =
     Inv-loop
     μ-loop
     loop-holds
-    mul-l
-    element-copy-out-l
-    is-sound-line-requires
+    (λ c. search needs)
+    (λ c. search needs)
+    (λ c κs. omega arith)
     returns
-    add-i
-    loop-less
+    (λ c. omega arith)
+    (λ c. omega arith)
     loop-again
     returns-2)

@@ -6,12 +6,6 @@ use borrow.Author.Needs.{needs}
 use Rattle.soundness.proofs.is_sound.Statement.{statement}
 use Rattle.soundness.proofs.is_sound.Tie as tie
 
-are-sound-lines-requires : tie.Need-are-sound-lines-requires
-are-sound-lines-requires c κs = search needs
-
-is-sound-sheet-requires : tie.Need-is-sound-sheet-requires
-is-sound-sheet-requires c κs = search needs
-
 returns : tie.Need-returns
 unfolding soundDesk
 returns c = let k = c .before .before in c .is-sound-sheet .ensures ∙ simp (sym (k .before .are-sound-lines .ensures) ∙ k .if1 .taken)
@@ -22,4 +16,4 @@ returns-2 c = simp (sym (c .before .are-sound-lines .ensures) ∙ c .if1 .left)
 
 pub is-sound-spec : {M : Type 1} → statement M
 is-sound-spec =
-    tie.close (tie.spec are-sound-lines-requires is-sound-sheet-requires returns returns-2)
+    tie.close (tie.spec (λ c κs. search needs) (λ c κs. search needs) returns returns-2)

@@ -15,12 +15,6 @@ returns-2 : tie.Need-returns-2
 unfolding soundEmpty
 returns-2 c = simp (eq-eqb _ 0 (c .before .before .if1 .left), ne-eqb _ 0 (c .if2 .taken))
 
-slice-aggregate-all-between : tie.Need-slice-aggregate-all-between
-slice-aggregate-all-between c = search needs
-
-all-between-requires : tie.Need-all-between-requires
-all-between-requires c κs = search needs
-
 returns-3 : tie.Need-returns-3
 unfolding soundEmpty
 returns-3 c =
@@ -30,4 +24,4 @@ returns-3 c =
 pub is-sound-empty-spec : {M : Type 1} → statement M
 is-sound-empty-spec =
     tie.close
-    (tie.spec returns returns-2 slice-aggregate-all-between all-between-requires returns-3)
+    (tie.spec returns returns-2 (λ c. search needs) (λ c κs. search needs) returns-3)

@@ -15,9 +15,6 @@ use Rattle.soundness.proofs.is_sound_filled.Tie as tie
 long : (c : tie.Start) → length (c .args .i .value) ≡ 80
 long c = search needs
 
-cast-if1 : tie.Need-cast-if1
-cast-if1 c = search needs
-
 returns : tie.Need-returns
 unfolding soundFilled
 returns c = simp (le-ltb _ 4 (c .if1 .taken))
@@ -49,17 +46,8 @@ array-share-prefix-value c = omega (arith, long (c .before .before .before .befo
 slice-aggregate-fits-item : tie.Need-slice-aggregate-fits-item
 slice-aggregate-fits-item c = simp length-take (omega (arith, long (c .before .before .before .before .before .before .before .before .before)))
 
-fits-item-requires : tie.Need-fits-item-requires
-fits-item-requires c κs = search needs
-
-part-all-between-start : tie.Need-part-all-between-start
-part-all-between-start c = search needs
-
 part-all-between-end : tie.Need-part-all-between-end
 part-all-between-end c = omega (arith, long (c .before .before .before .before .before .before .before .before .before .before .before .before))
-
-all-between-requires : tie.Need-all-between-requires
-all-between-requires c κs = search needs
 
 returns-5 : tie.Need-returns-5
 unfolding soundFilled
@@ -88,16 +76,16 @@ pub is-sound-filled-spec : {M : Type 1} → statement M
 is-sound-filled-spec =
     tie.close
     (tie.spec
-    cast-if1
+    (λ c. search needs)
     returns
     returns-2
     returns-3
     returns-4
     array-share-prefix-value
     slice-aggregate-fits-item
-    fits-item-requires
-    part-all-between-start
+    (λ c κs. search needs)
+    (λ c. search needs)
     part-all-between-end
-    all-between-requires
+    (λ c κs. search needs)
     returns-5
     returns-6)

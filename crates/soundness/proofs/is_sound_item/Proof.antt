@@ -7,15 +7,6 @@ use borrow.Author.Needs.{needs}
 use Rattle.soundness.proofs.is_sound_item.Statement.{statement}
 use Rattle.soundness.proofs.is_sound_item.Tie as tie
 
-is-sound-empty-requires : tie.Need-is-sound-empty-requires
-is-sound-empty-requires c κs = search needs
-
-add-is-sound-filled : tie.Need-add-is-sound-filled
-add-is-sound-filled c = search needs
-
-is-sound-filled-requires : tie.Need-is-sound-filled-requires
-is-sound-filled-requires c κs = search needs
-
 returns : tie.Need-returns
 unfolding soundItem
 returns c = c .is-sound-empty .ensures ∙ simp (eq-eqb _ 0 (c .before .if1 .taken))
@@ -28,8 +19,8 @@ pub is-sound-item-spec : {M : Type 1} → statement M
 is-sound-item-spec =
     tie.close
     (tie.spec
-    is-sound-empty-requires
-    add-is-sound-filled
-    is-sound-filled-requires
+    (λ c κs. search needs)
+    (λ c. search needs)
+    (λ c κs. search needs)
     returns
     returns-2)

@@ -25,17 +25,8 @@ array-share-prefix-bytes c = omega (arith, long (c .before .before))
 slice-aggregate-all-between : tie.Need-slice-aggregate-all-between
 slice-aggregate-all-between c = simp length-take (omega (arith, long (c .before .before .before)))
 
-all-between-requires : tie.Need-all-between-requires
-all-between-requires c κs = search needs
-
-part-all-between-start : tie.Need-part-all-between-start
-part-all-between-start c = search needs
-
 part-all-between-end : tie.Need-part-all-between-end
 part-all-between-end c = omega (arith, long (c .before .before .before .before .before .before))
-
-all-between-requires-2 : tie.Need-all-between-requires-2
-all-between-requires-2 c κs = search needs
 
 returns-2 : tie.Need-returns-2
 unfolding soundLine
@@ -60,9 +51,9 @@ is-sound-line-spec =
     returns
     array-share-prefix-bytes
     slice-aggregate-all-between
-    all-between-requires
-    part-all-between-start
+    (λ c κs. search needs)
+    (λ c. search needs)
     part-all-between-end
-    all-between-requires-2
+    (λ c κs. search needs)
     returns-2
     returns-3)

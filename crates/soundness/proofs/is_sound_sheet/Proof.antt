@@ -25,15 +25,6 @@ ten c = sym (length-map (c .args .t1 .items) _) ∙ c .good .0 .1 .1 .0 .1 .0 .1
 loop-holds : tie.Need-loop-holds Inv-loop μ-loop
 loop-holds c = (omega arith, refl)
 
-mul-item : tie.Need-mul-item Inv-loop μ-loop
-mul-item c = search needs
-
-element-copy-out-item : tie.Need-element-copy-out-item Inv-loop μ-loop
-element-copy-out-item c = search needs
-
-is-sound-item-requires : tie.Need-is-sound-item-requires Inv-loop μ-loop
-is-sound-item-requires c κs = omega arith
-
 returns : tie.Need-returns Inv-loop μ-loop
 unfolding soundSheet
 returns c =
@@ -42,12 +33,6 @@ returns c =
     let s = b .args .t1 in
     let e : soundItem (s .count) (l .i) (getD (s .items) (l .i) noItem) ≡ false = sym (c .before .is-sound-item .ensures) ∙ not-true _ (c .if1 .taken) in
     sym (l .inv .1 ∙ every-at (soundItem (s .count)) (s .items) (l .i) noItem (omega (arith, ten b)) ∙ rw e)
-
-add-i : tie.Need-add-i Inv-loop μ-loop
-add-i c = omega arith
-
-loop-less : tie.Need-loop-less Inv-loop μ-loop
-loop-less c = omega arith
 
 loop-again : tie.Need-loop-again Inv-loop μ-loop
 unfolding soundSheet
@@ -69,11 +54,11 @@ is-sound-sheet-spec =
     Inv-loop
     μ-loop
     loop-holds
-    mul-item
-    element-copy-out-item
-    is-sound-item-requires
+    (λ c. search needs)
+    (λ c. search needs)
+    (λ c κs. omega arith)
     returns
-    add-i
-    loop-less
+    (λ c. omega arith)
+    (λ c. omega arith)
     loop-again
     returns-2)

@@ -19,36 +19,6 @@ returns : tie.Need-returns
 unfolding stepOf
 returns c = simp (lt-leb _ _ (c .if1 .taken))
 
-sub-run-other : tie.Need-sub-run-other
-sub-run-other c = search needs
-
-part-run-other-start : tie.Need-part-run-other-start
-part-run-other-start c = search needs
-
-part-run-other-end : tie.Need-part-run-other-end
-part-run-other-end c = search needs
-
-run-other-requires : tie.Need-run-other-requires
-run-other-requires c κs = search needs
-
-add-end : tie.Need-add-end
-add-end c = search needs
-
-sub-read-term : tie.Need-sub-read-term
-sub-read-term c = search needs
-
-part-read-term-start : tie.Need-part-read-term-start
-part-read-term-start c = search needs
-
-part-read-term-end : tie.Need-part-read-term-end
-part-read-term-end c = search needs
-
-read-term-requires : tie.Need-read-term-requires
-read-term-requires c κs = search needs
-
-add-t7 : tie.Need-add-t7
-add-t7 c = search needs
-
 returns-2 : tie.Need-returns-2
 unfolding stepOf
 returns-2 c =
@@ -68,14 +38,14 @@ step-at-spec =
     tie.close
     (tie.spec
     returns
-    sub-run-other
-    part-run-other-start
-    part-run-other-end
-    run-other-requires
-    add-end
-    sub-read-term
-    part-read-term-start
-    part-read-term-end
-    read-term-requires
-    add-t7
+    (λ c. search needs)
+    (λ c. search needs)
+    (λ c. search needs)
+    (λ c κs. search needs)
+    (λ c. search needs)
+    (λ c. search needs)
+    (λ c. search needs)
+    (λ c. search needs)
+    (λ c κs. search needs)
+    (λ c. search needs)
     returns-2)

@@ -6,9 +6,6 @@ use borrow.Author.Needs.{needs}
 use Rattle.text.proofs.has.Statement.{statement}
 use Rattle.text.proofs.has.Tie as tie
 
-shared-slice-read-result : tie.Need-shared-slice-read-result
-shared-slice-read-result c = search needs
-
 returns : tie.Need-returns
 unfolding hasAt
 returns c = simp (lt-ltb _ _ (c .before .if1 .taken))
@@ -18,4 +15,4 @@ unfolding hasAt
 returns-2 c = simp (le-ltb _ _ (c .if1 .left))
 
 pub has-spec : {M : Type 1} → statement M
-has-spec = tie.close (tie.spec shared-slice-read-result returns returns-2)
+has-spec = tie.close (tie.spec (λ c. search needs) returns returns-2)

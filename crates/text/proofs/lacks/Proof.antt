@@ -23,15 +23,6 @@ abbrev μ-loop : tie.MeasureT-loop
 loop-holds : tie.Need-loop-holds Inv-loop μ-loop
 loop-holds c = scan-none _ _
 
-shared-slice-read-byte : tie.Need-shared-slice-read-byte Inv-loop μ-loop
-shared-slice-read-byte c = omega arith
-
-add-i : tie.Need-add-i Inv-loop μ-loop
-add-i c = omega arith
-
-loop-less : tie.Need-loop-less Inv-loop μ-loop
-loop-less c = omega arith
-
 loop-again : tie.Need-loop-again Inv-loop μ-loop
 unfolding other
 loop-again c =
@@ -49,4 +40,4 @@ returns : tie.Need-returns Inv-loop μ-loop
 returns c = scan-all _ _ (c .before .loop .inv) (c .loop-test .left)
 
 pub lacks-spec : {M : Type 1} → statement M
-lacks-spec = tie.close (tie.spec Inv-loop μ-loop loop-holds shared-slice-read-byte add-i loop-less loop-again returns)
+lacks-spec = tie.close (tie.spec Inv-loop μ-loop loop-holds (λ c. omega arith) (λ c. omega arith) (λ c. omega arith) loop-again returns)

@@ -18,9 +18,6 @@ abbrev μ-loop : tie.MeasureT-loop
 loop-holds : tie.Need-loop-holds Inv-loop μ-loop
 loop-holds c = start _ _
 
-shared-slice-read-b : tie.Need-shared-slice-read-b Inv-loop μ-loop
-shared-slice-read-b c = omega arith
-
 returns : tie.Need-returns Inv-loop μ-loop
 unfolding between
 returns c = stop _ _ (c .before .before .before .loop .inv) (c .before .before .loop-test .taken) (simp (lt-leb _ _ (c .if1 .taken)))
@@ -30,12 +27,6 @@ unfolding between
 returns-2 c =
     stop _ _ (c .before .before .before .before .loop .inv) (c .before .before .before .loop-test .taken)
     (simp (le-leb _ _ (c .before .if1 .left), lt-leb _ _ (c .if2 .taken)))
-
-add-i : tie.Need-add-i Inv-loop μ-loop
-add-i c = omega arith
-
-loop-less : tie.Need-loop-less Inv-loop μ-loop
-loop-less c = omega arith
 
 loop-again : tie.Need-loop-again Inv-loop μ-loop
 unfolding between
@@ -53,10 +44,10 @@ run-between-spec =
     Inv-loop
     μ-loop
     loop-holds
-    shared-slice-read-b
+    (λ c. omega arith)
     returns
     returns-2
-    add-i
-    loop-less
+    (λ c. omega arith)
+    (λ c. omega arith)
     loop-again
     returns-3)

@@ -16,24 +16,12 @@ Inv-loop s x i₀ i = Passed (other x) s i
 abbrev μ-loop : tie.MeasureT-loop
 μ-loop s x i₀ i = length s - i
 
-skip-parts-requires : tie.Need-skip-parts-requires Inv-loop μ-loop
-skip-parts-requires c κs = search needs
-
 loop-holds : tie.Need-loop-holds Inv-loop μ-loop
 loop-holds c = passed-first _ _ _ (c .skip-parts .ensures .1) (c .skip-parts .ensures .0)
-
-shared-slice-read-if1 : tie.Need-shared-slice-read-if1 Inv-loop μ-loop
-shared-slice-read-if1 c = omega arith
 
 returns : tie.Need-returns Inv-loop μ-loop
 unfolding other
 returns c = stop _ _ (c .before .before .before .loop .inv) (c .before .before .loop-test .taken) (simp (eq-eqb _ _ (c .if1 .taken)))
-
-add-i : tie.Need-add-i Inv-loop μ-loop
-add-i c = omega arith
-
-loop-less : tie.Need-loop-less Inv-loop μ-loop
-loop-less c = omega arith
 
 loop-again : tie.Need-loop-again Inv-loop μ-loop
 unfolding other
@@ -48,11 +36,11 @@ run-other-spec =
     (tie.spec
     Inv-loop
     μ-loop
-    skip-parts-requires
+    (λ c κs. search needs)
     loop-holds
-    shared-slice-read-if1
+    (λ c. omega arith)
     returns
-    add-i
-    loop-less
+    (λ c. omega arith)
+    (λ c. omega arith)
     loop-again
     returns-2)

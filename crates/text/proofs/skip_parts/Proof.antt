@@ -22,32 +22,8 @@ abbrev μ-loop : tie.MeasureT-loop
 loop-holds : tie.Need-loop-holds Inv-loop μ-loop
 loop-holds c = let a = c .before .args in (all-none (other (a .x)) (now (a .s)), omega arith)
 
-sub-loop : tie.Need-sub-loop Inv-loop μ-loop
-sub-loop c = omega arith
-
-add-lacks : tie.Need-add-lacks Inv-loop μ-loop
-add-lacks c = omega arith
-
-sub-lacks : tie.Need-sub-lacks Inv-loop μ-loop
-sub-lacks c = omega arith
-
-part-lacks-start : tie.Need-part-lacks-start Inv-loop μ-loop
-part-lacks-start c = omega arith
-
-part-lacks-end : tie.Need-part-lacks-end Inv-loop μ-loop
-part-lacks-end c = omega arith
-
-lacks-requires : tie.Need-lacks-requires Inv-loop μ-loop
-lacks-requires c κs = search needs
-
 returns : tie.Need-returns Inv-loop μ-loop
 returns c = let l = c .before .before .before .before in (l .loop .inv .0, l .loop .inv .1)
-
-add-i : tie.Need-add-i Inv-loop μ-loop
-add-i c = omega arith
-
-loop-less : tie.Need-loop-less Inv-loop μ-loop
-loop-less c = omega arith
 
 loop-again : tie.Need-loop-again Inv-loop μ-loop
 loop-again c =
@@ -69,14 +45,14 @@ skip-parts-spec =
     Inv-loop
     μ-loop
     loop-holds
-    sub-loop
-    add-lacks
-    sub-lacks
-    part-lacks-start
-    part-lacks-end
-    lacks-requires
+    (λ c. omega arith)
+    (λ c. omega arith)
+    (λ c. omega arith)
+    (λ c. omega arith)
+    (λ c. omega arith)
+    (λ c κs. search needs)
     returns
-    add-i
-    loop-less
+    (λ c. omega arith)
+    (λ c. omega arith)
     loop-again
     returns-2)

@@ -12,14 +12,8 @@ use Rattle.threshold.proofs.ends_with.Tie as tie
 returns : tie.Need-returns
 returns c = sym (not-holds _ (λ h. let k = has-within _ _ _ h in omega arith))
 
-sub-has : tie.Need-sub-has
-sub-has c = search needs
-
-has-requires : tie.Need-has-requires
-has-requires c κs = search needs
-
 returns-2 : tie.Need-returns-2
 returns-2 c = c .has .ensures
 
 pub ends-with-spec : {M : Type 1} → statement M
-ends-with-spec = tie.close (tie.spec returns sub-has has-requires returns-2)
+ends-with-spec = tie.close (tie.spec returns (λ c. search needs) (λ c κs. search needs) returns-2)

@@ -14,9 +14,6 @@ use borrow.Author.Needs.{needs}
 use Rattle.threshold.proofs.has_shape.Statement.{statement}
 use Rattle.threshold.proofs.has_shape.Tie as tie
 
-add-if1 : tie.Need-add-if1
-add-if1 c = search needs
-
 returns : tie.Need-returns
 unfolding hasShape
 returns c = simp (lt-leb _ _ (c .if1 .taken))
@@ -24,29 +21,11 @@ returns c = simp (lt-leb _ _ (c .if1 .taken))
 slice-aggregate-same : tie.Need-slice-aggregate-same
 slice-aggregate-same c = simp length-take (omega arith)
 
-same-requires : tie.Need-same-requires
-same-requires c κs = search needs
-
 returns-2 : tie.Need-returns-2
 unfolding hasShape
 returns-2 c =
     let e1 = c .before .before .before in
     simp (le-leb _ _ (e1 .if1 .left), sym (c .before .same .ensures) ∙ not-true _ (c .if2 .taken))
-
-sub-end : tie.Need-sub-end
-sub-end c = search needs
-
-sub-same : tie.Need-sub-same
-sub-same c = search needs
-
-part-same-start : tie.Need-part-same-start
-part-same-start c = search needs
-
-part-same-end : tie.Need-part-same-end
-part-same-end c = search needs
-
-same-requires-2 : tie.Need-same-requires-2
-same-requires-2 c κs = search needs
 
 returns-3 : tie.Need-returns-3
 unfolding hasShape
@@ -62,14 +41,14 @@ pub has-shape-spec : {M : Type 1} → statement M
 has-shape-spec =
     tie.close
     (tie.spec
-    add-if1
+    (λ c. search needs)
     returns
     slice-aggregate-same
-    same-requires
+    (λ c κs. search needs)
     returns-2
-    sub-end
-    sub-same
-    part-same-start
-    part-same-end
-    same-requires-2
+    (λ c. search needs)
+    (λ c. search needs)
+    (λ c. search needs)
+    (λ c. search needs)
+    (λ c κs. search needs)
     returns-3)

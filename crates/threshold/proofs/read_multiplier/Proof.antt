@@ -34,15 +34,9 @@ read c = sym (c .before .before .read-number .ensures) ∙ c .v .given .1
 fits : (c : tie.After-v) → SFits w64 (c .v .given .0 .0)
 fits c = let h = number-small _ _ (read c) in small-fits _ (omega arith)
 
-has-requires : tie.Need-has-requires
-has-requires c κs = search needs
-
 returns : tie.Need-returns
 unfolding multiplierOf
 returns c = simp (sym (c .before .has .ensures) ∙ c .if1 .taken)
-
-has-requires-2 : tie.Need-has-requires-2
-has-requires-2 c κs = search needs
 
 returns-2 : tie.Need-returns-2
 unfolding multiplierOf
@@ -50,24 +44,12 @@ returns-2 c =
     let e1 = c .before .before in
     simp (sym (e1 .before .has .ensures) ∙ e1 .if1 .left, sym (c .before .has2 .ensures) ∙ c .if2 .taken)
 
-ends-with-requires : tie.Need-ends-with-requires
-ends-with-requires c κs = search needs
-
 returns-3 : tie.Need-returns-3
 unfolding multiplierOf
 returns-3 c =
     let e2 = c .before .before in
     let e1 = e2 .before .before in
     simp (sym (e1 .before .has .ensures) ∙ e1 .if1 .left, sym (e2 .before .has2 .ensures) ∙ e2 .if2 .left, sym (c .before .ends-with .ensures) ∙ c .if3 .taken)
-
-read-number-requires : tie.Need-read-number-requires
-read-number-requires c κs = search needs
-
-enum-known-v : tie.Need-enum-known-v
-enum-known-v c = search needs
-
-enum-told : tie.Need-enum-told
-enum-told c = search needs
 
 returns-4 : tie.Need-returns-4
 returns-4 c =
@@ -79,9 +61,6 @@ returns-5 c =
     let v = c .before .before in
     let z = v .v .given .0 .0 in
     unsigned-below-zero z (zero-test z true (fits v) (c .if4 .taken)) ∙ sym (plain (v .before .before .before) ∙ ap unsignedReading (read v))
-
-magnitude-requires : tie.Need-magnitude-requires
-magnitude-requires c κs = search needs
 
 returns-6 : tie.Need-returns-6
 returns-6 c =
@@ -95,16 +74,16 @@ pub read-multiplier-spec : {M : Type 1} → statement M
 read-multiplier-spec =
     tie.close
     (tie.spec
-    has-requires
+    (λ c κs. search needs)
     returns
-    has-requires-2
+    (λ c κs. search needs)
     returns-2
-    ends-with-requires
+    (λ c κs. search needs)
     returns-3
-    read-number-requires
-    enum-known-v
-    enum-told
+    (λ c κs. search needs)
+    (λ c. search needs)
+    (λ c. search needs)
     returns-4
     returns-5
-    magnitude-requires
+    (λ c κs. search needs)
     returns-6)

@@ -8,15 +8,6 @@ use borrow.Author.Needs.{needs}
 use Rattle.threshold.proofs.row_of_multiplier.Statement.{statement}
 use Rattle.threshold.proofs.row_of_multiplier.Tie as tie
 
-enum-known-m : tie.Need-enum-known-m
-enum-known-m c = search needs
-
-threshold-level-requires : tie.Need-threshold-level-requires
-threshold-level-requires c κs = search needs
-
-enum-told : tie.Need-enum-told
-enum-told c = search needs
-
 returns : tie.Need-returns
 returns c =
     let m = c .before .before in
@@ -27,4 +18,4 @@ returns-2 c = sym (ap (multiplierRow _) (c .enum-told .given .1))
 
 pub row-of-multiplier-spec : {M : Type 1} → statement M
 row-of-multiplier-spec =
-    tie.close (tie.spec enum-known-m threshold-level-requires enum-told returns returns-2)
+    tie.close (tie.spec (λ c. search needs) (λ c κs. search needs) (λ c. search needs) returns returns-2)

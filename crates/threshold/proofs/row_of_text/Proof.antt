@@ -12,30 +12,12 @@ use borrow.Author.Needs.{needs}
 use Rattle.threshold.proofs.row_of_text.Statement.{statement}
 use Rattle.threshold.proofs.row_of_text.Tie as tie
 
-slice-aggregate-has-shape : tie.Need-slice-aggregate-has-shape
-slice-aggregate-has-shape c = search needs
-
-slice-aggregate-has-shape-2 : tie.Need-slice-aggregate-has-shape-2
-slice-aggregate-has-shape-2 c = search needs
-
-has-shape-requires : tie.Need-has-shape-requires
-has-shape-requires c κs = search needs
-
 row-inside-requires : tie.Need-row-inside-requires
 row-inside-requires c κs = (omega arith, shape-long _ _ _ (sym (c .before .has-shape .ensures) ∙ c .if1 .taken))
 
 returns : tie.Need-returns
 unfolding thresholdRow
 returns c = let e = c .before in c .row-inside .ensures ∙ simp (sym (e .before .has-shape .ensures) ∙ e .if1 .taken)
-
-slice-aggregate-has-shape-3 : tie.Need-slice-aggregate-has-shape-3
-slice-aggregate-has-shape-3 c = search needs
-
-slice-aggregate-has-shape-4 : tie.Need-slice-aggregate-has-shape-4
-slice-aggregate-has-shape-4 c = search needs
-
-has-shape-requires-2 : tie.Need-has-shape-requires-2
-has-shape-requires-2 c κs = search needs
 
 row-inside-requires-2 : tie.Need-row-inside-requires-2
 row-inside-requires-2 c κs = (omega arith, shape-long _ _ _ (sym (c .before .has-shape2 .ensures) ∙ c .if2 .taken))
@@ -47,15 +29,6 @@ returns-2 c =
     let e1 = e2 .before .before .before .before in
     c .row-inside2 .ensures ∙ simp (sym (e1 .before .has-shape .ensures) ∙ e1 .if1 .left, sym (e2 .before .has-shape2 .ensures) ∙ e2 .if2 .taken)
 
-slice-aggregate-has-shape-5 : tie.Need-slice-aggregate-has-shape-5
-slice-aggregate-has-shape-5 c = search needs
-
-slice-aggregate-has-shape-6 : tie.Need-slice-aggregate-has-shape-6
-slice-aggregate-has-shape-6 c = search needs
-
-has-shape-requires-3 : tie.Need-has-shape-requires-3
-has-shape-requires-3 c κs = search needs
-
 row-inside-requires-3 : tie.Need-row-inside-requires-3
 row-inside-requires-3 c κs = (omega arith, shape-long _ _ _ (sym (c .before .has-shape3 .ensures) ∙ c .if3 .taken))
 
@@ -66,9 +39,6 @@ returns-3 c =
     let e2 = e3 .before .before .before .before in
     let e1 = e2 .before .before .before .before in
     c .row-inside3 .ensures ∙ simp (sym (e1 .before .has-shape .ensures) ∙ e1 .if1 .left, sym (e2 .before .has-shape2 .ensures) ∙ e2 .if2 .left, sym (e3 .before .has-shape3 .ensures) ∙ e3 .if3 .taken)
-
-make-row-requires : tie.Need-make-row-requires
-make-row-requires c κs = search needs
 
 returns-4 : tie.Need-returns-4
 unfolding thresholdRow
@@ -82,20 +52,20 @@ pub row-of-text-spec : {M : Type 1} → statement M
 row-of-text-spec =
     tie.close
     (tie.spec
-    slice-aggregate-has-shape
-    slice-aggregate-has-shape-2
-    has-shape-requires
+    (λ c. search needs)
+    (λ c. search needs)
+    (λ c κs. search needs)
     row-inside-requires
     returns
-    slice-aggregate-has-shape-3
-    slice-aggregate-has-shape-4
-    has-shape-requires-2
+    (λ c. search needs)
+    (λ c. search needs)
+    (λ c κs. search needs)
     row-inside-requires-2
     returns-2
-    slice-aggregate-has-shape-5
-    slice-aggregate-has-shape-6
-    has-shape-requires-3
+    (λ c. search needs)
+    (λ c. search needs)
+    (λ c κs. search needs)
     row-inside-requires-3
     returns-3
-    make-row-requires
+    (λ c κs. search needs)
     returns-4)

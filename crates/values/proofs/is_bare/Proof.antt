@@ -11,20 +11,11 @@ returns : tie.Need-returns
 unfolding isBare
 returns c = simp (lt-leb _ _ (c .if1 .taken))
 
-shared-slice-read-may-begin : tie.Need-shared-slice-read-may-begin
-shared-slice-read-may-begin c = search needs
-
-may-begin-requires : tie.Need-may-begin-requires
-may-begin-requires c κs = search needs
-
 returns-2 : tie.Need-returns-2
 unfolding isBare
 returns-2 c =
     let first = sym (c .before .may-begin .ensures) ∙ not-true _ (c .if2 .taken) in
     simp (le-leb _ _ (c .before .before .before .if1 .left), first)
-
-lacks-requires : tie.Need-lacks-requires
-lacks-requires c κs = search needs
 
 returns-3 : tie.Need-returns-3
 unfolding isBare
@@ -33,9 +24,6 @@ returns-3 c =
     let first = sym (k .before .may-begin .ensures) ∙ not-false _ (k .if2 .left) in
     let spaces = sym (c .before .lacks .ensures) ∙ not-true _ (c .if3 .taken) in
     simp (le-leb _ _ (k .before .before .before .if1 .left), first, spaces)
-
-is-reserved-requires : tie.Need-is-reserved-requires
-is-reserved-requires c κs = search needs
 
 returns-4 : tie.Need-returns-4
 unfolding isBare
@@ -51,10 +39,10 @@ is-bare-spec =
     tie.close
     (tie.spec
     returns
-    shared-slice-read-may-begin
-    may-begin-requires
+    (λ c. search needs)
+    (λ c κs. search needs)
     returns-2
-    lacks-requires
+    (λ c κs. search needs)
     returns-3
-    is-reserved-requires
+    (λ c κs. search needs)
     returns-4)

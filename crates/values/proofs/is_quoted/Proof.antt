@@ -6,15 +6,9 @@ use borrow.Author.Needs.{needs}
 use Rattle.values.proofs.is_quoted.Statement.{statement}
 use Rattle.values.proofs.is_quoted.Tie as tie
 
-is-quoted-by-requires : tie.Need-is-quoted-by-requires
-is-quoted-by-requires c κs = search needs
-
 returns : tie.Need-returns
 unfolding isQuoted
 returns c = simp (sym (c .before .is-quoted-by .ensures) ∙ c .if1 .taken)
-
-is-quoted-by-requires-2 : tie.Need-is-quoted-by-requires-2
-is-quoted-by-requires-2 c κs = search needs
 
 returns-2 : tie.Need-returns-2
 unfolding isQuoted
@@ -22,4 +16,4 @@ returns-2 c = simp (sym (c .before .before .is-quoted-by .ensures) ∙ c .before
 
 pub is-quoted-spec : {M : Type 1} → statement M
 is-quoted-spec =
-    tie.close (tie.spec is-quoted-by-requires returns is-quoted-by-requires-2 returns-2)
+    tie.close (tie.spec (λ c κs. search needs) returns (λ c κs. search needs) returns-2)

@@ -11,34 +11,13 @@ returns : tie.Need-returns
 unfolding isQuotedBy
 returns c = simp (lt-leb _ _ (c .if1 .taken))
 
-sub-last : tie.Need-sub-last
-sub-last c = search needs
-
-shared-slice-read-if2 : tie.Need-shared-slice-read-if2
-shared-slice-read-if2 c = search needs
-
 returns-2 : tie.Need-returns-2
 unfolding isQuotedBy
 returns-2 c = simp (le-leb _ _ (c .before .before .if1 .left), ne-eqb _ _ (c .if2 .taken))
 
-shared-slice-read-if3 : tie.Need-shared-slice-read-if3
-shared-slice-read-if3 c = search needs
-
 returns-3 : tie.Need-returns-3
 unfolding isQuotedBy
 returns-3 c = simp (le-leb _ _ (c .before .before .before .before .if1 .left), eq-eqb _ _ (c .before .before .if2 .left), ne-eqb _ _ (c .if3 .taken))
-
-sub-lacks : tie.Need-sub-lacks
-sub-lacks c = search needs
-
-part-lacks-start : tie.Need-part-lacks-start
-part-lacks-start c = search needs
-
-part-lacks-end : tie.Need-part-lacks-end
-part-lacks-end c = search needs
-
-lacks-requires : tie.Need-lacks-requires
-lacks-requires c κs = search needs
 
 returns-4 : tie.Need-returns-4
 unfolding isQuotedBy
@@ -52,13 +31,13 @@ is-quoted-by-spec =
     tie.close
     (tie.spec
     returns
-    sub-last
-    shared-slice-read-if2
+    (λ c. search needs)
+    (λ c. search needs)
     returns-2
-    shared-slice-read-if3
+    (λ c. search needs)
     returns-3
-    sub-lacks
-    part-lacks-start
-    part-lacks-end
-    lacks-requires
+    (λ c. search needs)
+    (λ c. search needs)
+    (λ c. search needs)
+    (λ c κs. search needs)
     returns-4)

@@ -6,33 +6,15 @@ use borrow.Author.Needs.{needs}
 use Rattle.values.proofs.is_reserved.Statement.{statement}
 use Rattle.values.proofs.is_reserved.Tie as tie
 
-slice-aggregate-begins-folded : tie.Need-slice-aggregate-begins-folded
-slice-aggregate-begins-folded c = search needs
-
-begins-folded-requires : tie.Need-begins-folded-requires
-begins-folded-requires c κs = search needs
-
 returns : tie.Need-returns
 unfolding isReserved
 returns c = simp (sym (c .before .begins-folded .ensures) ∙ c .if1 .taken)
-
-slice-aggregate-begins-folded-2 : tie.Need-slice-aggregate-begins-folded-2
-slice-aggregate-begins-folded-2 c = search needs
-
-begins-folded-requires-2 : tie.Need-begins-folded-requires-2
-begins-folded-requires-2 c κs = search needs
 
 returns-2 : tie.Need-returns-2
 unfolding isReserved
 returns-2 c =
     let e1 = c .before .before .before in
     simp (sym (e1 .before .begins-folded .ensures) ∙ e1 .if1 .left, sym (c .before .begins-folded2 .ensures) ∙ c .if2 .taken)
-
-slice-aggregate-same-folded : tie.Need-slice-aggregate-same-folded
-slice-aggregate-same-folded c = search needs
-
-same-folded-requires : tie.Need-same-folded-requires
-same-folded-requires c κs = search needs
 
 returns-3 : tie.Need-returns-3
 unfolding isReserved
@@ -41,12 +23,6 @@ returns-3 c =
     let e1 = e2 .before .before .before in
     simp (sym (e1 .before .begins-folded .ensures) ∙ e1 .if1 .left, sym (e2 .before .begins-folded2 .ensures) ∙ e2 .if2 .left, sym (c .before .same-folded .ensures) ∙ c .if3 .taken)
 
-slice-aggregate-same-folded-2 : tie.Need-slice-aggregate-same-folded-2
-slice-aggregate-same-folded-2 c = search needs
-
-same-folded-requires-2 : tie.Need-same-folded-requires-2
-same-folded-requires-2 c κs = search needs
-
 returns-4 : tie.Need-returns-4
 unfolding isReserved
 returns-4 c =
@@ -54,12 +30,6 @@ returns-4 c =
     let e2 = e3 .before .before .before in
     let e1 = e2 .before .before .before in
     simp (sym (e1 .before .begins-folded .ensures) ∙ e1 .if1 .left, sym (e2 .before .begins-folded2 .ensures) ∙ e2 .if2 .left, sym (e3 .before .same-folded .ensures) ∙ e3 .if3 .left, sym (c .before .same-folded2 .ensures) ∙ c .if4 .taken)
-
-slice-aggregate-same-folded-3 : tie.Need-slice-aggregate-same-folded-3
-slice-aggregate-same-folded-3 c = search needs
-
-same-folded-requires-3 : tie.Need-same-folded-requires-3
-same-folded-requires-3 c κs = search needs
 
 returns-5 : tie.Need-returns-5
 unfolding isReserved
@@ -74,18 +44,18 @@ pub is-reserved-spec : {M : Type 1} → statement M
 is-reserved-spec =
     tie.close
     (tie.spec
-    slice-aggregate-begins-folded
-    begins-folded-requires
+    (λ c. search needs)
+    (λ c κs. search needs)
     returns
-    slice-aggregate-begins-folded-2
-    begins-folded-requires-2
+    (λ c. search needs)
+    (λ c κs. search needs)
     returns-2
-    slice-aggregate-same-folded
-    same-folded-requires
+    (λ c. search needs)
+    (λ c κs. search needs)
     returns-3
-    slice-aggregate-same-folded-2
-    same-folded-requires-2
+    (λ c. search needs)
+    (λ c κs. search needs)
     returns-4
-    slice-aggregate-same-folded-3
-    same-folded-requires-3
+    (λ c. search needs)
+    (λ c κs. search needs)
     returns-5)

@@ -6,19 +6,13 @@ use borrow.Author.Needs.{needs}
 use Rattle.values.proofs.is_value.Statement.{statement}
 use Rattle.values.proofs.is_value.Tie as tie
 
-is-bare-requires : tie.Need-is-bare-requires
-is-bare-requires c κs = search needs
-
 returns : tie.Need-returns
 unfolding isValue
 returns c = simp (sym (c .before .is-bare .ensures) ∙ c .if1 .taken)
-
-is-quoted-requires : tie.Need-is-quoted-requires
-is-quoted-requires c κs = search needs
 
 returns-2 : tie.Need-returns-2
 unfolding isValue
 returns-2 c = simp (sym (c .before .before .is-bare .ensures) ∙ c .before .if1 .left, c .is-quoted .ensures)
 
 pub is-value-spec : {M : Type 1} → statement M
-is-value-spec = tie.close (tie.spec is-bare-requires returns is-quoted-requires returns-2)
+is-value-spec = tie.close (tie.spec (λ c κs. search needs) returns (λ c κs. search needs) returns-2)

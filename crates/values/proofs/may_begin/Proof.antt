@@ -5,15 +5,9 @@ use borrow.Author.Needs.{needs}
 use Rattle.values.proofs.may_begin.Statement.{statement}
 use Rattle.values.proofs.may_begin.Tie as tie
 
-slice-aggregate-lacks : tie.Need-slice-aggregate-lacks
-slice-aggregate-lacks c = search needs
-
-lacks-requires : tie.Need-lacks-requires
-lacks-requires c κs = search needs
-
 returns : tie.Need-returns
 unfolding mayBegin
 returns c = c .lacks .ensures
 
 pub may-begin-spec : {M : Type 1} → statement M
-may-begin-spec = tie.close (tie.spec slice-aggregate-lacks lacks-requires returns)
+may-begin-spec = tie.close (tie.spec (λ c. search needs) (λ c κs. search needs) returns)

@@ -13,9 +13,6 @@ use Rattle.values.proofs.text_of.Tie as tie
 long : (c : tie.Then1) → 2 ≤ length (c .before .before .before .args .s .now)
 long c = quoted-long _ (sym (c .before .is-quoted .ensures) ∙ c .if1 .taken)
 
-is-quoted-requires : tie.Need-is-quoted-requires
-is-quoted-requires c κs = search needs
-
 sub-last : tie.Need-sub-last
 sub-last c = omega (arith, long c)
 
@@ -24,9 +21,6 @@ sub-result c = omega (arith, long c)
 
 part-result-start : tie.Need-part-result-start
 part-result-start c = omega (arith, long c)
-
-part-result-end : tie.Need-part-result-end
-part-result-end c = search needs
 
 returns : tie.Need-returns
 unfolding textOf
@@ -40,10 +34,10 @@ pub text-of-spec : {M : Type 1} → statement M
 text-of-spec =
     tie.close
     (tie.spec
-    is-quoted-requires
+    (λ c κs. search needs)
     sub-last
     sub-result
     part-result-start
-    part-result-end
+    (λ c. search needs)
     returns
     returns-2)

@@ -6,14 +6,8 @@ use borrow.Author.Needs.{needs}
 use Rattle.wall.proofs.wall_classify.Statement.{statement}
 use Rattle.wall.proofs.wall_classify.Tie as tie
 
-classify-requires : tie.Need-classify-requires
-classify-requires c κs = search needs
-
-class-number-requires : tie.Need-class-number-requires
-class-number-requires c κs = search needs
-
 returns : tie.Need-returns
 returns c = c .class-number .ensures ∙ ap classNumber (c .before .classify .ensures)
 
 pub wall-classify-spec : {M : Type 1} → statement M
-wall-classify-spec = tie.close (tie.spec classify-requires class-number-requires returns)
+wall-classify-spec = tie.close (tie.spec (λ c κs. search needs) (λ c κs. search needs) returns)

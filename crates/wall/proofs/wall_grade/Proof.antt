@@ -6,14 +6,8 @@ use borrow.Author.Needs.{needs}
 use Rattle.wall.proofs.wall_grade.Statement.{statement}
 use Rattle.wall.proofs.wall_grade.Tie as tie
 
-grade-value-requires : tie.Need-grade-value-requires
-grade-value-requires c κs = search needs
-
-tell-requires : tie.Need-tell-requires
-tell-requires c κs = search needs
-
 returns : tie.Need-returns
 returns c = c .tell .ensures ∙ ap told (c .before .grade-value .ensures)
 
 pub wall-grade-spec : {M : Type 1} → statement M
-wall-grade-spec = tie.close (tie.spec grade-value-requires tell-requires returns)
+wall-grade-spec = tie.close (tie.spec (λ c κs. search needs) (λ c κs. search needs) returns)

@@ -30,14 +30,8 @@ same v = let z = v .w .given .0 .0 in let k = small v .0 in back z (small-fits z
 apart : (c : tie.After-is-far-apart) (t : Bool) → c .is-far-apart .result ≡ t → let v = c .before .before in farApart (v .w .given .0 .0) (v .w .given .0 .1 .0) ≡ t
 apart c t e = let v = c .before .before in ap (λ (y : ℤ). farApart y (v .w .given .0 .1 .0)) (sym (same v)) ∙ sym (c .is-far-apart .ensures) ∙ e
 
-enum-known-w : tie.Need-enum-known-w
-enum-known-w c = search needs
-
 is-far-apart-requires : tie.Need-is-far-apart-requires
 is-far-apart-requires c κs = let v = c .before in (subst (λ (y : ℤ). mag y < 10 ^ 15) (sym (same v)) (small v .0), small v .1)
-
-make-row-requires : tie.Need-make-row-requires
-make-row-requires c κs = search needs
 
 returns : tie.Need-returns
 returns c =
@@ -46,24 +40,6 @@ returns c =
     let v = f .before .before in
     let category = textOf (now (v .before .before .before .args .category)) in
     c .make-row .ensures ∙ sym (ap (λ (w : Weighed). differenceRow w category) (v .w .given .1) ∙ simp (apart f false (not-true _ (i .if1 .taken))))
-
-text-of-requires : tie.Need-text-of-requires
-text-of-requires c κs = search needs
-
-is-weighed-category-requires : tie.Need-is-weighed-category-requires
-is-weighed-category-requires c κs = search needs
-
-make-row-requires-2 : tie.Need-make-row-requires-2
-make-row-requires-2 c κs = search needs
-
-make-row-requires-3 : tie.Need-make-row-requires-3
-make-row-requires-3 c κs = search needs
-
-enum-told : tie.Need-enum-told
-enum-told c = search needs
-
-make-row-requires-4 : tie.Need-make-row-requires-4
-make-row-requires-4 c κs = search needs
 
 returns-2 : tie.Need-returns-2
 returns-2 c =
@@ -96,16 +72,16 @@ pub difference-row-spec : {M : Type 1} → statement M
 difference-row-spec =
     tie.close
     (tie.spec
-    enum-known-w
+    (λ c. search needs)
     is-far-apart-requires
-    make-row-requires
+    (λ c κs. search needs)
     returns
-    text-of-requires
-    is-weighed-category-requires
-    make-row-requires-2
-    make-row-requires-3
-    enum-told
-    make-row-requires-4
+    (λ c κs. search needs)
+    (λ c κs. search needs)
+    (λ c κs. search needs)
+    (λ c κs. search needs)
+    (λ c. search needs)
+    (λ c κs. search needs)
     returns-2
     returns-3
     returns-4)

@@ -24,9 +24,6 @@ small c = let h = abs-small (c .before .args .given) (c .before .pre .0) in let 
 at : (c : tie.Else1) → c .before .before .args .given ≡ pos (c .before .magnitude .result)
 at c = let s = c .before .before in above (s .args .given) (s .fits .given) (c .if1 .left) ∙ ap pos (sym (size (c .before)))
 
-magnitude-requires : tie.Need-magnitude-requires
-magnitude-requires c κs = search needs
-
 add-result : tie.Need-add-result
 add-result c = omega (arith, small (c .before))
 
@@ -35,9 +32,6 @@ returns c =
     let m = c .before in
     let s = m .before in
     ap (λ (n : ℕ). ltb 1000000 (n + s .args .sum)) (size m) ∙ far-below-zero (s .args .given) (s .args .sum) (zero-test (s .args .given) true (s .fits .given) (c .if1 .taken))
-
-add-if2 : tie.Need-add-if2
-add-if2 c = search needs
 
 returns-2 : tie.Need-returns-2
 unfolding farApart
@@ -53,4 +47,4 @@ returns-3 c = simp (at (c .before), le-ltb _ _ (c .if2 .left))
 pub is-far-apart-spec : {M : Type 1} → statement M
 is-far-apart-spec =
     tie.close
-    (tie.spec magnitude-requires add-result returns add-if2 returns-2 add-result-2 returns-3)
+    (tie.spec (λ c κs. search needs) add-result returns (λ c. search needs) returns-2 add-result-2 returns-3)

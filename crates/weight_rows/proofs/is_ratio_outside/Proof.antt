@@ -11,9 +11,6 @@ use borrow.Author.Needs.{needs}
 use Rattle.weight_rows.proofs.is_ratio_outside.Statement.{statement}
 use Rattle.weight_rows.proofs.is_ratio_outside.Tie as tie
 
-mul-if1 : tie.Need-mul-if1
-mul-if1 c = search needs
-
 mul-if1-2 : tie.Need-mul-if1-2
 mul-if1-2 c = let h = part-small (c .args .lo) (c .args .sum) (omega arith) (omega arith) in omega arith
 
@@ -25,9 +22,6 @@ returns c =
 mul-result : tie.Need-mul-result
 mul-result c = let h = part-small (c .before .args .hi) (c .before .args .sum) (omega arith) (omega arith) in omega arith
 
-mul-result-2 : tie.Need-mul-result-2
-mul-result-2 c = search needs
-
 returns-2 : tie.Need-returns-2
 returns-2 c =
     let a = c .before .args in
@@ -35,4 +29,4 @@ returns-2 c =
 
 pub is-ratio-outside-spec : {M : Type 1} → statement M
 is-ratio-outside-spec =
-    tie.close (tie.spec mul-if1 mul-if1-2 returns mul-result mul-result-2 returns-2)
+    tie.close (tie.spec (λ c. search needs) mul-if1-2 returns mul-result (λ c. search needs) returns-2)

@@ -22,9 +22,6 @@ small c = let h = abs-small (c .before .before .args .given) (c .before .before 
 returns : tie.Need-returns
 returns c = let s = c .before in ratio-below-zero (s .args .given) (s .args .sum) (zero-test (s .args .given) true (s .fits .given) (c .if1 .taken))
 
-magnitude-requires : tie.Need-magnitude-requires
-magnitude-requires c κs = search needs
-
 is-ratio-outside-requires : tie.Need-is-ratio-outside-requires
 is-ratio-outside-requires c κs = omega (arith, small c)
 
@@ -33,9 +30,6 @@ is-ratio-outside-requires-2 c κs = omega (arith, small (c .before))
 
 is-ratio-outside-requires-3 : tie.Need-is-ratio-outside-requires-3
 is-ratio-outside-requires-3 c κs = omega (arith, small (c .before .before))
-
-level-requires : tie.Need-level-requires
-level-requires c κs = search needs
 
 returns-2 : tie.Need-returns-2
 unfolding ratioLevel
@@ -51,9 +45,9 @@ ratio-level-spec =
     tie.close
     (tie.spec
     returns
-    magnitude-requires
+    (λ c κs. search needs)
     is-ratio-outside-requires
     is-ratio-outside-requires-2
     is-ratio-outside-requires-3
-    level-requires
+    (λ c κs. search needs)
     returns-2)

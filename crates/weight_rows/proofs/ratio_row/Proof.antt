@@ -22,20 +22,8 @@ small v = subst SmallWeighed (v .w .given .1) (v .before .before .pre)
 same : (v : tie.After-w) → toZ w64 (ofZ w64 (v .w .given .0 .0)) ≡ v .w .given .0 .0
 same v = let z = v .w .given .0 .0 in let k = small v .0 in back z (small-fits z (omega arith))
 
-enum-known-w : tie.Need-enum-known-w
-enum-known-w c = search needs
-
 ratio-level-requires : tie.Need-ratio-level-requires
 ratio-level-requires c κs = let v = c .before in (subst (λ (y : ℤ). mag y < 10 ^ 15) (sym (same v)) (small v .0), small v .1)
-
-make-row-requires : tie.Need-make-row-requires
-make-row-requires c κs = search needs
-
-enum-told : tie.Need-enum-told
-enum-told c = search needs
-
-make-row-requires-2 : tie.Need-make-row-requires-2
-make-row-requires-2 c κs = search needs
 
 returns : tie.Need-returns
 returns c =
@@ -51,10 +39,10 @@ pub ratio-row-spec : {M : Type 1} → statement M
 ratio-row-spec =
     tie.close
     (tie.spec
-    enum-known-w
+    (λ c. search needs)
     ratio-level-requires
-    make-row-requires
-    enum-told
-    make-row-requires-2
+    (λ c κs. search needs)
+    (λ c. search needs)
+    (λ c κs. search needs)
     returns
     returns-2)

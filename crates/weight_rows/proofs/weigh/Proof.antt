@@ -25,29 +25,11 @@ read c = sym (c .before .before .read-number .ensures) ∙ c .given .given .1
 summed : (c : tie.After-s) → sumOf (now (c .before .before .before .before .before .before .before .before .before .args .t)) ≡ Thousandths (c .s .given .0 .0)
 summed c = sym (c .before .before .sum-of .ensures) ∙ c .s .given .1
 
-read-number-requires : tie.Need-read-number-requires
-read-number-requires c κs = search needs
-
-enum-known-given : tie.Need-enum-known-given
-enum-known-given c = search needs
-
-enum-told : tie.Need-enum-told
-enum-told c = search needs
-
 returns : tie.Need-returns
 returns c =
     let r = c .before .before in
     let a = c .before .before .before .before .before .args in
     (sym (weighed-unread (now (a .t)) (now (a .weight)) (sym (r .read-number .ensures) ∙ c .enum-told .given .1)), tt)
-
-sum-of-requires : tie.Need-sum-of-requires
-sum-of-requires c κs = search needs
-
-enum-known-s : tie.Need-enum-known-s
-enum-known-s c = search needs
-
-enum-told-2 : tie.Need-enum-told-2
-enum-told-2 c = search needs
 
 returns-2 : tie.Need-returns-2
 returns-2 c =
@@ -74,13 +56,13 @@ pub weigh-spec : {M : Type 1} → statement M
 weigh-spec =
     tie.close
     (tie.spec
-    read-number-requires
-    enum-known-given
-    enum-told
+    (λ c κs. search needs)
+    (λ c. search needs)
+    (λ c. search needs)
     returns
-    sum-of-requires
-    enum-known-s
-    enum-told-2
+    (λ c κs. search needs)
+    (λ c. search needs)
+    (λ c. search needs)
     returns-2
     mul-t7
     returns-3)

@@ -25,24 +25,12 @@ weight-there e = sym (e .before .is-missing2 .ensures) ∙ e .if2 .left
 judged : (c : tie.After-weigh) → let a = c .before .before .before .before .before .before .before .before .before .args in c .weigh .result ≡ weighedOf (textOf (now (a .formula))) (now (a .weight))
 judged c = let a = c .before .before .before .before .before .before .before .before .before .args in c .weigh .ensures .0 ∙ ap (λ (t : List ℕ). weighedOf t (now (a .weight))) (c .before .text-of .ensures)
 
-is-missing-requires : tie.Need-is-missing-requires
-is-missing-requires c κs = search needs
-
-missing-rows-requires : tie.Need-missing-rows-requires
-missing-rows-requires c κs = search needs
-
 returns : tie.Need-returns
 returns c =
     let i = c .before in
     let a = c .before .before .before .before .before .before .args in
     let p = sym (i .before .is-missing .ensures) ∙ i .if1 .taken in
     (c .missing-rows .ensures .0 ∙ sym (ratio-formula (now (a .formula)) (now (a .weight)) p), c .missing-rows .ensures .1 ∙ sym (difference-formula (now (a .formula)) (now (a .weight)) (now (a .category)) p))
-
-is-missing-requires-2 : tie.Need-is-missing-requires-2
-is-missing-requires-2 c κs = search needs
-
-missing-rows-requires-2 : tie.Need-missing-rows-requires-2
-missing-rows-requires-2 c κs = search needs
 
 returns-2 : tie.Need-returns-2
 returns-2 c =
@@ -51,21 +39,6 @@ returns-2 c =
     let a = c .before .before .before .before .before .before .before .before .args in
     let q = sym (i .before .is-missing2 .ensures) ∙ i .if2 .taken in
     (c .missing-rows2 .ensures .0 ∙ sym (ratio-weight (now (a .formula)) (now (a .weight)) p q), c .missing-rows2 .ensures .1 ∙ sym (difference-weight (now (a .formula)) (now (a .weight)) (now (a .category)) p q))
-
-text-of-requires : tie.Need-text-of-requires
-text-of-requires c κs = search needs
-
-weigh-requires : tie.Need-weigh-requires
-weigh-requires c κs = search needs
-
-ratio-row-requires : tie.Need-ratio-row-requires
-ratio-row-requires c κs = search needs
-
-is-missing-requires-3 : tie.Need-is-missing-requires-3
-is-missing-requires-3 c κs = search needs
-
-make-row-requires : tie.Need-make-row-requires
-make-row-requires c κs = search needs
 
 returns-3 : tie.Need-returns-3
 returns-3 c =
@@ -78,9 +51,6 @@ returns-3 c =
     let a = c .before .before .before .before .before .before .before .before .before .before .before .before .before .args in
     let k = sym (i .before .is-missing3 .ensures) ∙ i .if3 .taken in
     (r .ratio-row .ensures ∙ ap ratioRow (judged w) ∙ sym (ratio-judged (now (a .formula)) (now (a .weight)) p q), c .make-row .ensures ∙ sym (difference-category (now (a .formula)) (now (a .weight)) (now (a .category)) p q k))
-
-difference-row-requires : tie.Need-difference-row-requires
-difference-row-requires c κs = search needs
 
 returns-4 : tie.Need-returns-4
 returns-4 c =
@@ -98,17 +68,17 @@ pub weight-rows-spec : {M : Type 1} → statement M
 weight-rows-spec =
     tie.close
     (tie.spec
-    is-missing-requires
-    missing-rows-requires
+    (λ c κs. search needs)
+    (λ c κs. search needs)
     returns
-    is-missing-requires-2
-    missing-rows-requires-2
+    (λ c κs. search needs)
+    (λ c κs. search needs)
     returns-2
-    text-of-requires
-    weigh-requires
-    ratio-row-requires
-    is-missing-requires-3
-    make-row-requires
+    (λ c κs. search needs)
+    (λ c κs. search needs)
+    (λ c κs. search needs)
+    (λ c κs. search needs)
+    (λ c κs. search needs)
     returns-3
-    difference-row-requires
+    (λ c κs. search needs)
     returns-4)

@@ -21,15 +21,6 @@ long-w c = search needs
 long-c : (c : tie.Start) → length (c .args .c .value) ≡ 80
 long-c c = search needs
 
-value-length-requires : tie.Need-value-length-requires
-value-length-requires c κs = search needs
-
-value-length-requires-2 : tie.Need-value-length-requires-2
-value-length-requires-2 c κs = search needs
-
-value-length-requires-3 : tie.Need-value-length-requires-3
-value-length-requires-3 c κs = search needs
-
 array-share-prefix-fv : tie.Need-array-share-prefix-fv
 array-share-prefix-fv c = omega (arith, long-f (c .before .before .before .before .before .before))
 
@@ -47,9 +38,6 @@ array-share-prefix-cv c = omega (arith, long-c (c .before .before .before .befor
 
 slice-aggregate-formula-texts-3 : tie.Need-slice-aggregate-formula-texts-3
 slice-aggregate-formula-texts-3 c = simp length-take (omega (arith, long-c (c .before .before .before .before .before .before .before .before .before)))
-
-formula-texts-requires : tie.Need-formula-texts-requires
-formula-texts-requires c κs = search needs
 
 returns : tie.Need-returns
 returns c =
@@ -70,14 +58,14 @@ pub formula-group-spec : {M : Type 1} → statement M
 formula-group-spec =
     tie.close
     (tie.spec
-    value-length-requires
-    value-length-requires-2
-    value-length-requires-3
+    (λ c κs. search needs)
+    (λ c κs. search needs)
+    (λ c κs. search needs)
     array-share-prefix-fv
     slice-aggregate-formula-texts
     array-share-prefix-wv
     slice-aggregate-formula-texts-2
     array-share-prefix-cv
     slice-aggregate-formula-texts-3
-    formula-texts-requires
+    (λ c κs. search needs)
     returns)

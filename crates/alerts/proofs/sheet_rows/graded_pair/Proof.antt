@@ -18,12 +18,6 @@ long-new c = search needs
 long-old : (c : tie.Start) → length (c .args .old .value) ≡ 80
 long-old c = search needs
 
-value-length-requires : tie.Need-value-length-requires
-value-length-requires c κs = search needs
-
-value-length-requires-2 : tie.Need-value-length-requires-2
-value-length-requires-2 c κs = search needs
-
 array-share-prefix-nv : tie.Need-array-share-prefix-nv
 array-share-prefix-nv c = omega (arith, long-new (c .before .before .before .before))
 
@@ -35,9 +29,6 @@ array-share-prefix-ov c = omega (arith, long-old (c .before .before .before .bef
 
 slice-aggregate-graded-texts-2 : tie.Need-slice-aggregate-graded-texts-2
 slice-aggregate-graded-texts-2 c = simp length-take (omega (arith, long-old (c .before .before .before .before .before .before)))
-
-graded-texts-requires : tie.Need-graded-texts-requires
-graded-texts-requires c κs = search needs
 
 returns : tie.Need-returns
 returns c =
@@ -54,11 +45,11 @@ pub graded-pair-spec : {M : Type 1} → statement M
 graded-pair-spec =
     tie.close
     (tie.spec
-    value-length-requires
-    value-length-requires-2
+    (λ c κs. search needs)
+    (λ c κs. search needs)
     array-share-prefix-nv
     slice-aggregate-graded-texts
     array-share-prefix-ov
     slice-aggregate-graded-texts-2
-    graded-texts-requires
+    (λ c κs. search needs)
     returns)

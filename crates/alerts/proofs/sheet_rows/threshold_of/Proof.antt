@@ -13,17 +13,11 @@ use Rattle.alerts.proofs.sheet_rows.threshold_of.Tie as tie
 long : (c : tie.Start) → length (c .args .t .value) ≡ 80
 long c = search needs
 
-value-length-requires : tie.Need-value-length-requires
-value-length-requires c κs = search needs
-
 array-share-prefix-v : tie.Need-array-share-prefix-v
 array-share-prefix-v c = omega (arith, long (c .before .before))
 
 slice-aggregate-threshold-row : tie.Need-slice-aggregate-threshold-row
 slice-aggregate-threshold-row c = simp length-take (omega (arith, long (c .before .before .before)))
-
-threshold-row-requires : tie.Need-threshold-row-requires
-threshold-row-requires c κs = search needs
 
 returns : tie.Need-returns
 returns c =
@@ -35,8 +29,8 @@ pub threshold-of-spec : {M : Type 1} → statement M
 threshold-of-spec =
     tie.close
     (tie.spec
-    value-length-requires
+    (λ c κs. search needs)
     array-share-prefix-v
     slice-aggregate-threshold-row
-    threshold-row-requires
+    (λ c κs. search needs)
     returns)

@@ -5,18 +5,6 @@ use borrow.Author.Needs.{needs}
 use Rattle.calls.proofs.key.append_byte.Statement.{statement}
 use Rattle.calls.proofs.key.append_byte.Tie as tie
 
-mul-l : tie.Need-mul-l
-mul-l c = search needs
-
-element-copy-out-l : tie.Need-element-copy-out-l
-element-copy-out-l c = search needs
-
-append-requires : tie.Need-append-requires
-append-requires c κs = search needs
-
-with-line-requires : tie.Need-with-line-requires
-with-line-requires c κs = search needs
-
 returns : tie.Need-returns
 returns c = λ l. simp (lt-ltb _ 80 (c .before .before .if1 .taken), c .with-line .ensures, c .before .append .ensures)
 
@@ -26,4 +14,4 @@ returns-2 c = λ l. simp (le-ltb _ 80 (c .if1 .left))
 pub append-byte-spec : {M : Type 1} → statement M
 append-byte-spec =
     tie.close
-    (tie.spec mul-l element-copy-out-l append-requires with-line-requires returns returns-2)
+    (tie.spec (λ c. search needs) (λ c. search needs) (λ c κs. search needs) (λ c κs. search needs) returns returns-2)

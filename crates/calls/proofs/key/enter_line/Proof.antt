@@ -19,12 +19,6 @@ slice-aggregate-enter-typed c = simp length-take (omega (arith, long (c .before 
 enter-typed-requires : tie.Need-enter-typed-requires
 enter-typed-requires c κs = (omega arith, simp length-take (omega arith), omega arith, omega arith)
 
-same-length : tie.Need-same-length
-same-length c = search needs
-
-returns : tie.Need-returns
-returns c = search needs
-
 pub enter-line-spec : {M : Type 1} → statement M
 enter-line-spec =
     tie.close
@@ -32,5 +26,5 @@ enter-line-spec =
     array-share-prefix-bytes
     slice-aggregate-enter-typed
     enter-typed-requires
-    same-length
-    returns)
+    (λ c. search needs)
+    (λ c. search needs))

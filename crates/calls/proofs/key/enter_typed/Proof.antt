@@ -25,29 +25,11 @@ by-class c e =
 entry : (c : tie.After-class) → IsEntry (now (c .before .before .before .before .before .args .t)) (c .class .given .0 .0) (c .class .given .0 .1 .0)
 entry c = entry-is _ _ _ (sym (c .before .before .classify .ensures) ∙ c .class .given .1)
 
-classify-requires : tie.Need-classify-requires
-classify-requires c κs = search needs
-
-enum-told : tie.Need-enum-told
-enum-told c = search needs
-
-enum-told-2 : tie.Need-enum-told-2
-enum-told-2 c = search needs
-
-enum-told-3 : tie.Need-enum-told-3
-enum-told-3 c = search needs
-
-enum-known-class : tie.Need-enum-known-class
-enum-known-class c = search needs
-
 sub-store : tie.Need-sub-store
 sub-store c = entry (c .before .before) .within
 
 part-store-start : tie.Need-part-store-start
 part-store-start c = entry (c .before .before) .within
-
-part-store-end : tie.Need-part-store-end
-part-store-end c = search needs
 
 store-requires : tie.Need-store-requires
 store-requires c κs =
@@ -63,9 +45,6 @@ returns-2 c = sym (by-class (c .before .before) (c .enum-told2 .given .1))
 returns-3 : tie.Need-returns-3
 returns-3 c = sym (by-class (c .before .before) (c .enum-told3 .given .1))
 
-same-length : tie.Need-same-length
-same-length c = search needs
-
 returns-4 : tie.Need-returns-4
 returns-4 c =
     let p = c .before .before .before .before .before .before in
@@ -80,17 +59,17 @@ pub enter-typed-spec : {M : Type 1} → statement M
 enter-typed-spec =
     tie.close
     (tie.spec
-    classify-requires
-    enum-told
-    enum-told-2
-    enum-told-3
-    enum-known-class
+    (λ c κs. search needs)
+    (λ c. search needs)
+    (λ c. search needs)
+    (λ c. search needs)
+    (λ c. search needs)
     sub-store
     part-store-start
-    part-store-end
+    (λ c. search needs)
     store-requires
     returns
     returns-2
     returns-3
-    same-length
+    (λ c. search needs)
     returns-4)

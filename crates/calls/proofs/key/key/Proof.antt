@@ -17,17 +17,11 @@ returns : tie.Need-returns
 unfolding keyOf
 returns c = simp (le-ltb _ 4 (c .if1 .taken))
 
-is-sound-requires : tie.Need-is-sound-requires
-is-sound-requires c κs = search needs
-
 returns-2 : tie.Need-returns-2
 unfolding keyOf
 returns-2 c =
     let e1 = c .before .before in
     simp (lt-ltb _ 4 (e1 .if1 .left), sym (c .before .is-sound .ensures) ∙ not-true _ (c .if2 .taken))
-
-is-sound-log-requires : tie.Need-is-sound-log-requires
-is-sound-log-requires c κs = search needs
 
 returns-3 : tie.Need-returns-3
 unfolding keyOf
@@ -45,9 +39,6 @@ step-requires c κs =
     let a = start .args in
     sound-ready (a .d) (a .used) (now (a .log)) (a .bench) (four start) (e1 .if1 .left) (sym (e2 .before .is-sound .ensures) ∙ not-false _ (e2 .if2 .left)) (sym (e3 .before .is-sound-log .ensures) ∙ not-false _ (e3 .if3 .left))
 
-same-length : tie.Need-same-length
-same-length c = search needs
-
 returns-4 : tie.Need-returns-4
 unfolding keyOf
 returns-4 c =
@@ -62,10 +53,10 @@ key-spec =
     tie.close
     (tie.spec
     returns
-    is-sound-requires
+    (λ c κs. search needs)
     returns-2
-    is-sound-log-requires
+    (λ c κs. search needs)
     returns-3
     step-requires
-    same-length
+    (λ c. search needs)
     returns-4)

@@ -10,30 +10,6 @@ use borrow.Author.Needs.{needs}
 use Rattle.calls.proofs.key.step.Statement.{statement}
 use Rattle.calls.proofs.key.step.Tie as tie
 
-mul-l : tie.Need-mul-l
-mul-l c = search needs
-
-element-copy-out-l : tie.Need-element-copy-out-l
-element-copy-out-l c = search needs
-
-erase-requires : tie.Need-erase-requires
-erase-requires c κs = search needs
-
-with-line-requires : tie.Need-with-line-requires
-with-line-requires c κs = search needs
-
-empty-line-requires : tie.Need-empty-line-requires
-empty-line-requires c κs = search needs
-
-with-line-requires-2 : tie.Need-with-line-requires-2
-with-line-requires-2 c κs = search needs
-
-enter-bench-requires : tie.Need-enter-bench-requires
-enter-bench-requires c κs = search needs
-
-append-byte-requires : tie.Need-append-byte-requires
-append-byte-requires c κs = search needs
-
 returns : tie.Need-returns
 unfolding keyStep between
 returns c = simp (c .with-line .ensures, c .before .erase .ensures, c .before .before .before .match .keys1)
@@ -41,9 +17,6 @@ returns c = simp (c .with-line .ensures, c .before .erase .ensures, c .before .b
 returns-2 : tie.Need-returns-2
 unfolding keyStep between
 returns-2 c = simp (c .with-line2 .ensures, c .before .empty-line .ensures, c .before .before .match .keys2)
-
-same-length : tie.Need-same-length
-same-length c = search needs
 
 returns-3 : tie.Need-returns-3
 unfolding keyStep between
@@ -75,17 +48,17 @@ pub step-spec : {M : Type 1} → statement M
 step-spec =
     tie.close
     (tie.spec
-    mul-l
-    element-copy-out-l
-    erase-requires
-    with-line-requires
-    empty-line-requires
-    with-line-requires-2
-    enter-bench-requires
-    append-byte-requires
+    (λ c. search needs)
+    (λ c. search needs)
+    (λ c κs. search needs)
+    (λ c κs. search needs)
+    (λ c κs. search needs)
+    (λ c κs. search needs)
+    (λ c κs. search needs)
+    (λ c κs. search needs)
     returns
     returns-2
-    same-length
+    (λ c. search needs)
     returns-3
     returns-4
     returns-5

@@ -11,12 +11,6 @@ returns : tie.Need-returns
 unfolding classOf
 returns c = simp (lt-leb _ _ (c .if1 .taken))
 
-all-between-requires : tie.Need-all-between-requires
-all-between-requires c κs = search needs
-
-classify-typed-requires : tie.Need-classify-typed-requires
-classify-typed-requires c κs = search needs
-
 returns-2 : tie.Need-returns-2
 unfolding classOf
 returns-2 c =
@@ -29,4 +23,4 @@ returns-3 c = simp (le-leb _ _ (c .before .before .if1 .left), sym (c .before .a
 
 pub classify-spec : {M : Type 1} → statement M
 classify-spec =
-    tie.close (tie.spec returns all-between-requires classify-typed-requires returns-2 returns-3)
+    tie.close (tie.spec returns (λ c κs. search needs) (λ c κs. search needs) returns-2 returns-3)

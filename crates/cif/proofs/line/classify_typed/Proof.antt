@@ -30,15 +30,6 @@ named c =
     let s = k .before .before .before .before .args .s .now in
     ap (splitClass s) (parted k) ∙ ap (namedClass s (k .name .given .0 .1 .0)) (sym (c .item-named .ensures))
 
-split-line-requires : tie.Need-split-line-requires
-split-line-requires c κs = search needs
-
-enum-known-name : tie.Need-enum-known-name
-enum-known-name c = search needs
-
-enum-told : tie.Need-enum-told
-enum-told c = search needs
-
 returns : tie.Need-returns
 returns c =
     let s = c .before .before .before .before .args .s .now in
@@ -46,15 +37,6 @@ returns c =
 
 slice-aggregate-item-named : tie.Need-slice-aggregate-item-named
 slice-aggregate-item-named c = simp length-take (omega (arith, within (c .before .before) .0))
-
-item-named-requires : tie.Need-item-named-requires
-item-named-requires c κs = search needs
-
-enum-known-item : tie.Need-enum-known-item
-enum-known-item c = search needs
-
-enum-told-2 : tie.Need-enum-told-2
-enum-told-2 c = search needs
 
 returns-2 : tie.Need-returns-2
 returns-2 c =
@@ -66,12 +48,6 @@ sub-passes-kind c = within (c .before .before .before .before .before .before) .
 
 part-passes-kind-start : tie.Need-part-passes-kind-start
 part-passes-kind-start c = within (c .before .before .before .before .before .before) .1
-
-part-passes-kind-end : tie.Need-part-passes-kind-end
-part-passes-kind-end c = search needs
-
-passes-kind-requires : tie.Need-passes-kind-requires
-passes-kind-requires c κs = search needs
 
 returns-3 : tie.Need-returns-3
 returns-3 c =
@@ -97,18 +73,18 @@ pub classify-typed-spec : {M : Type 1} → statement M
 classify-typed-spec =
     tie.close
     (tie.spec
-    split-line-requires
-    enum-known-name
-    enum-told
+    (λ c κs. search needs)
+    (λ c. search needs)
+    (λ c. search needs)
     returns
     slice-aggregate-item-named
-    item-named-requires
-    enum-known-item
-    enum-told-2
+    (λ c κs. search needs)
+    (λ c. search needs)
+    (λ c. search needs)
     returns-2
     sub-passes-kind
     part-passes-kind-start
-    part-passes-kind-end
-    passes-kind-requires
+    (λ c. search needs)
+    (λ c κs. search needs)
     returns-3
     returns-4)

@@ -22,27 +22,9 @@ spaces-run c =
 begins : (c : tie.Else1) → hasAt (c .before .before .before .args .s .now) 0 95 ≡ true
 begins c = sym (c .before .has .ensures) ∙ not-false _ (c .if1 .left)
 
-has-requires : tie.Need-has-requires
-has-requires c κs = search needs
-
 returns : tie.Need-returns
 unfolding splitOf
 returns c = simp (sym (c .before .has .ensures) ∙ not-true _ (c .if1 .taken))
-
-run-other-requires : tie.Need-run-other-requires
-run-other-requires c κs = search needs
-
-sub-run-between : tie.Need-sub-run-between
-sub-run-between c = search needs
-
-part-run-between-start : tie.Need-part-run-between-start
-part-run-between-start c = search needs
-
-part-run-between-end : tie.Need-part-run-between-end
-part-run-between-end c = search needs
-
-run-between-requires : tie.Need-run-between-requires
-run-between-requires c κs = search needs
 
 returns-2 : tie.Need-returns-2
 unfolding splitOf
@@ -50,21 +32,6 @@ returns-2 c =
     let b = c .before in
     let o = b .before .before in
     simp (← o .run-other .ensures .0, ← spaces-run b, begins (o .before), lt-leb _ _ (c .if2 .taken))
-
-add-start : tie.Need-add-start
-add-start c = search needs
-
-sub-is-value : tie.Need-sub-is-value
-sub-is-value c = search needs
-
-part-is-value-start : tie.Need-part-is-value-start
-part-is-value-start c = search needs
-
-part-is-value-end : tie.Need-part-is-value-end
-part-is-value-end c = search needs
-
-is-value-requires : tie.Need-is-value-requires
-is-value-requires c κs = search needs
 
 returns-3 : tie.Need-returns-3
 unfolding splitOf
@@ -90,18 +57,18 @@ pub split-line-spec : {M : Type 1} → statement M
 split-line-spec =
     tie.close
     (tie.spec
-    has-requires
+    (λ c κs. search needs)
     returns
-    run-other-requires
-    sub-run-between
-    part-run-between-start
-    part-run-between-end
-    run-between-requires
+    (λ c κs. search needs)
+    (λ c. search needs)
+    (λ c. search needs)
+    (λ c. search needs)
+    (λ c κs. search needs)
     returns-2
-    add-start
-    sub-is-value
-    part-is-value-start
-    part-is-value-end
-    is-value-requires
+    (λ c. search needs)
+    (λ c. search needs)
+    (λ c. search needs)
+    (λ c. search needs)
+    (λ c κs. search needs)
     returns-3
     returns-4)

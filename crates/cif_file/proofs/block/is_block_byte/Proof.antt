@@ -6,22 +6,13 @@ use Rattle.cif_file.specs.Block.{isBlockByte}
 use Rattle.cif_file.proofs.block.is_block_byte.Statement.{statement}
 use Rattle.cif_file.proofs.block.is_block_byte.Tie as tie
 
-is-between-requires : tie.Need-is-between-requires
-is-between-requires c κs = search needs
-
 returns : tie.Need-returns
 unfolding isBlockByte
 returns c = simp (sym (c .before .is-between .ensures) ∙ c .if1 .taken)
 
-is-between-requires-2 : tie.Need-is-between-requires-2
-is-between-requires-2 c κs = search needs
-
 returns-2 : tie.Need-returns-2
 unfolding isBlockByte
 returns-2 c = let f = c .before .before in simp (sym (f .before .is-between .ensures) ∙ f .if1 .left, sym (c .before .is-between2 .ensures) ∙ c .if2 .taken)
-
-is-between-requires-3 : tie.Need-is-between-requires-3
-is-between-requires-3 c κs = search needs
 
 returns-3 : tie.Need-returns-3
 unfolding isBlockByte
@@ -39,4 +30,4 @@ returns-4 c =
 
 pub is-block-byte-spec : {M : Type 1} → statement M
 is-block-byte-spec =
-    tie.close (tie.spec is-between-requires returns is-between-requires-2 returns-2 is-between-requires-3 returns-3 returns-4)
+    tie.close (tie.spec (λ c κs. search needs) returns (λ c κs. search needs) returns-2 (λ c κs. search needs) returns-3 returns-4)

@@ -31,12 +31,6 @@ returns-2 c = simp (le-leb _ _ (c .before .if1 .left), lt-leb _ _ (c .if2 .taken
 loop-holds : tie.Need-loop-holds Inv-loop μ-loop
 loop-holds c = start _ _
 
-shared-slice-read-is-block-byte : tie.Need-shared-slice-read-is-block-byte Inv-loop μ-loop
-shared-slice-read-is-block-byte c = omega arith
-
-is-block-byte-requires : tie.Need-is-block-byte-requires Inv-loop μ-loop
-is-block-byte-requires c κs = search needs
-
 returns-3 : tie.Need-returns-3 Inv-loop μ-loop
 unfolding isBlockName
 returns-3 c =
@@ -48,12 +42,6 @@ returns-3 c =
     let short = stop isBlockByte name (l .loop .inv) (b .before .before .loop-test .taken) bad in
     let some : all isBlockByte name ≡ false = sym (run-all isBlockByte name) ∙ ne-eqb (runOf isBlockByte name) (length name) (λ w. omega (arith, w, short)) in
     simp (le-leb _ _ (e .if1 .left), le-leb _ _ (l .before .if2 .left), some)
-
-add-i : tie.Need-add-i Inv-loop μ-loop
-add-i c = omega arith
-
-loop-less : tie.Need-loop-less Inv-loop μ-loop
-loop-less c = omega arith
 
 loop-again : tie.Need-loop-again Inv-loop μ-loop
 loop-again c =
@@ -80,10 +68,10 @@ is-block-name-spec =
     returns
     returns-2
     loop-holds
-    shared-slice-read-is-block-byte
-    is-block-byte-requires
+    (λ c. omega arith)
+    (λ c κs. search needs)
     returns-3
-    add-i
-    loop-less
+    (λ c. omega arith)
+    (λ c. omega arith)
     loop-again
     returns-4)

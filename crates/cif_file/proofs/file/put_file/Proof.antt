@@ -8,34 +8,10 @@ use Rattle.cif_file.proofs.Files.{file-length, file-copied}
 use Rattle.cif_file.proofs.file.put_file.Statement.{statement}
 use Rattle.cif_file.proofs.file.put_file.Tie as tie
 
-slice-aggregate-copy-in : tie.Need-slice-aggregate-copy-in
-slice-aggregate-copy-in c = search needs
-
-copy-in-requires : tie.Need-copy-in-requires
-copy-in-requires c κs = search needs
-
-copy-in-requires-2 : tie.Need-copy-in-requires-2
-copy-in-requires-2 c κs = search needs
-
-add-copy-in : tie.Need-add-copy-in
-add-copy-in c = search needs
-
-slice-aggregate-copy-in-2 : tie.Need-slice-aggregate-copy-in-2
-slice-aggregate-copy-in-2 c = search needs
-
-copy-in-requires-3 : tie.Need-copy-in-requires-3
-copy-in-requires-3 c κs = search needs
-
-add-put-items : tie.Need-add-put-items
-add-put-items c = search needs
-
 put-items-requires : tie.Need-put-items-requires
 put-items-requires c κs =
     let a = c .before .before .before .before .before .before .before .before .before .before .before .before .before .before .before .before .before .args in
     omega (arith, file-length (now (a .name)) (a .sheet))
-
-same-length : tie.Need-same-length
-same-length c = search needs
 
 returns : tie.Need-returns
 returns c =
@@ -51,13 +27,13 @@ pub put-file-spec : {M : Type 1} → statement M
 put-file-spec =
     tie.close
     (tie.spec
-    slice-aggregate-copy-in
-    copy-in-requires
-    copy-in-requires-2
-    add-copy-in
-    slice-aggregate-copy-in-2
-    copy-in-requires-3
-    add-put-items
+    (λ c. search needs)
+    (λ c κs. search needs)
+    (λ c κs. search needs)
+    (λ c. search needs)
+    (λ c. search needs)
+    (λ c κs. search needs)
+    (λ c. search needs)
     put-items-requires
-    same-length
+    (λ c. search needs)
     returns)

@@ -22,35 +22,14 @@ long s = search needs
 size : (s : tie.Start) → length (ended (itemText (s .args .k + 1) (valueIn (s .args .item)))) ≡ length (nameOf (s .args .k + 1)) + 1 + length (valueIn (s .args .item)) + 1
 size s = ended-length (s .args .k + 1) (valueIn (s .args .item))
 
-add-name-length : tie.Need-add-name-length
-add-name-length c = search needs
-
-name-length-requires : tie.Need-name-length-requires
-name-length-requires c κs = search needs
-
 add-space : tie.Need-add-space
 add-space c = omega (arith, size (c .before .before), c .name-length .ensures)
 
 add-start : tie.Need-add-start
 add-start c = omega (arith, size (c .before .before), c .name-length .ensures)
 
-value-length-requires : tie.Need-value-length-requires
-value-length-requires c κs = search needs
-
 add-end : tie.Need-add-end
 add-end c = omega (arith, size (c .before .before .before), c .before .name-length .ensures, c .value-length .ensures)
-
-add-copy-name : tie.Need-add-copy-name
-add-copy-name c = search needs
-
-copy-name-requires : tie.Need-copy-name-requires
-copy-name-requires c κs = search needs
-
-slice-aggregate-copy-in : tie.Need-slice-aggregate-copy-in
-slice-aggregate-copy-in c = search needs
-
-copy-in-requires : tie.Need-copy-in-requires
-copy-in-requires c κs = search needs
 
 array-share-prefix-value : tie.Need-array-share-prefix-value
 array-share-prefix-value c = omega (arith, long (c .before .before .before .before .before .before .before .before .before .before .before .before .before .before), c .before .before .before .before .before .before .before .before .before .before .before .value-length .ensures)
@@ -60,22 +39,10 @@ slice-aggregate-copy-in-2 c =
     let s = c .before .before .before .before .before .before .before .before .before .before .before .before .before .before .before in
     sym (length-take-le _ (s .args .item .value) (omega (arith, long s, c .before .before .before .before .before .before .before .before .before .before .before .before .value-length .ensures)))
 
-copy-in-requires-2 : tie.Need-copy-in-requires-2
-copy-in-requires-2 c κs = search needs
-
-slice-aggregate-copy-in-3 : tie.Need-slice-aggregate-copy-in-3
-slice-aggregate-copy-in-3 c = search needs
-
-copy-in-requires-3 : tie.Need-copy-in-requires-3
-copy-in-requires-3 c κs = search needs
-
 add-result : tie.Need-add-result
 add-result c =
     let s = c .before .before .before .before .before .before .before .before .before .before .before .before .before .before .before .before .before .before .before .before .before .before .before in
     omega (arith, size s, c .before .before .before .before .before .before .before .before .before .before .before .before .before .before .before .before .before .before .before .before .before .name-length .ensures, c .before .before .before .before .before .before .before .before .before .before .before .before .before .before .before .before .before .before .before .before .value-length .ensures)
-
-same-length : tie.Need-same-length
-same-length c = search needs
 
 returns : tie.Need-returns
 returns c =
@@ -96,21 +63,21 @@ pub put-filled-spec : {M : Type 1} → statement M
 put-filled-spec =
     tie.close
     (tie.spec
-    add-name-length
-    name-length-requires
+    (λ c. search needs)
+    (λ c κs. search needs)
     add-space
     add-start
-    value-length-requires
+    (λ c κs. search needs)
     add-end
-    add-copy-name
-    copy-name-requires
-    slice-aggregate-copy-in
-    copy-in-requires
+    (λ c. search needs)
+    (λ c κs. search needs)
+    (λ c. search needs)
+    (λ c κs. search needs)
     array-share-prefix-value
     slice-aggregate-copy-in-2
-    copy-in-requires-2
-    slice-aggregate-copy-in-3
-    copy-in-requires-3
+    (λ c κs. search needs)
+    (λ c. search needs)
+    (λ c κs. search needs)
     add-result
-    same-length
+    (λ c. search needs)
     returns)

@@ -27,9 +27,6 @@ put-filled-requires c κs =
     let e = ap (λ (l : List ℕ). length l) (filled-line (a .k + 1) (a .item) (b .if1 .left)) in
     (omega (arith, e), omega arith)
 
-same-length : tie.Need-same-length
-same-length c = search needs
-
 returns-2 : tie.Need-returns-2
 returns-2 c =
     let p = c .before .before in
@@ -39,4 +36,4 @@ returns-2 c =
     (p .put-filled .ensures .0 ∙ ap (copied (now (a .out)) (a .at)) e, p .put-filled .ensures .1 ∙ ap (λ (l : List ℕ). a .at + length l) e)
 
 pub put-item-spec : {M : Type 1} → statement M
-put-item-spec = tie.close (tie.spec returns put-filled-requires same-length returns-2)
+put-item-spec = tie.close (tie.spec returns put-filled-requires (λ c. search needs) returns-2)

@@ -25,24 +25,12 @@ ten c = sym (length-map (c .args .t3 .items) _) ∙ c .good .1 .1 .0 .1 .1 .0 .1
 loop-holds : tie.Need-loop-holds Inv-loop μ-loop
 loop-holds c = let a = c .before .args in (omega arith, put-none itemLine (a .t3 .items) (now (a .out)) (a .start))
 
-mul-item : tie.Need-mul-item Inv-loop μ-loop
-mul-item c = omega arith
-
-element-copy-out-item : tie.Need-element-copy-out-item Inv-loop μ-loop
-element-copy-out-item c = search needs
-
 put-item-requires : tie.Need-put-item-requires Inv-loop μ-loop
 put-item-requires c κs =
     let l = c .before .before .before in
     let s = l .before .before in
     let a = s .args in
     (put-room itemLine (a .t3 .items) (now (a .out)) (a .start) (l .loop .inv .1) noItem (omega (arith, ten s)) (s .pre), omega arith)
-
-add-i : tie.Need-add-i Inv-loop μ-loop
-add-i c = omega arith
-
-loop-less : tie.Need-loop-less Inv-loop μ-loop
-loop-less c = omega arith
 
 loop-again : tie.Need-loop-again Inv-loop μ-loop
 loop-again c =
@@ -52,9 +40,6 @@ loop-again c =
     let a = s .args in
     let e = p .put-item .ensures in
     (omega arith, put-next itemLine (a .t3 .items) (now (a .out)) (a .start) (l .loop .inv .1) noItem (omega (arith, ten s)) (s .pre) (e .0) (e .1))
-
-same-length : tie.Need-same-length Inv-loop μ-loop
-same-length c = omega arith
 
 returns : tie.Need-returns Inv-loop μ-loop
 returns c =
@@ -70,11 +55,11 @@ put-items-spec =
     Inv-loop
     μ-loop
     loop-holds
-    mul-item
-    element-copy-out-item
+    (λ c. omega arith)
+    (λ c. search needs)
     put-item-requires
-    add-i
-    loop-less
+    (λ c. omega arith)
+    (λ c. omega arith)
     loop-again
-    same-length
+    (λ c. omega arith)
     returns)

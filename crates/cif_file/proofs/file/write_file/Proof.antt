@@ -20,23 +20,11 @@ sound e = sym (e .before .is-sound .ensures) ∙ not-false _ (e .if1 .left)
 named : (e : tie.Else2) → isBlockName (now (e .before .before .before .before .before .before .args .name)) ≡ true
 named e = sym (e .before .is-block-name .ensures) ∙ not-false _ (e .if2 .left)
 
-is-sound-requires : tie.Need-is-sound-requires
-is-sound-requires c κs = search needs
-
-refuse-requires : tie.Need-refuse-requires
-refuse-requires c κs = search needs
-
 returns : tie.Need-returns
 returns c =
     let i = c .before in
     let a = i .before .before .before .before .args in
     step-unsound (a .d) (now (a .name)) (now (a .out)) _ (sym (i .before .is-sound .ensures) ∙ not-true _ (i .if1 .taken)) (c .refuse .ensures)
-
-is-block-name-requires : tie.Need-is-block-name-requires
-is-block-name-requires c κs = search needs
-
-refuse-requires-2 : tie.Need-refuse-requires-2
-refuse-requires-2 c κs = search needs
 
 returns-2 : tie.Need-returns-2
 returns-2 c =
@@ -49,14 +37,8 @@ returns-2 c =
 add-count : tie.Need-add-count
 add-count c = let e = c .before in omega (arith, block-short (now (e .before .before .before .before .before .before .args .name)) (named e))
 
-lines-length-requires : tie.Need-lines-length-requires
-lines-length-requires c κs = search needs
-
 add-count-2 : tie.Need-add-count-2
 add-count-2 c = let e = c .before .before in omega (arith, block-short (now (e .before .before .before .before .before .before .args .name)) (named e), c .lines-length .ensures)
-
-refuse-requires-3 : tie.Need-refuse-requires-3
-refuse-requires-3 c κs = search needs
 
 returns-3 : tie.Need-returns-3
 returns-3 c =
@@ -74,9 +56,6 @@ put-file-requires c κs =
     let a = l .before .before .before .before .before .before .before .before .args in
     omega (arith, file-length (now (a .name)) (a .d .sheet), l .lines-length .ensures, i .if3 .left)
 
-same-length : tie.Need-same-length
-same-length c = search needs
-
 returns-4 : tie.Need-returns-4
 returns-4 c =
     let p = c .before .before in
@@ -91,17 +70,17 @@ pub write-file-spec : {M : Type 1} → statement M
 write-file-spec =
     tie.close
     (tie.spec
-    is-sound-requires
-    refuse-requires
+    (λ c κs. search needs)
+    (λ c κs. search needs)
     returns
-    is-block-name-requires
-    refuse-requires-2
+    (λ c κs. search needs)
+    (λ c κs. search needs)
     returns-2
     add-count
-    lines-length-requires
+    (λ c κs. search needs)
     add-count-2
-    refuse-requires-3
+    (λ c κs. search needs)
     returns-3
     put-file-requires
-    same-length
+    (λ c. search needs)
     returns-4)

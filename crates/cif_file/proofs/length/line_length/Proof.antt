@@ -18,17 +18,8 @@ returns c =
     let e = ap (λ (l : List ℕ). length l) (empty-line (a .k + 1) (a .item) (c .if1 .taken)) in
     (sym e, omega arith)
 
-add-name-length : tie.Need-add-name-length
-add-name-length c = search needs
-
-name-length-requires : tie.Need-name-length-requires
-name-length-requires c κs = search needs
-
 add-result : tie.Need-add-result
 add-result c = let a = c .before .before .before .args in omega (arith, name-short (a .k + 1) (omega arith) (omega arith), c .name-length .ensures)
-
-value-length-requires : tie.Need-value-length-requires
-value-length-requires c κs = search needs
 
 add-result-2 : tie.Need-add-result-2
 add-result-2 c =
@@ -55,10 +46,10 @@ line-length-spec =
     tie.close
     (tie.spec
     returns
-    add-name-length
-    name-length-requires
+    (λ c. search needs)
+    (λ c κs. search needs)
     add-result
-    value-length-requires
+    (λ c κs. search needs)
     add-result-2
     add-result-3
     returns-2)

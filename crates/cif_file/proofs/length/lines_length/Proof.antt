@@ -25,24 +25,6 @@ ten c = sym (length-map (c .args .t1 .items) _) ∙ c .good .0 .1 .1 .0 .1 .0 .1
 loop-holds : tie.Need-loop-holds Inv-loop μ-loop
 loop-holds c = (omega arith, omega arith, sym (ap (λ (l : List ℕ). length l) (lines-none itemLine (c .args .t1 .items))))
 
-mul-item : tie.Need-mul-item Inv-loop μ-loop
-mul-item c = omega arith
-
-element-copy-out-item : tie.Need-element-copy-out-item Inv-loop μ-loop
-element-copy-out-item c = search needs
-
-line-length-requires : tie.Need-line-length-requires Inv-loop μ-loop
-line-length-requires c κs = omega arith
-
-add-n : tie.Need-add-n Inv-loop μ-loop
-add-n c = omega arith
-
-add-i : tie.Need-add-i Inv-loop μ-loop
-add-i c = omega arith
-
-loop-less : tie.Need-loop-less Inv-loop μ-loop
-loop-less c = omega arith
-
 loop-again : tie.Need-loop-again Inv-loop μ-loop
 loop-again c =
     let l = c .before .before .before in
@@ -67,11 +49,11 @@ lines-length-spec =
     Inv-loop
     μ-loop
     loop-holds
-    mul-item
-    element-copy-out-item
-    line-length-requires
-    add-n
-    add-i
-    loop-less
+    (λ c. omega arith)
+    (λ c. search needs)
+    (λ c κs. omega arith)
+    (λ c. omega arith)
+    (λ c. omega arith)
+    (λ c. omega arith)
     loop-again
     returns)

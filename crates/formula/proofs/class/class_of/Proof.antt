@@ -14,22 +14,13 @@ carbon c = sym (c .before .has-symbol .ensures) ∙ not-false _ (c .if1 .left)
 hydrogen : (c : tie.Else2) → hasSymbol 72 32 (c .before .before .before .before .before .args .s .now) ≡ true
 hydrogen c = sym (c .before .has-symbol2 .ensures) ∙ not-false _ (c .if2 .left)
 
-has-symbol-requires : tie.Need-has-symbol-requires
-has-symbol-requires c κs = search needs
-
 returns : tie.Need-returns
 unfolding classOf
 returns c = simp (sym (c .before .has-symbol .ensures) ∙ not-true _ (c .if1 .taken))
 
-has-symbol-requires-2 : tie.Need-has-symbol-requires-2
-has-symbol-requires-2 c κs = search needs
-
 returns-2 : tie.Need-returns-2
 unfolding classOf
 returns-2 c = simp (carbon (c .before .before), sym (c .before .has-symbol2 .ensures) ∙ not-true _ (c .if2 .taken))
-
-has-metal-requires : tie.Need-has-metal-requires
-has-metal-requires c κs = search needs
 
 returns-3 : tie.Need-returns-3
 unfolding classOf
@@ -47,10 +38,10 @@ pub class-of-spec : {M : Type 1} → statement M
 class-of-spec =
     tie.close
     (tie.spec
-    has-symbol-requires
+    (λ c κs. search needs)
     returns
-    has-symbol-requires-2
+    (λ c κs. search needs)
     returns-2
-    has-metal-requires
+    (λ c κs. search needs)
     returns-3
     returns-4)

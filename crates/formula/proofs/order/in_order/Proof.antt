@@ -27,25 +27,10 @@ loop-holds : tie.Need-loop-holds Inv-loop μ-loop
 unfolding inOrder
 loop-holds c = ap (λ (ts : List Term). rising 0 (keysOf ts)) (from-start _)
 
-step-at-requires : tie.Need-step-at-requires Inv-loop μ-loop
-step-at-requires c κs = search needs
-
-enum-known-term : tie.Need-enum-known-term Inv-loop μ-loop
-enum-known-term c = search needs
-
-enum-told : tie.Need-enum-told Inv-loop μ-loop
-enum-told c = search needs
-
 returns : tie.Need-returns Inv-loop μ-loop
 returns c =
     let f = c .before .before in
     sym (f .before .loop .inv ∙ order-end _ (step-end _ _ (sym (f .step-at .ensures) ∙ c .enum-told .given .1)))
-
-enum-known-term-2 : tie.Need-enum-known-term-2 Inv-loop μ-loop
-enum-known-term-2 c = search needs
-
-enum-told-2 : tie.Need-enum-told-2 Inv-loop μ-loop
-enum-told-2 c = search needs
 
 loop-less : tie.Need-loop-less Inv-loop μ-loop
 loop-less c = falls (stepped (c .before .before .before))
@@ -54,9 +39,6 @@ loop-again : tie.Need-loop-again Inv-loop μ-loop
 loop-again c =
     let k = c .before .before .before in
     k .before .before .before .loop .inv ∙ order-skip (stepped k) _ (c .enum-told2 .given .1)
-
-key-of-requires : tie.Need-key-of-requires Inv-loop μ-loop
-key-of-requires c κs = search needs
 
 returns-2 : tie.Need-returns-2 Inv-loop μ-loop
 returns-2 c =
@@ -81,15 +63,15 @@ in-order-spec =
     Inv-loop
     μ-loop
     loop-holds
-    step-at-requires
-    enum-known-term
-    enum-told
+    (λ c κs. search needs)
+    (λ c. search needs)
+    (λ c. search needs)
     returns
-    enum-known-term-2
-    enum-told-2
+    (λ c. search needs)
+    (λ c. search needs)
     loop-less
     loop-again
-    key-of-requires
+    (λ c κs. search needs)
     returns-2
     loop-less-2
     loop-again-2)

@@ -8,25 +8,10 @@ use borrow.Author.Needs.{needs}
 use Rattle.formula.proofs.order.key_of.Statement.{statement}
 use Rattle.formula.proofs.order.key_of.Tie as tie
 
-rank-of-requires : tie.Need-rank-of-requires
-rank-of-requires c κs = search needs
-
-mul-result : tie.Need-mul-result
-mul-result c = omega arith
-
-add-result : tie.Need-add-result
-add-result c = omega arith
-
-mul-result-2 : tie.Need-mul-result-2
-mul-result-2 c = omega arith
-
-add-result-2 : tie.Need-add-result-2
-add-result-2 c = omega arith
-
 returns : tie.Need-returns
 unfolding key
 returns c = ap (λ (r : ℕ). (r * 256 + c .before .args .a) * 256 + c .before .args .b) (c .rank-of .ensures .0)
 
 pub key-of-spec : {M : Type 1} → statement M
 key-of-spec =
-    tie.close (tie.spec rank-of-requires mul-result add-result mul-result-2 add-result-2 returns)
+    tie.close (tie.spec (λ c κs. search needs) (λ c. omega arith) (λ c. omega arith) (λ c. omega arith) (λ c. omega arith) returns)

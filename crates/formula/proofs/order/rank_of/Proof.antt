@@ -7,15 +7,9 @@ use borrow.Author.Needs.{needs}
 use Rattle.formula.proofs.order.rank_of.Statement.{statement}
 use Rattle.formula.proofs.order.rank_of.Tie as tie
 
-same-symbol-requires : tie.Need-same-symbol-requires
-same-symbol-requires c κs = search needs
-
 returns : tie.Need-returns
 unfolding rank
 returns c = (simp (sym (c .before .same-symbol .ensures) ∙ c .if1 .taken), omega arith)
-
-same-symbol-requires-2 : tie.Need-same-symbol-requires-2
-same-symbol-requires-2 c κs = search needs
 
 returns-2 : tie.Need-returns-2
 unfolding rank
@@ -31,4 +25,4 @@ returns-3 c =
 
 pub rank-of-spec : {M : Type 1} → statement M
 rank-of-spec =
-    tie.close (tie.spec same-symbol-requires returns same-symbol-requires-2 returns-2 returns-3)
+    tie.close (tie.spec (λ c κs. search needs) returns (λ c κs. search needs) returns-2 returns-3)

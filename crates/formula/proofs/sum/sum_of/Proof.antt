@@ -40,15 +40,6 @@ returns c = simp (lt-leb _ _ (c .if1 .taken))
 loop-holds : tie.Need-loop-holds Inv-loop μ-loop
 loop-holds c = (sum-start _, omega arith, omega arith)
 
-step-at-requires : tie.Need-step-at-requires Inv-loop μ-loop
-step-at-requires c κs = search needs
-
-enum-known-term : tie.Need-enum-known-term Inv-loop μ-loop
-enum-known-term c = search needs
-
-enum-told : tie.Need-enum-told Inv-loop μ-loop
-enum-told c = search needs
-
 returns-2 : tie.Need-returns-2 Inv-loop μ-loop
 returns-2 c =
     let f = c .before .before in
@@ -57,12 +48,6 @@ returns-2 c =
 
 term-weight-requires : tie.Need-term-weight-requires Inv-loop μ-loop
 term-weight-requires c κs = step-small (stepped (c .before))
-
-enum-known-w : tie.Need-enum-known-w Inv-loop μ-loop
-enum-known-w c = search needs
-
-enum-told-2 : tie.Need-enum-told-2 Inv-loop μ-loop
-enum-told-2 c = search needs
 
 returns-3 : tie.Need-returns-3 Inv-loop μ-loop
 returns-3 c =
@@ -94,13 +79,13 @@ sum-of-spec =
     μ-loop
     returns
     loop-holds
-    step-at-requires
-    enum-known-term
-    enum-told
+    (λ c κs. search needs)
+    (λ c. search needs)
+    (λ c. search needs)
     returns-2
     term-weight-requires
-    enum-known-w
-    enum-told-2
+    (λ c. search needs)
+    (λ c. search needs)
     returns-3
     add-sum
     loop-less

@@ -22,24 +22,6 @@ small c =
     let t = f .before .before in
     product-small _ _ (subst SmallCount (t .t .given .1) (t .before .before .pre)) (subst Light (sym (f .weight-of .ensures) ∙ c .w .given .1) (weight-light _ _))
 
-enum-known-t : tie.Need-enum-known-t
-enum-known-t c = search needs
-
-enum-told : tie.Need-enum-told
-enum-told c = search needs
-
-returns : tie.Need-returns
-returns c = search needs
-
-weight-of-requires : tie.Need-weight-of-requires
-weight-of-requires c κs = search needs
-
-enum-known-w : tie.Need-enum-known-w
-enum-known-w c = search needs
-
-enum-told-2 : tie.Need-enum-told-2
-enum-told-2 c = search needs
-
 returns-2 : tie.Need-returns-2
 returns-2 c = (sym (weighed (c .before .before) ∙ ap (times _) (c .enum-told2 .given .1)), tt)
 
@@ -53,12 +35,12 @@ pub term-weight-spec : {M : Type 1} → statement M
 term-weight-spec =
     tie.close
     (tie.spec
-    enum-known-t
-    enum-told
-    returns
-    weight-of-requires
-    enum-known-w
-    enum-told-2
+    (λ c. search needs)
+    (λ c. search needs)
+    (λ c. search needs)
+    (λ c κs. search needs)
+    (λ c. search needs)
+    (λ c. search needs)
     returns-2
     mul-t7
     returns-3)

@@ -13,30 +13,6 @@ use borrow.Author.Needs.{needs}
 use Rattle.play.proofs.call.play_call.Statement.{statement}
 use Rattle.play.proofs.call.play_call.Tie as tie
 
-shared-slice-read-kind : tie.Need-shared-slice-read-kind
-shared-slice-read-kind c = search needs
-
-sub-read-number : tie.Need-sub-read-number
-sub-read-number c = search needs
-
-part-read-number-start : tie.Need-part-read-number-start
-part-read-number-start c = search needs
-
-part-read-number-end : tie.Need-part-read-number-end
-part-read-number-end c = search needs
-
-read-number-requires : tie.Need-read-number-requires
-read-number-requires c κs = search needs
-
-shared-slice-read-byte : tie.Need-shared-slice-read-byte
-shared-slice-read-byte c = search needs
-
-play-one-requires : tie.Need-play-one-requires
-play-one-requires c κs = search needs
-
-same-length : tie.Need-same-length
-same-length c = search needs
-
 returns : tie.Need-returns
 returns c =
     let p = c .before .before in
@@ -51,12 +27,12 @@ pub play-call-spec : {M : Type 1} → statement M
 play-call-spec =
     tie.close
     (tie.spec
-    shared-slice-read-kind
-    sub-read-number
-    part-read-number-start
-    part-read-number-end
-    read-number-requires
-    shared-slice-read-byte
-    play-one-requires
-    same-length
+    (λ c. search needs)
+    (λ c. search needs)
+    (λ c. search needs)
+    (λ c. search needs)
+    (λ c κs. search needs)
+    (λ c. search needs)
+    (λ c κs. search needs)
+    (λ c. search needs)
     returns)

@@ -16,51 +16,6 @@ use Rattle.copies.proofs.Copies.{copied-next}
 use Rattle.play.proofs.desk_bytes.put_desk.Statement.{statement}
 use Rattle.play.proofs.desk_bytes.put_desk.Tie as tie
 
-put-lines-requires : tie.Need-put-lines-requires
-put-lines-requires c κs = search needs
-
-add-put-items : tie.Need-add-put-items
-add-put-items c = omega arith
-
-put-items-requires : tie.Need-put-items-requires
-put-items-requires c κs = search needs
-
-number-bytes-requires : tie.Need-number-bytes-requires
-number-bytes-requires c κs = search needs
-
-add-copy-in : tie.Need-add-copy-in
-add-copy-in c = omega arith
-
-add-copy-in-2 : tie.Need-add-copy-in-2
-add-copy-in-2 c = omega arith
-
-slice-aggregate-copy-in : tie.Need-slice-aggregate-copy-in
-slice-aggregate-copy-in c = search needs
-
-copy-in-requires : tie.Need-copy-in-requires
-copy-in-requires c κs = search needs
-
-number-bytes-requires-2 : tie.Need-number-bytes-requires-2
-number-bytes-requires-2 c κs = search needs
-
-add-copy-in-3 : tie.Need-add-copy-in-3
-add-copy-in-3 c = omega arith
-
-add-copy-in-4 : tie.Need-add-copy-in-4
-add-copy-in-4 c = omega arith
-
-add-copy-in-5 : tie.Need-add-copy-in-5
-add-copy-in-5 c = omega arith
-
-slice-aggregate-copy-in-2 : tie.Need-slice-aggregate-copy-in-2
-slice-aggregate-copy-in-2 c = search needs
-
-copy-in-requires-2 : tie.Need-copy-in-requires-2
-copy-in-requires-2 c κs = search needs
-
-same-length : tie.Need-same-length
-same-length c = search needs
-
 returns : tie.Need-returns
 returns c =
     let p4 = c .before .before in
@@ -88,19 +43,19 @@ pub put-desk-spec : {M : Type 1} → statement M
 put-desk-spec =
     tie.close
     (tie.spec
-    put-lines-requires
-    add-put-items
-    put-items-requires
-    number-bytes-requires
-    add-copy-in
-    add-copy-in-2
-    slice-aggregate-copy-in
-    copy-in-requires
-    number-bytes-requires-2
-    add-copy-in-3
-    add-copy-in-4
-    add-copy-in-5
-    slice-aggregate-copy-in-2
-    copy-in-requires-2
-    same-length
+    (λ c κs. search needs)
+    (λ c. omega arith)
+    (λ c κs. search needs)
+    (λ c κs. search needs)
+    (λ c. omega arith)
+    (λ c. omega arith)
+    (λ c. search needs)
+    (λ c κs. search needs)
+    (λ c κs. search needs)
+    (λ c. omega arith)
+    (λ c. omega arith)
+    (λ c. omega arith)
+    (λ c. search needs)
+    (λ c κs. search needs)
+    (λ c. search needs)
     returns)

@@ -18,57 +18,6 @@ use Rattle.play.proofs.desk_bytes.put_item.Tie as tie
 long : (c : tie.Start) → length (c .args .i .value) ≡ lineMost
 long c = search needs
 
-slice-aggregate-copy-in : tie.Need-slice-aggregate-copy-in
-slice-aggregate-copy-in c = search needs
-
-copy-in-requires : tie.Need-copy-in-requires
-copy-in-requires c κs = search needs
-
-number-bytes-requires : tie.Need-number-bytes-requires
-number-bytes-requires c κs = search needs
-
-add-copy-in : tie.Need-add-copy-in
-add-copy-in c = search needs
-
-slice-aggregate-copy-in-2 : tie.Need-slice-aggregate-copy-in-2
-slice-aggregate-copy-in-2 c = search needs
-
-copy-in-requires-2 : tie.Need-copy-in-requires-2
-copy-in-requires-2 c κs = search needs
-
-number-bytes-requires-2 : tie.Need-number-bytes-requires-2
-number-bytes-requires-2 c κs = search needs
-
-add-copy-in-2 : tie.Need-add-copy-in-2
-add-copy-in-2 c = search needs
-
-add-copy-in-3 : tie.Need-add-copy-in-3
-add-copy-in-3 c = search needs
-
-slice-aggregate-copy-in-3 : tie.Need-slice-aggregate-copy-in-3
-slice-aggregate-copy-in-3 c = search needs
-
-copy-in-requires-3 : tie.Need-copy-in-requires-3
-copy-in-requires-3 c κs = search needs
-
-add-copy-in-4 : tie.Need-add-copy-in-4
-add-copy-in-4 c = search needs
-
-mul-copy-in : tie.Need-mul-copy-in
-mul-copy-in c = search needs
-
-add-copy-in-5 : tie.Need-add-copy-in-5
-add-copy-in-5 c = search needs
-
-slice-aggregate-copy-in-4 : tie.Need-slice-aggregate-copy-in-4
-slice-aggregate-copy-in-4 c = search needs
-
-copy-in-requires-4 : tie.Need-copy-in-requires-4
-copy-in-requires-4 c κs = search needs
-
-same-length : tie.Need-same-length
-same-length c = search needs
-
 returns : tie.Need-returns
 returns c =
     let p4 = c .before .before in
@@ -95,21 +44,21 @@ pub put-item-spec : {M : Type 1} → statement M
 put-item-spec =
     tie.close
     (tie.spec
-    slice-aggregate-copy-in
-    copy-in-requires
-    number-bytes-requires
-    add-copy-in
-    slice-aggregate-copy-in-2
-    copy-in-requires-2
-    number-bytes-requires-2
-    add-copy-in-2
-    add-copy-in-3
-    slice-aggregate-copy-in-3
-    copy-in-requires-3
-    add-copy-in-4
-    mul-copy-in
-    add-copy-in-5
-    slice-aggregate-copy-in-4
-    copy-in-requires-4
-    same-length
+    (λ c. search needs)
+    (λ c κs. search needs)
+    (λ c κs. search needs)
+    (λ c. search needs)
+    (λ c. search needs)
+    (λ c κs. search needs)
+    (λ c κs. search needs)
+    (λ c. search needs)
+    (λ c. search needs)
+    (λ c. search needs)
+    (λ c κs. search needs)
+    (λ c. search needs)
+    (λ c. search needs)
+    (λ c. search needs)
+    (λ c. search needs)
+    (λ c κs. search needs)
+    (λ c. search needs)
     returns)

@@ -27,27 +27,6 @@ loop-holds c =
     let a = c .before .args in
     (omega arith, put-none itemBytes itemLength (a .t3 .items) (now (a .out)) (a .at))
 
-mul-item : tie.Need-mul-item Inv-loop μ-loop
-mul-item c = search needs
-
-element-copy-out-item : tie.Need-element-copy-out-item Inv-loop μ-loop
-element-copy-out-item c = search needs
-
-mul-put-item : tie.Need-mul-put-item Inv-loop μ-loop
-mul-put-item c = omega arith
-
-add-put-item : tie.Need-add-put-item Inv-loop μ-loop
-add-put-item c = omega arith
-
-put-item-requires : tie.Need-put-item-requires Inv-loop μ-loop
-put-item-requires c κs = omega arith
-
-add-i : tie.Need-add-i Inv-loop μ-loop
-add-i c = omega arith
-
-loop-less : tie.Need-loop-less Inv-loop μ-loop
-loop-less c = omega arith
-
 loop-again : tie.Need-loop-again Inv-loop μ-loop
 loop-again c =
     let p = c .before .before in
@@ -55,9 +34,6 @@ loop-again c =
     let s = l .before .before in
     let a = s .args in
     (omega arith, put-next itemBytes itemLength (a .t3 .items) (now (a .out)) (a .at) (l .loop .i) (l .loop .out) _ noItem (l .loop .inv .1) (omega (arith, ten s)) (omega arith) (p .put-item .ensures .1) (p .put-item .ensures .0))
-
-same-length : tie.Need-same-length Inv-loop μ-loop
-same-length c = omega arith
 
 returns : tie.Need-returns Inv-loop μ-loop
 returns c =
@@ -73,13 +49,13 @@ put-items-spec =
     Inv-loop
     μ-loop
     loop-holds
-    mul-item
-    element-copy-out-item
-    mul-put-item
-    add-put-item
-    put-item-requires
-    add-i
-    loop-less
+    (λ c. search needs)
+    (λ c. search needs)
+    (λ c. omega arith)
+    (λ c. omega arith)
+    (λ c κs. omega arith)
+    (λ c. omega arith)
+    (λ c. omega arith)
     loop-again
-    same-length
+    (λ c. omega arith)
     returns)

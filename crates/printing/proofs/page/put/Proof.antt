@@ -11,15 +11,6 @@ use Rattle.printing.proofs.page.put.Tie as tie
 long : (c : tie.Start) → length (c .args .p .bytes) ≡ 2048
 long c = search needs
 
-slice-aggregate-copy-in : tie.Need-slice-aggregate-copy-in
-slice-aggregate-copy-in c = search needs
-
-copy-in-requires : tie.Need-copy-in-requires
-copy-in-requires c κs = search needs
-
-add-t10 : tie.Need-add-t10
-add-t10 c = search needs
-
 returns : tie.Need-returns
 returns c =
     let k = c .before in
@@ -27,4 +18,4 @@ returns c =
     put-adds (s .args .p) (now (s .args .piece)) _ (long s) (s .pre) (k .copy-in .ensures)
 
 pub put-spec : {M : Type 1} → statement M
-put-spec = tie.close (tie.spec slice-aggregate-copy-in copy-in-requires add-t10 returns)
+put-spec = tie.close (tie.spec (λ c. search needs) (λ c κs. search needs) (λ c. search needs) returns)

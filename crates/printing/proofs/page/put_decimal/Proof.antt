@@ -25,24 +25,6 @@ lent ds i h = take-all (20 - i) (drop i ds) (simp length-drop (omega arith))
 loop-holds : tie.Need-loop-holds Inv-loop μ-loop
 loop-holds c = (omega arith, omega arith, sym (append-nil (decimalText (c .args .n))))
 
-sub-i : tie.Need-sub-i Inv-loop μ-loop
-sub-i c = omega arith
-
-cast-digits : tie.Need-cast-digits Inv-loop μ-loop
-cast-digits c = omega arith
-
-add-digits : tie.Need-add-digits Inv-loop μ-loop
-add-digits c = omega arith
-
-array-write-digits : tie.Need-array-write-digits Inv-loop μ-loop
-array-write-digits c = omega arith
-
-sub-put : tie.Need-sub-put Inv-loop μ-loop
-sub-put c = omega arith
-
-part-put-start : tie.Need-part-put-start Inv-loop μ-loop
-part-put-start c = omega arith
-
 part-put-end : tie.Need-part-put-end Inv-loop μ-loop
 part-put-end c = simp length-set (omega arith)
 
@@ -62,9 +44,6 @@ returns c =
     let tail = adds-as (lent ds j long) (c .put .ensures) in
     (adds-as (sym all) tail, omega (arith, tail .size, few))
 
-loop-less : tie.Need-loop-less Inv-loop μ-loop
-loop-less c = omega arith
-
 loop-again : tie.Need-loop-again Inv-loop μ-loop
 loop-again c =
     let l = c .before .before .loop in
@@ -75,12 +54,6 @@ loop-again c =
       simp length-set (omega arith),
       l .inv .2 ∙ ap (λ (k : ℕ). lastDigits k (l .rest) ++ drop k (l .digits)) one ∙ later-digit (l .digits) j (l .rest) here (omega arith),
     )
-
-slice-aggregate-put : tie.Need-slice-aggregate-put Inv-loop μ-loop
-slice-aggregate-put c = omega arith
-
-put-requires-2 : tie.Need-put-requires-2 Inv-loop μ-loop
-put-requires-2 c κs = omega arith
 
 returns-2 : tie.Need-returns-2 Inv-loop μ-loop
 unfolding lastDigits
@@ -96,17 +69,17 @@ put-decimal-spec =
     Inv-loop
     μ-loop
     loop-holds
-    sub-i
-    cast-digits
-    add-digits
-    array-write-digits
-    sub-put
-    part-put-start
+    (λ c. omega arith)
+    (λ c. omega arith)
+    (λ c. omega arith)
+    (λ c. omega arith)
+    (λ c. omega arith)
+    (λ c. omega arith)
     part-put-end
     put-requires
     returns
-    loop-less
+    (λ c. omega arith)
     loop-again
-    slice-aggregate-put
-    put-requires-2
+    (λ c. omega arith)
+    (λ c κs. omega arith)
     returns-2)

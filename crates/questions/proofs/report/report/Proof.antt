@@ -9,20 +9,11 @@ use borrow.Author.Needs.{needs}
 use Rattle.questions.proofs.report.report.Statement.{statement}
 use Rattle.questions.proofs.report.report.Tie as tie
 
-is-sound-requires : tie.Need-is-sound-requires
-is-sound-requires c κs = search needs
-
-no-rows-requires : tie.Need-no-rows-requires
-no-rows-requires c κs = search needs
-
 returns : tie.Need-returns
 unfolding reportedOf
 returns c =
     let e = c .before in
     ap (reportedAs Unsound) (c .no-rows .ensures) ∙ simp (sym (e .before .is-sound .ensures) ∙ not-true _ (e .if1 .taken))
-
-sheet-rows-requires : tie.Need-sheet-rows-requires
-sheet-rows-requires c κs = search needs
 
 returns-2 : tie.Need-returns-2
 unfolding reportedOf
@@ -32,4 +23,4 @@ returns-2 c =
 
 pub report-spec : {M : Type 1} → statement M
 report-spec =
-    tie.close (tie.spec is-sound-requires no-rows-requires returns sheet-rows-requires returns-2)
+    tie.close (tie.spec (λ c κs. search needs) (λ c κs. search needs) returns (λ c κs. search needs) returns-2)

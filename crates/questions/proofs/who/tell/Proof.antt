@@ -7,9 +7,6 @@ use borrow.Author.Needs.{needs}
 use Rattle.questions.proofs.who.tell.Statement.{statement}
 use Rattle.questions.proofs.who.tell.Tie as tie
 
-tell-nobody-requires : tie.Need-tell-nobody-requires
-tell-nobody-requires c κs = search needs
-
 returns : tie.Need-returns
 unfolding toldOf
 returns c = c .tell-nobody .ensures ∙ simp (eq-eqb _ 0 (c .before .if1 .taken))
@@ -19,4 +16,4 @@ unfolding toldOf
 returns-2 c = simp (ne-eqb _ 0 (c .if1 .left))
 
 pub tell-spec : {M : Type 1} → statement M
-tell-spec = tie.close (tie.spec tell-nobody-requires returns returns-2)
+tell-spec = tie.close (tie.spec (λ c κs. search needs) returns returns-2)

@@ -7,18 +7,9 @@ use borrow.Author.Needs.{needs}
 use Rattle.questions.proofs.who.who.Statement.{statement}
 use Rattle.questions.proofs.who.who.Tie as tie
 
-is-sound-requires : tie.Need-is-sound-requires
-is-sound-requires c κs = search needs
-
-tell-nobody-requires : tie.Need-tell-nobody-requires
-tell-nobody-requires c κs = search needs
-
 returns : tie.Need-returns
 unfolding whoOf
 returns c = c .tell-nobody .ensures ∙ simp (sym (c .before .before .is-sound .ensures) ∙ not-true _ (c .before .if1 .taken))
-
-tell-nobody-requires-2 : tie.Need-tell-nobody-requires-2
-tell-nobody-requires-2 c κs = search needs
 
 returns-2 : tie.Need-returns-2
 unfolding whoOf
@@ -26,24 +17,12 @@ returns-2 c =
     let e1 = c .before .before in
     c .tell-nobody2 .ensures ∙ simp (sym (e1 .before .is-sound .ensures) ∙ not-false _ (e1 .if1 .left), lt-leb 1 _ (c .before .if2 .taken))
 
-tell-nobody-requires-3 : tie.Need-tell-nobody-requires-3
-tell-nobody-requires-3 c κs = search needs
-
 returns-3 : tie.Need-returns-3
 unfolding whoOf
 returns-3 c =
     let e2 = c .before .before in
     let e1 = e2 .before in
     c .tell-nobody3 .ensures ∙ simp (sym (e1 .before .is-sound .ensures) ∙ not-false _ (e1 .if1 .left), le-leb 1 _ (e2 .if2 .left), lt-leb _ 10 (c .before .if3 .taken))
-
-mul-i : tie.Need-mul-i
-mul-i c = search needs
-
-element-copy-out-i : tie.Need-element-copy-out-i
-element-copy-out-i c = search needs
-
-tell-requires : tie.Need-tell-requires
-tell-requires c κs = search needs
 
 returns-4 : tie.Need-returns-4
 unfolding whoOf
@@ -57,14 +36,14 @@ pub who-spec : {M : Type 1} → statement M
 who-spec =
     tie.close
     (tie.spec
-    is-sound-requires
-    tell-nobody-requires
+    (λ c κs. search needs)
+    (λ c κs. search needs)
     returns
-    tell-nobody-requires-2
+    (λ c κs. search needs)
     returns-2
-    tell-nobody-requires-3
+    (λ c κs. search needs)
     returns-3
-    mul-i
-    element-copy-out-i
-    tell-requires
+    (λ c. search needs)
+    (λ c. search needs)
+    (λ c κs. search needs)
     returns-4)

@@ -14,19 +14,10 @@ use Rattle.replies.proofs.call.play_key.Tie as tie
 abbrev oneAfter : After → One
 oneAfter k = record { reply = replyBytes (keyed (k .answer)); state = left k }
 
-key-requires : tie.Need-key-requires
-key-requires c κs = search needs
-
-key-reply-requires : tie.Need-key-reply-requires
-key-reply-requires c κs = search needs
-
-same-length : tie.Need-same-length
-same-length c = search needs
-
 returns : tie.Need-returns
 returns c =
     let k = c .before .before .before .before in
     simp (c .key-reply .ensures) (ap oneAfter (k .key .ensures))
 
 pub play-key-spec : {M : Type 1} → statement M
-play-key-spec = tie.close (tie.spec key-requires key-reply-requires same-length returns)
+play-key-spec = tie.close (tie.spec (λ c κs. search needs) (λ c κs. search needs) (λ c. search needs) returns)

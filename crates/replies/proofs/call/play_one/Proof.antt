@@ -10,18 +10,6 @@ use borrow.Author.Needs.{needs}
 use Rattle.replies.proofs.call.play_one.Statement.{statement}
 use Rattle.replies.proofs.call.play_one.Tie as tie
 
-play-key-requires : tie.Need-play-key-requires
-play-key-requires c κs = search needs
-
-play-report-requires : tie.Need-play-report-requires
-play-report-requires c κs = search needs
-
-play-who-requires : tie.Need-play-who-requires
-play-who-requires c κs = search needs
-
-same-length : tie.Need-same-length
-same-length c = search needs
-
 returns : tie.Need-returns
 returns c =
     let m = c .before .before .before .before in
@@ -44,10 +32,10 @@ pub play-one-spec : {M : Type 1} → statement M
 play-one-spec =
     tie.close
     (tie.spec
-    play-key-requires
-    play-report-requires
-    play-who-requires
-    same-length
+    (λ c κs. search needs)
+    (λ c κs. search needs)
+    (λ c κs. search needs)
+    (λ c. search needs)
     returns
     returns-2
     returns-3)

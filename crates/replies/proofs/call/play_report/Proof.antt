@@ -18,12 +18,6 @@ use Rattle.replies.proofs.call.play_report.Tie as tie
 abbrev with-state : Desk → ℕ → List ℕ → List ℕ → One
 with-state d used log b = record { reply = b; state = stateOf d used log }
 
-report-requires : tie.Need-report-requires
-report-requires c κs = search needs
-
-report-reply-requires : tie.Need-report-reply-requires
-report-reply-requires c κs = search needs
-
 returns : tie.Need-returns
 returns c =
     let a = c .before .before .args in
@@ -32,4 +26,4 @@ returns c =
     λ log. ap (with-state (a .d) (a .used) log) e
 
 pub play-report-spec : {M : Type 1} → statement M
-play-report-spec = tie.close (tie.spec report-requires report-reply-requires returns)
+play-report-spec = tie.close (tie.spec (λ c κs. search needs) (λ c κs. search needs) returns)

@@ -17,12 +17,6 @@ use Rattle.replies.proofs.call.play_who.Tie as tie
 abbrev with-state : Desk → ℕ → List ℕ → List ℕ → One
 with-state d used log b = record { reply = b; state = stateOf d used log }
 
-who-requires : tie.Need-who-requires
-who-requires c κs = search needs
-
-who-reply-requires : tie.Need-who-reply-requires
-who-reply-requires c κs = search needs
-
 returns : tie.Need-returns
 returns c =
     let a = c .before .before .args in
@@ -30,4 +24,4 @@ returns c =
     λ log. ap (with-state (a .d) (a .used) log) e
 
 pub play-who-spec : {M : Type 1} → statement M
-play-who-spec = tie.close (tie.spec who-requires who-reply-requires returns)
+play-who-spec = tie.close (tie.spec (λ c κs. search needs) (λ c κs. search needs) returns)

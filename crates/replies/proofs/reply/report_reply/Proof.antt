@@ -22,41 +22,8 @@ abbrev μ-loop : tie.MeasureT-loop
 twelve : (c : tie.Start Inv-loop μ-loop) → length (c .args .p .rows .rows) ≡ rowCount
 twelve c = sym (length-map (c .args .p .rows .rows) _) ∙ c .good .0 .1 .1 .1 .0 .1 .1 .0 .1 .0 .1
 
-asked-number-requires : tie.Need-asked-number-requires Inv-loop μ-loop
-asked-number-requires c κs = omega arith
-
-array-write-bytes : tie.Need-array-write-bytes Inv-loop μ-loop
-array-write-bytes c = omega arith
-
 loop-holds : tie.Need-loop-holds Inv-loop μ-loop
 loop-holds c = (omega arith, refl, put-none rowBytes 2 _ _ 1)
-
-mul-row : tie.Need-mul-row Inv-loop μ-loop
-mul-row c = omega arith
-
-element-copy-out-row : tie.Need-element-copy-out-row Inv-loop μ-loop
-element-copy-out-row c = omega arith
-
-slice-aggregate-copy-in : tie.Need-slice-aggregate-copy-in Inv-loop μ-loop
-slice-aggregate-copy-in c = omega arith
-
-mul-copy-in : tie.Need-mul-copy-in Inv-loop μ-loop
-mul-copy-in c = omega arith
-
-add-copy-in : tie.Need-add-copy-in Inv-loop μ-loop
-add-copy-in c = omega arith
-
-slice-aggregate-copy-in-2 : tie.Need-slice-aggregate-copy-in-2 Inv-loop μ-loop
-slice-aggregate-copy-in-2 c = omega arith
-
-copy-in-requires : tie.Need-copy-in-requires Inv-loop μ-loop
-copy-in-requires c κs = omega arith
-
-add-i : tie.Need-add-i Inv-loop μ-loop
-add-i c = omega arith
-
-loop-less : tie.Need-loop-less Inv-loop μ-loop
-loop-less c = omega arith
 
 loop-again : tie.Need-loop-again Inv-loop μ-loop
 loop-again c =
@@ -80,17 +47,17 @@ report-reply-spec =
     (tie.spec
     Inv-loop
     μ-loop
-    asked-number-requires
-    array-write-bytes
+    (λ c κs. omega arith)
+    (λ c. omega arith)
     loop-holds
-    mul-row
-    element-copy-out-row
-    slice-aggregate-copy-in
-    mul-copy-in
-    add-copy-in
-    slice-aggregate-copy-in-2
-    copy-in-requires
-    add-i
-    loop-less
+    (λ c. omega arith)
+    (λ c. omega arith)
+    (λ c. omega arith)
+    (λ c. omega arith)
+    (λ c. omega arith)
+    (λ c. omega arith)
+    (λ c κs. omega arith)
+    (λ c. omega arith)
+    (λ c. omega arith)
     loop-again
     returns)

@@ -6,27 +6,6 @@ use borrow.Author.Needs.{needs}
 use Rattle.replies.proofs.reply.who_reply.Statement.{statement}
 use Rattle.replies.proofs.reply.who_reply.Tie as tie
 
-number-bytes-requires : tie.Need-number-bytes-requires
-number-bytes-requires c κs = search needs
-
-asked-number-requires : tie.Need-asked-number-requires
-asked-number-requires c κs = search needs
-
-array-write-bytes : tie.Need-array-write-bytes
-array-write-bytes c = search needs
-
-array-write-bytes-2 : tie.Need-array-write-bytes-2
-array-write-bytes-2 c = search needs
-
-slice-aggregate-copy-in : tie.Need-slice-aggregate-copy-in
-slice-aggregate-copy-in c = search needs
-
-slice-aggregate-copy-in-2 : tie.Need-slice-aggregate-copy-in-2
-slice-aggregate-copy-in-2 c = search needs
-
-copy-in-requires : tie.Need-copy-in-requires
-copy-in-requires c κs = search needs
-
 returns : tie.Need-returns
 unfolding copied
 returns c =
@@ -37,11 +16,11 @@ pub who-reply-spec : {M : Type 1} → statement M
 who-reply-spec =
     tie.close
     (tie.spec
-    number-bytes-requires
-    asked-number-requires
-    array-write-bytes
-    array-write-bytes-2
-    slice-aggregate-copy-in
-    slice-aggregate-copy-in-2
-    copy-in-requires
+    (λ c κs. search needs)
+    (λ c κs. search needs)
+    (λ c. search needs)
+    (λ c. search needs)
+    (λ c. search needs)
+    (λ c. search needs)
+    (λ c κs. search needs)
     returns)

@@ -15,12 +15,9 @@ returns-2 : tie.Need-returns-2
 unfolding benchOf between
 returns-2 c = simp (le-leb _ _ (c .before .if1 .left), lt-leb _ _ (c .if2 .taken))
 
-cast-result : tie.Need-cast-result
-cast-result c = search needs
-
 returns-3 : tie.Need-returns-3
 unfolding benchOf between
 returns-3 c = simp (le-leb _ _ (c .before .if1 .left), le-leb _ _ (c .if2 .left))
 
 pub bench-of-spec : {M : Type 1} → statement M
-bench-of-spec = tie.close (tie.spec returns returns-2 cast-result returns-3)
+bench-of-spec = tie.close (tie.spec returns returns-2 (λ c. search needs) returns-3)

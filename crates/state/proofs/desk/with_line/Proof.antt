@@ -19,14 +19,5 @@ returns c =
     let a = c .before .args in
     sym (ap (λ (ls : List Line). record { lines = ls; sheet = a .d .sheet }) (set-out (a .d .lines) (a .bench) (a .l) (omega (arith, four (c .before)))))
 
-mul-l : tie.Need-mul-l
-mul-l c = search needs
-
-element-set-from-l : tie.Need-element-set-from-l
-element-set-from-l c = search needs
-
-returns-2 : tie.Need-returns-2
-returns-2 c = search needs
-
 pub with-line-spec : {M : Type 1} → statement M
-with-line-spec = tie.close (tie.spec returns mul-l element-set-from-l returns-2)
+with-line-spec = tie.close (tie.spec returns (λ c. search needs) (λ c. search needs) (λ c. search needs))

@@ -10,15 +10,9 @@ returns : tie.Need-returns
 unfolding appended
 returns c = simp (le-ltb _ 80 (c .if1 .taken))
 
-element-write-next : tie.Need-element-write-next
-element-write-next c = search needs
-
-add-next : tie.Need-add-next
-add-next c = search needs
-
 returns-2 : tie.Need-returns-2
 unfolding appended
 returns-2 c = simp (lt-ltb _ 80 (c .if1 .left))
 
 pub append-spec : {M : Type 1} → statement M
-append-spec = tie.close (tie.spec returns element-write-next add-next returns-2)
+append-spec = tie.close (tie.spec returns (λ c. search needs) (λ c. search needs) returns-2)

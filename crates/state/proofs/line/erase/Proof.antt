@@ -14,12 +14,9 @@ returns-2 : tie.Need-returns-2
 unfolding erased
 returns-2 c = simp (le-leb 1 _ (c .before .if1 .left), lt-leb _ 80 (c .if2 .taken))
 
-element-write-next : tie.Need-element-write-next
-element-write-next c = search needs
-
 returns-3 : tie.Need-returns-3
 unfolding erased
 returns-3 c = simp (le-leb 1 _ (c .before .if1 .left), le-leb _ 80 (c .if2 .left))
 
 pub erase-spec : {M : Type 1} → statement M
-erase-spec = tie.close (tie.spec returns returns-2 element-write-next returns-3)
+erase-spec = tie.close (tie.spec returns returns-2 (λ c. search needs) returns-3)

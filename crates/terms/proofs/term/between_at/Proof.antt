@@ -11,9 +11,6 @@ returns : tie.Need-returns
 unfolding kindAt between
 returns c = simp (le-ltb _ _ (c .if1 .taken))
 
-shared-slice-read-b : tie.Need-shared-slice-read-b
-shared-slice-read-b c = search needs
-
 returns-2 : tie.Need-returns-2
 unfolding kindAt between
 returns-2 c = simp (lt-ltb _ _ (c .before .before .if1 .left), lt-leb _ _ (c .if2 .taken))
@@ -23,4 +20,4 @@ unfolding kindAt between
 returns-3 c = simp (lt-ltb _ _ (c .before .before .if1 .left), le-leb _ _ (c .if2 .left))
 
 pub between-at-spec : {M : Type 1} → statement M
-between-at-spec = tie.close (tie.spec returns shared-slice-read-b returns-2 returns-3)
+between-at-spec = tie.close (tie.spec returns (λ c. search needs) returns-2 returns-3)

@@ -20,17 +20,11 @@ returns : tie.Need-returns Inv-loop μ-loop
 unfolding countOf
 returns c = simp (eq-eqb _ _ (c .if1 .taken))
 
-shared-slice-read-if2 : tie.Need-shared-slice-read-if2 Inv-loop μ-loop
-shared-slice-read-if2 c = omega arith
-
 returns-2 : tie.Need-returns-2 Inv-loop μ-loop
 returns-2 c = sym (no-count _ (c .before .before .if1 .left) (leading-zero _ (c .if2 .taken)))
 
 loop-holds : tie.Need-loop-holds Inv-loop μ-loop
 loop-holds c = start _
-
-shared-slice-read-b : tie.Need-shared-slice-read-b Inv-loop μ-loop
-shared-slice-read-b c = omega arith
 
 returns-3 : tie.Need-returns-3 Inv-loop μ-loop
 returns-3 c =
@@ -42,25 +36,10 @@ returns-4 c =
     let l = c .before .before .before .before in
     sym (no-count _ (l .before .before .before .if1 .left) (not-digit _ (l .loop .inv) (c .before .before .before .loop-test .taken) (above-digits _ (c .before .if3 .left) (c .if4 .taken))))
 
-mul-n : tie.Need-mul-n Inv-loop μ-loop
-mul-n c = omega arith
-
-cast-n : tie.Need-cast-n Inv-loop μ-loop
-cast-n c = omega arith
-
-add-n : tie.Need-add-n Inv-loop μ-loop
-add-n c = omega arith
-
 returns-5 : tie.Need-returns-5 Inv-loop μ-loop
 returns-5 c =
     let l = c .before .before .before .before .before in
     sym (no-count _ (l .before .before .before .if1 .left) (too-large _ (l .loop .inv) (c .before .before .before .before .loop-test .taken) (c .if5 .taken)))
-
-add-i : tie.Need-add-i Inv-loop μ-loop
-add-i c = omega arith
-
-loop-less : tie.Need-loop-less Inv-loop μ-loop
-loop-less c = omega arith
 
 loop-again : tie.Need-loop-again Inv-loop μ-loop
 loop-again c =
@@ -79,17 +58,17 @@ read-count-spec =
     Inv-loop
     μ-loop
     returns
-    shared-slice-read-if2
+    (λ c. omega arith)
     returns-2
     loop-holds
-    shared-slice-read-b
+    (λ c. omega arith)
     returns-3
     returns-4
-    mul-n
-    cast-n
-    add-n
+    (λ c. omega arith)
+    (λ c. omega arith)
+    (λ c. omega arith)
     returns-5
-    add-i
-    loop-less
+    (λ c. omega arith)
+    (λ c. omega arith)
     loop-again
     returns-6)

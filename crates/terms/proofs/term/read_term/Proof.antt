@@ -27,14 +27,8 @@ long c = kind-within isSmall _ 1 (small c)
 some : (c : tie.Else2) → 0 < length (c .before .before .before .before .before .args .s .now)
 some c = kind-within isCapital _ 0 (capital (c .before .before))
 
-between-at-requires : tie.Need-between-at-requires
-between-at-requires c κs = search needs
-
 returns : tie.Need-returns
 returns c = sym (no-capital _ (sym (c .before .between-at .ensures) ∙ not-true _ (c .if1 .taken)))
-
-between-at-requires-2 : tie.Need-between-at-requires-2
-between-at-requires-2 c κs = search needs
 
 shared-slice-read-with-count : tie.Need-shared-slice-read-with-count
 shared-slice-read-with-count c = omega (arith, long (c .before))
@@ -47,15 +41,6 @@ sub-read-count c = omega (arith, long (c .before .before))
 
 part-read-count-start : tie.Need-part-read-count-start
 part-read-count-start c = omega (arith, long (c .before .before))
-
-part-read-count-end : tie.Need-part-read-count-end
-part-read-count-end c = search needs
-
-read-count-requires : tie.Need-read-count-requires
-read-count-requires c κs = search needs
-
-with-count-requires : tie.Need-with-count-requires
-with-count-requires c κs = search needs
 
 returns-2 : tie.Need-returns-2
 returns-2 c =
@@ -74,15 +59,6 @@ sub-read-count-2 c = omega (arith, some (c .before))
 part-read-count-start-2 : tie.Need-part-read-count-start-2
 part-read-count-start-2 c = omega (arith, some (c .before))
 
-part-read-count-end-2 : tie.Need-part-read-count-end-2
-part-read-count-end-2 c = search needs
-
-read-count-requires-2 : tie.Need-read-count-requires-2
-read-count-requires-2 c κs = search needs
-
-with-count-requires-2 : tie.Need-with-count-requires-2
-with-count-requires-2 c κs = search needs
-
 returns-3 : tie.Need-returns-3
 returns-3 c =
     let k = c .before .before .before .before in
@@ -95,21 +71,21 @@ pub read-term-spec : {M : Type 1} → statement M
 read-term-spec =
     tie.close
     (tie.spec
-    between-at-requires
+    (λ c κs. search needs)
     returns
-    between-at-requires-2
+    (λ c κs. search needs)
     shared-slice-read-with-count
     shared-slice-read-with-count-2
     sub-read-count
     part-read-count-start
-    part-read-count-end
-    read-count-requires
-    with-count-requires
+    (λ c. search needs)
+    (λ c κs. search needs)
+    (λ c κs. search needs)
     returns-2
     shared-slice-read-with-count-3
     sub-read-count-2
     part-read-count-start-2
-    part-read-count-end-2
-    read-count-requires-2
-    with-count-requires-2
+    (λ c. search needs)
+    (λ c κs. search needs)
+    (λ c κs. search needs)
     returns-3)
