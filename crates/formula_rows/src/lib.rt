@@ -1,39 +1,42 @@
 // Rows 1 to 3: the formula by itself, and against the category (document 01, "The twelve rows").
 ghost use mathlib.Core.Path.{_≡_};
-ghost use mathlib.Core.Bool.{_||_};
+ghost use mathlib.Core.Bool.{cond, _||_};
 ghost use Rattle.equality.specs.Same.{exact, sameBy};
+ghost use Rattle.rows.specs.Rows.{rowOf, noAlert, missing};
 ghost use Rattle.formula_rows.specs.FormulaRows.{row1, row2, inClass, row3};
 use formula::class::Class;
 use rows::Row;
 use rows::is_missing;
 use rows::make_row;
 
-// Row 1: every term is well formed and recognised.
-pub fn recognised_row(formula: &[u8]) -> Row
-    ensures { λ r. ⌜ r ≡ row1 (now (formula .entry)) ⌝ }
+// The row of a formula that is there by whether it passed a test.
+fn tested_row(formula: &[u8], passed: bool, level: u8) -> Row
+    ensures { λ r. ⌜ r ≡ cond (missing (now (formula .entry))) (rowOf 2 1) (cond passed noAlert (rowOf level 0)) ⌝ }
 {
     if is_missing(formula) {
         return make_row(2, 1);
     }
-    if formula::recognised::all_recognised(values::text_of(formula)) {
+    if passed {
         make_row(0, 0)
     } else {
-        make_row(4, 0)
+        make_row(level, 0)
     }
+}
+
+// Row 1: every term is well formed and recognised.
+pub fn recognised_row(formula: &[u8]) -> Row
+    ensures { λ r. ⌜ r ≡ row1 (now (formula .entry)) ⌝ }
+{
+    let passed = formula::recognised::all_recognised(values::text_of(formula));
+    tested_row(formula, passed, 4)
 }
 
 // Row 2: the symbols stand in order.
 pub fn order_row(formula: &[u8]) -> Row
     ensures { λ r. ⌜ r ≡ row2 (now (formula .entry)) ⌝ }
 {
-    if is_missing(formula) {
-        return make_row(2, 1);
-    }
-    if formula::order::in_order(values::text_of(formula)) {
-        make_row(0, 0)
-    } else {
-        make_row(3, 0)
-    }
+    let passed = formula::order::in_order(values::text_of(formula));
+    tested_row(formula, passed, 3)
 }
 
 // Whether the text of a category is one of a class.

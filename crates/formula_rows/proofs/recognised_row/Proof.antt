@@ -1,4 +1,4 @@
--- `formula_rows::recognised_row` meets its contract: each return has the tests of `row1` on its way.
+-- `formula_rows::recognised_row` meets its contract: the test is of the text without its quotes.
 -- Assumes nothing.
 use mathlib.Core.Path.{sym, _∙_, ap}
 use Rattle.formula.specs.Recognised.{allRecognised}
@@ -9,36 +9,7 @@ use Rattle.formula_rows.proofs.recognised_row.Tie as tie
 
 returns : tie.Need-returns
 unfolding row1
-returns c = c .make-row .ensures ∙ simp (sym (c .before .before .is-missing .ensures) ∙ c .before .if1 .taken)
-
-returns-2 : tie.Need-returns-2
-unfolding row1
-returns-2 c =
-    let a = c .before in
-    let t = a .before .before in
-    let e = t .before in
-    c .make-row2 .ensures
-    ∙ simp (sym (e .before .is-missing .ensures) ∙ e .if1 .left, ap allRecognised (sym (t .text-of .ensures)) ∙ sym (a .before .all-recognised .ensures) ∙ a .if2 .taken)
-
-returns-3 : tie.Need-returns-3
-unfolding row1
-returns-3 c =
-    let a = c .before in
-    let t = a .before .before in
-    let e = t .before in
-    c .make-row3 .ensures
-    ∙ simp (sym (e .before .is-missing .ensures) ∙ e .if1 .left, ap allRecognised (sym (t .text-of .ensures)) ∙ sym (a .before .all-recognised .ensures) ∙ a .if2 .left)
+returns c = let p = c .before in c .tested-row .ensures ∙ simp (p .all-recognised .ensures ∙ ap allRecognised (p .before .text-of .ensures))
 
 pub recognised-row-spec : {M : Type 1} → statement M
-recognised-row-spec =
-    tie.close
-    (tie.spec
-    (λ c κs. search needs)
-    (λ c κs. search needs)
-    returns
-    (λ c κs. search needs)
-    (λ c κs. search needs)
-    (λ c κs. search needs)
-    (λ c κs. search needs)
-    returns-2
-    returns-3)
+recognised-row-spec = tie.close (tie.spec (λ c κs. search needs) (λ c κs. search needs) (λ c κs. search needs) returns)
