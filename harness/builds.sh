@@ -40,9 +40,11 @@ END
     chmod +x "$1/bin/clang" "$1/bin/ld.lld"
 }
 
-# used_by NAME: the crates that one uses.
+# used_by NAME: the crates that one uses, and those that these use. In crates.txt a crate stands below all that it uses.
 used_by() {
-    sed -n "s/#.*//; s/^$1: *//p" crates.txt
+    sed 's/#.*//; /:/!d; s/:/ /' crates.txt | tac | awk -v name="$1" '
+        $1 == name || $1 in used { for (i = 2; i <= NF; i++) used[$i] = 1 }
+        END { for (crate in used) print crate }'
 }
 
 # cases TOOLCHAIN NAME ROOT CRATES WORDS..: what 'rt try' runs, for a root file that uses these crates.

@@ -40,16 +40,8 @@ said() {
 clean() {
     local name=$1 expected=$2 input=$3
     shift 3
-    "${watched[@]}" "$@" <"$input" >"$work/out" 2>"$work/err"
-    local status=$?
-    said "$name" || return
-    if [ $status -ne 0 ] || [ -s "$work/err" ]; then
-        fail "$name" "exit $status, $(head -c 300 "$work/err")"
-    elif ! cmp -s "$expected" "$work/out"; then
-        fail "$name" "$(cmp "$expected" "$work/out" 2>&1)"
-    else
-        ok "$name"
-    fi
+    prints "$name" "$expected" "$input" "${watched[@]}" "$@"
+    said "$name"
 }
 
 # refuses NAME STATUS COMMAND..: under valgrind, without a fault and with this exit.

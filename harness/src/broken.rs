@@ -130,9 +130,22 @@ pub const WAYS: [(&str, Break); 36] = [
     }),
 ];
 
+/// So many sound desks, each broken in every way: the desk's number, the way's, and the desk.
+pub fn each_broken(seed: u64, count: u64, mut given: impl FnMut(u64, usize, State, &mut Random)) {
+    let (mut desks, mut random) = (Desks::new(!seed), Random::new(seed));
+    for number in 0..count {
+        let sound = breakable(&mut desks);
+        for (way, (_, change)) in WAYS.iter().enumerate() {
+            let mut state = sound.clone();
+            change(&mut state, &mut random);
+            given(number, way, state, &mut random);
+        }
+    }
+}
+
 /// A sound desk with something in it to break: a line that is neither empty nor full, a filled and
 /// an empty item, entries counted.
-pub fn breakable(desks: &mut Desks) -> State {
+fn breakable(desks: &mut Desks) -> State {
     loop {
         let state = desks.sound();
         let mut items = state.desk.sheet.items.iter();

@@ -2,11 +2,10 @@
 
 use super::{hex, Comparison, Plan};
 use crate::boundary::{Desk, Filed};
-use crate::broken::{breakable, WAYS};
-use crate::desks::{Desks, State};
+use crate::broken::{each_broken, WAYS};
+use crate::desks::State;
 use crate::files::{self, length, Files, LONG_ROOM};
 use crate::program::Program;
-use crate::random::Random;
 use crate::tally::Question;
 use reference::cif_file::{BAD_BLOCK_NAME, BLOCK_LENGTHS, LINE_END, NO_ROOM};
 use reference::desk::{LOG_LIMIT, NOT_SOUND, RECORD_HEAD};
@@ -108,24 +107,18 @@ impl Comparison<'_> {
     /// Desks broken in every way, with good and bad names and rooms.
     fn files_of_broken_desks(&mut self, name: &'static str, seed: u64, count: u64) {
         self.begin(name);
-        let (mut desks, mut random) = (Desks::new(!seed), Random::new(seed));
-        for number in 0..count {
-            let sound = breakable(&mut desks);
-            for (way, (broken, change)) in WAYS.iter().enumerate() {
-                self.group().inputs += 1;
-                let mut state = sound.clone();
-                change(&mut state, &mut random);
-                for block in [&b"camp-1"[..], b"_", b""] {
-                    for room in [LONG_ROOM, random.below(LONG_ROOM), 0] {
-                        let place = format_args!("{name}, desk {number}, {broken}");
-                        let written = self.written(&state.desk, block, room, &place);
-                        if written.is_some_and(|written| written.result.answer == NOT_SOUND) {
-                            self.tally.note_unsound_file(way);
-                        }
+        each_broken(seed, count, |number, way, state, random| {
+            self.group().inputs += 1;
+            for block in [&b"camp-1"[..], b"_", b""] {
+                for room in [LONG_ROOM, random.below(LONG_ROOM), 0] {
+                    let place = format_args!("{name}, desk {number}, {}", WAYS[way].0);
+                    let written = self.written(&state.desk, block, room, &place);
+                    if written.is_some_and(|written| written.result.answer == NOT_SOUND) {
+                        self.tally.note_unsound_file(way);
                     }
                 }
             }
-        }
+        });
     }
 
     fn files_typed_back(&mut self, name: &'static str, seed: u64, count: u64) {

@@ -2,7 +2,7 @@
 
 use super::{hex, Comparison, Plan};
 use crate::boundary::{Desk, ItemState, KeyResult, TextLine};
-use crate::broken::{breakable, WAYS};
+use crate::broken::{each_broken, WAYS};
 use crate::desks::{text_line, Desks, State};
 use crate::random::Random;
 use crate::session::{Session, OTHER_BENCHES};
@@ -101,26 +101,20 @@ impl Comparison<'_> {
     /// Desks broken in every way, and calls on each.
     fn broken_desks(&mut self, name: &'static str, seed: u64, count: u64) {
         self.begin(name);
-        let (mut desks, mut random) = (Desks::new(!seed), Random::new(seed));
-        for number in 0..count {
-            let sound = breakable(&mut desks);
-            for (way, (broken, change)) in WAYS.iter().enumerate() {
-                self.group().inputs += 1;
-                let mut state = sound.clone();
-                change(&mut state, &mut random);
-                let mut both = Both::new(state);
-                let benches = [random.below(BENCHES) as u64, random.pick(&OTHER_BENCHES)];
-                let bytes = [ENTER, random.pick(&[ERASE, EMPTY, b'a']), random.byte()];
-                for (bench, byte) in
-                    benches.into_iter().flat_map(|bench| bytes.map(|byte| (bench, byte)))
-                {
-                    let place = format_args!("{name}, desk {number}, {broken}");
-                    if self.whole_call(&mut both, bench, byte, &place) == Some(NOT_SOUND) {
-                        self.tally.note_unsound(way);
-                    }
+        each_broken(seed, count, |number, way, state, random| {
+            self.group().inputs += 1;
+            let mut both = Both::new(state);
+            let benches = [random.below(BENCHES) as u64, random.pick(&OTHER_BENCHES)];
+            let bytes = [ENTER, random.pick(&[ERASE, EMPTY, b'a']), random.byte()];
+            for (bench, byte) in
+                benches.into_iter().flat_map(|bench| bytes.map(|byte| (bench, byte)))
+            {
+                let place = format_args!("{name}, desk {number}, {}", WAYS[way].0);
+                if self.whole_call(&mut both, bench, byte, &place) == Some(NOT_SOUND) {
+                    self.tally.note_unsound(way);
                 }
             }
-        }
+        });
     }
 
     /// Keys on desks of random bytes and numbers.
