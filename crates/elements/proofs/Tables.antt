@@ -1,13 +1,12 @@
 -- A symbol is recognised exactly when it is one of the 118, and the symbols of the other tables are among them.
 -- Each table's rule is a test that antt computes. Assumes nothing.
 use mathlib.Core.Path.{_≡_, refl, sym, ap, _∙_}
-use mathlib.Core.Bool.{Bool, true}
+use mathlib.Core.Bool.{true}
 use Prim.Native.Nat.{ℕ, _+_, _*_, _<_}
 use native.Mathlib.Omega.{arith}
 use lib.ListN.{length, getD}
-use Rattle.text.proofs.Tables.{entry}
+use Rattle.text.proofs.Tables.{agree}
 use Rattle.elements.specs.Elements.{sameSymbol, placeOf, symbols, elementOf, isElement, notMetals, weights}
-use Rattle.elements.specs.declared.Place.{Place}
 use Rattle.elements.specs.declared.Place.the-variants.{At, Nowhere}
 use Rattle.elements.proofs.Places.{place-within, place-is}
 use Rattle.elements.proofs.Weights.{symbolsIn}
@@ -17,12 +16,9 @@ abbrev pub elementCount : ℕ
 elementCount = 118
 
 -- each symbol is found at its own place
-own : ℕ → Place
-own k = elementOf (getD symbols (2 * k) 0) (getD symbols (2 * k + 1) 0)
-
 pub symbol-own : (k : ℕ) → k < elementCount → elementOf (getD symbols (2 * k) 0) (getD symbols (2 * k + 1) 0) ≡ At k
-unfolding own symbols elementOf placeOf sameSymbol
-symbol-own k h = sym (entry own Nowhere elementCount k h) ∙ entry At Nowhere elementCount k h
+unfolding symbols elementOf placeOf sameSymbol
+symbol-own = agree (λ (k : ℕ). elementOf (getD symbols (2 * k) 0) (getD symbols (2 * k + 1) 0)) At Nowhere elementCount refl
 
 -- what is found is the symbol at that place
 pub record IsElement (a b k : ℕ) : Type 0 where
@@ -46,19 +42,10 @@ element-of a b k h =
     ap (λ (x : ℕ). elementOf x b) (sym (h .first)) ∙ ap (elementOf (getD symbols (2 * k) 0)) (sym (h .second)) ∙ symbol-own k (h .within)
 
 -- every symbol of a table is recognised
-yes : ℕ → Bool
-yes k = true
-
-not-metal : ℕ → Bool
-not-metal k = isElement (getD notMetals (2 * k) 0) (getD notMetals (2 * k + 1) 0)
-
 pub not-metals-recognised : (k : ℕ) → k < 25 → isElement (getD notMetals (2 * k) 0) (getD notMetals (2 * k + 1) 0) ≡ true
-unfolding not-metal yes notMetals isElement symbols elementOf placeOf sameSymbol
-not-metals-recognised k h = sym (entry not-metal true 25 k h) ∙ entry yes true 25 k h
-
-weighed : ℕ → Bool
-weighed k = isElement (getD (symbolsIn weights) (2 * k) 0) (getD (symbolsIn weights) (2 * k + 1) 0)
+unfolding notMetals isElement symbols elementOf placeOf sameSymbol
+not-metals-recognised = agree (λ (k : ℕ). isElement (getD notMetals (2 * k) 0) (getD notMetals (2 * k + 1) 0)) (λ (k : ℕ). true) true 25 refl
 
 pub weighed-recognised : (k : ℕ) → k < 25 → isElement (getD (symbolsIn weights) (2 * k) 0) (getD (symbolsIn weights) (2 * k + 1) 0) ≡ true
-unfolding weighed yes weights symbolsIn isElement symbols elementOf placeOf sameSymbol
-weighed-recognised k h = sym (entry weighed true 25 k h) ∙ entry yes true 25 k h
+unfolding weights symbolsIn isElement symbols elementOf placeOf sameSymbol
+weighed-recognised = agree (λ (k : ℕ). isElement (getD (symbolsIn weights) (2 * k) 0) (getD (symbolsIn weights) (2 * k + 1) 0)) (λ (k : ℕ). true) true 25 refl
