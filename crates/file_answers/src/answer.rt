@@ -1,6 +1,6 @@
 // The answers of the file's writer, and their numbers in document 02.
 ghost use mathlib.Core.Path.{_≡_};
-ghost use Rattle.cif_file.specs.Answers.{fileNumber};
+ghost use Rattle.file_answers.specs.Number.{fileNumber};
 
 pub enum FileAnswer {
     Written,

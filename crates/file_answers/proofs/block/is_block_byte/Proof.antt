@@ -1,10 +1,10 @@
--- `cif_file::block::is_block_byte` meets its contract: each return has the tests of `isBlockByte` on its way.
+-- `file_answers::block::is_block_byte` meets its contract: each return has the tests of `isBlockByte` on its way.
 -- Assumes nothing.
 use mathlib.Core.Path.{sym, _∙_}
 use borrow.Author.Needs.{needs}
-use Rattle.cif_file.specs.Block.{isBlockByte}
-use Rattle.cif_file.proofs.block.is_block_byte.Statement.{statement}
-use Rattle.cif_file.proofs.block.is_block_byte.Tie as tie
+use Rattle.file_answers.specs.Block.{isBlockByte}
+use Rattle.file_answers.proofs.block.is_block_byte.Statement.{statement}
+use Rattle.file_answers.proofs.block.is_block_byte.Tie as tie
 
 returns : tie.Need-returns
 unfolding isBlockByte
