@@ -3,7 +3,7 @@ ghost use mathlib.Core.Path.{_≡_};
 ghost use mathlib.Core.Bool.{_||_};
 ghost use Rattle.equality.specs.Same.{exact, sameBy};
 ghost use Rattle.formula_rows.specs.FormulaRows.{row1, row2, inClass, row3};
-use formula::class::Class;
+use formula_class::Class;
 use rows::Row;
 use rows::is_missing;
 use rows::make_row;
@@ -29,7 +29,7 @@ pub fn order_row(formula: &[u8]) -> Row
     if is_missing(formula) {
         return make_row(2, 1);
     }
-    if formula::order::in_order(values::text_of(formula)) {
+    if formula_order::in_order(values::text_of(formula)) {
         make_row(0, 0)
     } else {
         make_row(3, 0)
@@ -70,7 +70,7 @@ pub fn class_row(formula: &[u8], category: &[u8]) -> Row
     if !formula::recognised::all_recognised(t) {
         return make_row(1, 2);
     }
-    if is_in_class(formula::class::class_of(t), values::text_of(category)) {
+    if is_in_class(formula_class::class_of(t), values::text_of(category)) {
         make_row(0, 0)
     } else {
         make_row(1, 0)
