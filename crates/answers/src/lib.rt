@@ -1,6 +1,6 @@
-// The answers of a key call, and their numbers in document 01.
+// The answers of a key call, and their numbers (document 01, "Keys and their refusals").
 ghost use mathlib.Core.Path.{_≡_};
-ghost use Rattle.state.specs.Desks.{answerNumber};
+ghost use Rattle.answers.specs.Number.{answerNumber};
 
 pub enum Answer {
     Accepted,
