@@ -23,7 +23,7 @@ use Rattle.state.specs.Desks.{benchCount, noLine, lineAt}
 use Rattle.soundness.specs.Sound.{logMost, every, soundLine, soundLines, soundDesk, soundLog}
 use Rattle.state.specs.declared.line.Line.{Line}
 use Rattle.state.specs.declared.desk.Desk.{Desk}
-use Rattle.state.specs.declared.answer.Answer.the-variants as answer
+use Rattle.answers.specs.declared.Answer.the-variants as answer
 use Rattle.soundness.proofs.Everys.{every-each}
 use Rattle.calls.specs.Key.{After, refused, entered, stored}
 use Rattle.calls.specs.Ready.{Ready}

@@ -1,31 +1,21 @@
 -- The cases of `fileStep`, one law each.
 -- Assumes nothing.
 use mathlib.Core.Path.{_≡_, ap, _∙_}
-use mathlib.Core.Bool.{true, false, _&&_}
+use mathlib.Core.Bool.{true, false}
 use mathlib.Core.List.{List}
 use Prim.Native.Nat.{ℕ, _≤_, _<_}
-use borrow.Author.Tests.{le-leb, lt-leb, leb-true}
-use lib.Dec.{leb}
+use borrow.Author.Tests.{le-leb, lt-leb}
 use lib.ListN.{length}
 use Rattle.copies.specs.Copy.{copied}
-use Rattle.text.specs.Run.{all}
-use Rattle.text.proofs.Bools.{and-both}
 use Rattle.copies.proofs.Copies.{copied-start}
 use Rattle.soundness.specs.Sound.{soundDesk}
 use Rattle.state.specs.declared.desk.Desk.{Desk}
-use Rattle.cif_file.specs.Block.{blockMost, isBlockByte, isBlockName}
+use Rattle.file_answers.specs.Block.{isBlockName}
 use Rattle.cif_file.specs.File.{fileOf}
 use Rattle.cif_file.specs.Answers.{after, refused, fileStep}
-use Rattle.cif_file.specs.declared.answer.FileAnswer.{FileAnswer}
-use Rattle.cif_file.specs.declared.answer.FileAnswer.the-variants.{Written, Unsound, BadBlockName, NoRoom}
+use Rattle.file_answers.specs.declared.answer.FileAnswer.{FileAnswer}
+use Rattle.file_answers.specs.declared.answer.FileAnswer.the-variants.{Written, Unsound, BadBlockName, NoRoom}
 use Rattle.cif_file.specs.declared.file.Filed.{Filed}
-
--- a name is short
-pub block-short : (name : List ℕ) → isBlockName name ≡ true → length name ≤ blockMost
-unfolding isBlockName
-block-short name h =
-    let b = and-both (leb 1 (length name)) (leb (length name) blockMost && all isBlockByte name) h in
-    leb-true (length name) blockMost (and-both (leb (length name) blockMost) (all isBlockByte name) (b .1) .0)
 
 -- a refusal's result
 refused-is : (r : Filed) (a : FileAnswer) (out : List ℕ) → (r .answer ≡ a) × (r .count ≡ 0) → after r out ≡ refused a out

@@ -7,18 +7,11 @@ use lib.Dec.{leb}
 use lib.ListN.{length, drop}
 use Rattle.soundness.specs.Sound.{soundDesk}
 use Rattle.state.specs.declared.desk.Desk.{Desk}
-use Rattle.cif_file.specs.Block.{isBlockName}
+use Rattle.file_answers.specs.Block.{isBlockName}
 use Rattle.cif_file.specs.File.{fileOf}
-use Rattle.cif_file.specs.declared.answer.FileAnswer.{FileAnswer}
-use Rattle.cif_file.specs.declared.answer.FileAnswer.the-variants.{Written, Unsound, BadBlockName, NoRoom}
+use Rattle.file_answers.specs.declared.answer.FileAnswer.{FileAnswer}
+use Rattle.file_answers.specs.declared.answer.FileAnswer.the-variants.{Written, Unsound, BadBlockName, NoRoom}
 use Rattle.cif_file.specs.declared.file.Filed.{Filed}
-
--- "Refusals: 2 as for questions, then 11 bad block name, then 10 no room"
-abbrev pub fileNumber : FileAnswer → ℕ
-fileNumber Written = 0
-fileNumber Unsound = 2
-fileNumber BadBlockName = 11
-fileNumber NoRoom = 10
 
 -- everything that writing leaves: the answer, "how many bytes it wrote", and the whole of the lent bytes
 pub record After : Type 0 where

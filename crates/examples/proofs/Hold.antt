@@ -14,8 +14,8 @@ use Rattle.terms.specs.Term.{kindAt, isCount, countOf, termOf}
 use Rattle.terms.specs.Terms.{cut, every as everyTerm, some}
 use Rattle.elements.specs.Elements.{sameSymbol, placeOf, symbols, elementOf, isElement, notMetals, isMetal, weights, weightIn, weightOf}
 use Rattle.formula.specs.Recognised.{allRecognised}
-use Rattle.formula.specs.Order.{rank, key, rising, inOrder}
-use Rattle.formula.specs.Class.{hasSymbol, hasMetal, classOf as formulaClass}
+use Rattle.formula_order.specs.Order.{rank, key, rising, inOrder}
+use Rattle.formula_class.specs.Class.{hasSymbol, hasMetal, classOf as formulaClass}
 use Rattle.formula.specs.Sum.{total, sumOf}
 use Rattle.levels.specs.Bounds.{bounds, judgedOf, gradeOf, gradedOf}
 use Rattle.state.specs.Lines.{appended, erased}

@@ -11,11 +11,11 @@ use Rattle.terms.specs.Term.{kindAt, isCount, countOf, termOf}
 use Rattle.terms.specs.Terms.{cut, every, some}
 use Rattle.elements.specs.Elements.{sameSymbol, placeOf, symbols, elementOf, isElement, notMetals, isMetal, weights, weightIn, weightOf}
 use Rattle.formula.specs.Recognised.{allRecognised}
-use Rattle.formula.specs.Order.{rank, key, rising, inOrder}
-use Rattle.formula.specs.Class.{hasSymbol, hasMetal, classOf}
+use Rattle.formula_order.specs.Order.{rank, key, rising, inOrder}
+use Rattle.formula_class.specs.Class.{hasSymbol, hasMetal, classOf}
 use Rattle.formula.specs.Sum.{total, sumOf}
-use Rattle.formula.specs.declared.class.Class.{Class}
-use Rattle.formula.specs.declared.class.Class.the-variants.{Inorganic, MetalOrganic, Organic}
+use Rattle.formula_class.specs.declared.Class.{Class}
+use Rattle.formula_class.specs.declared.Class.the-variants.{Inorganic, MetalOrganic, Organic}
 use Rattle.elements.specs.declared.Weight.{Weight}
 use Rattle.elements.specs.declared.Weight.the-variants.{Thousandths, NoWeight}
 

@@ -1,4 +1,2 @@
-pub mod Class
-pub mod Order
 pub mod Recognised
 pub mod Sum

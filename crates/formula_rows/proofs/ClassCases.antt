@@ -6,7 +6,7 @@ use mathlib.Core.List.{List}
 use Prim.Native.Nat.{ℕ}
 use Rattle.values.specs.Value.{textOf}
 use Rattle.formula.specs.Recognised.{allRecognised}
-use Rattle.formula.specs.Class.{classOf}
+use Rattle.formula_class.specs.Class.{classOf}
 use Rattle.rows.specs.Rows.{rowOf, noAlert, missing}
 use Rattle.formula_rows.specs.FormulaRows.{inClass, row3}
 

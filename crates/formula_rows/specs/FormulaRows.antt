@@ -7,10 +7,10 @@ use Rattle.text.specs.Quote.{bytes}
 use Rattle.equality.specs.Same.{exact, sameBy}
 use Rattle.values.specs.Value.{textOf}
 use Rattle.formula.specs.Recognised.{allRecognised}
-use Rattle.formula.specs.Order.{inOrder}
-use Rattle.formula.specs.Class.{classOf}
-use Rattle.formula.specs.declared.class.Class.{Class}
-use Rattle.formula.specs.declared.class.Class.the-variants.{Inorganic, MetalOrganic, Organic}
+use Rattle.formula_order.specs.Order.{inOrder}
+use Rattle.formula_class.specs.Class.{classOf}
+use Rattle.formula_class.specs.declared.Class.{Class}
+use Rattle.formula_class.specs.declared.Class.the-variants.{Inorganic, MetalOrganic, Organic}
 use Rattle.rows.specs.Rows.{rowOf, noAlert, missing}
 use Rattle.rows.specs.declared.Row.{Row}
 

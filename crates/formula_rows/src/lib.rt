@@ -4,7 +4,7 @@ ghost use mathlib.Core.Bool.{cond, _||_};
 ghost use Rattle.equality.specs.Same.{exact, sameBy};
 ghost use Rattle.rows.specs.Rows.{rowOf, noAlert, missing};
 ghost use Rattle.formula_rows.specs.FormulaRows.{row1, row2, inClass, row3};
-use formula::class::Class;
+use formula_class::Class;
 use rows::Row;
 use rows::is_missing;
 use rows::make_row;
@@ -35,7 +35,7 @@ pub fn recognised_row(formula: &[u8]) -> Row
 pub fn order_row(formula: &[u8]) -> Row
     ensures { λ r. ⌜ r ≡ row2 (now (formula .entry)) ⌝ }
 {
-    let passed = formula::order::in_order(values::text_of(formula));
+    let passed = formula_order::in_order(values::text_of(formula));
     tested_row(formula, passed, 3)
 }
 
@@ -73,7 +73,7 @@ pub fn class_row(formula: &[u8], category: &[u8]) -> Row
     if !formula::recognised::all_recognised(t) {
         return make_row(1, 2);
     }
-    if is_in_class(formula::class::class_of(t), values::text_of(category)) {
+    if is_in_class(formula_class::class_of(t), values::text_of(category)) {
         make_row(0, 0)
     } else {
         make_row(1, 0)

@@ -2,7 +2,8 @@
 -- Assumes nothing.
 use Prim.Native.Nat.{ℕ}
 use mathlib.Core.List.{List}
-use Rattle.cif_file.specs.Answers.{After, fileNumber}
+use Rattle.cif_file.specs.Answers.{After}
+use Rattle.file_answers.specs.Number.{fileNumber}
 use Rattle.probe_file.specs.declared.ProbeFiled.{ProbeFiled}
 
 pub record FileTold : Type 0 where

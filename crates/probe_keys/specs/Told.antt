@@ -2,7 +2,7 @@
 -- Assumes nothing.
 use Prim.Native.Nat.{ℕ}
 use mathlib.Core.List.{List}
-use Rattle.state.specs.Desks.{answerNumber}
+use Rattle.answers.specs.Number.{answerNumber}
 use Rattle.state.specs.declared.desk.Desk.{Desk}
 use Rattle.calls.specs.Key.{After}
 use Rattle.probe_keys.specs.declared.ProbeKeyed.{ProbeKeyed}

@@ -28,6 +28,6 @@ pub extern "C" fn probe_key(
     ProbeKeyed {
         desk,
         used: k.used,
-        answer: state::answer::answer_number(answer),
+        answer: answers::answer_number(answer),
     }
 }

@@ -3,7 +3,7 @@
 use Prim.Native.Nat.{ℕ, _+_, _*_, _-_}
 use mathlib.Core.List.{List, [], _∷_, _++_, flatMap}
 use lib.ListN.{replicate}
-use Rattle.state.specs.Desks.{answerNumber}
+use Rattle.answers.specs.Number.{answerNumber}
 use Rattle.alerts.specs.Sheet.{rowCount}
 use Rattle.rows.specs.declared.Row.{Row}
 use Rattle.rows.specs.declared.Rows.{Rows}

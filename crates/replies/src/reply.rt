@@ -3,12 +3,12 @@ ghost use mathlib.Core.Path.{_≡_};
 ghost use Rattle.sequence.specs.Calls.{keyed, reported, told};
 ghost use Rattle.replies.specs.ReplyBytes.{replyBytes};
 use crate::number::number_bytes;
+use answers::Answer;
+use answers::answer_number;
 use questions::question::asked_number;
 use questions::report::Reported;
 use questions::who::Told;
 use rows::ROW_COUNT;
-use state::answer::Answer;
-use state::answer::answer_number;
 
 pub const REPLY_BYTES: usize = 1 + 2 * ROW_COUNT;
 

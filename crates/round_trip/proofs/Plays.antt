@@ -24,8 +24,8 @@ use Rattle.items.proofs.Names.{name-typed}
 use Rattle.log.specs.Record.{recordLength}
 use Rattle.state.specs.Desks.{benchCount}
 use Rattle.soundness.specs.Sound.{logMost}
-use Rattle.state.specs.declared.answer.Answer.{Answer}
-use Rattle.state.specs.declared.answer.Answer.the-variants.{Accepted}
+use Rattle.answers.specs.declared.Answer.{Answer}
+use Rattle.answers.specs.declared.Answer.the-variants.{Accepted}
 use Rattle.alerts.specs.Sheet.{rowsOf}
 use Rattle.rows.specs.declared.Rows.{Rows}
 use Rattle.sequence.specs.Calls.{Call, key, Reply, keyed, answered, final}

@@ -15,10 +15,10 @@ use Rattle.state.specs.Sheets.{itemAt, valueIn}
 use Rattle.state.specs.Desks.{benchCount}
 use Rattle.soundness.specs.Sound.{logMost, every, soundItem, soundLines, soundSheet, soundDesk}
 use Rattle.state.specs.declared.desk.Desk.{Desk}
-use Rattle.state.specs.declared.answer.Answer.the-variants.{Accepted}
+use Rattle.answers.specs.declared.Answer.the-variants.{Accepted}
 use Rattle.cif_file.specs.File.{itemLine}
 use Rattle.cif_file.specs.Answers.{fileStep}
-use Rattle.cif_file.specs.declared.answer.FileAnswer.the-variants.{Written}
+use Rattle.file_answers.specs.declared.answer.FileAnswer.the-variants.{Written}
 use Rattle.sequence.specs.Calls.{Call, keyed}
 use Rattle.sequence.specs.Work.{Work, noWork, lastOf}
 use Rattle.sequence.proofs.Desk.{desk-sequences}

@@ -13,7 +13,7 @@ use Rattle.items.specs.Items.{itemCount}
 use Rattle.state.specs.Sheets.{itemAt, valueIn}
 use Rattle.state.specs.declared.sheet.Item.{Item}
 use Rattle.state.specs.declared.desk.Desk.{Desk}
-use Rattle.state.specs.declared.answer.Answer.the-variants.{Accepted}
+use Rattle.answers.specs.declared.Answer.the-variants.{Accepted}
 use Rattle.log.specs.Record.{recordLength}
 use Rattle.alerts.specs.Sheet.{rowsOf, noRows}
 use Rattle.rows.specs.declared.Rows.{Rows}

@@ -15,7 +15,7 @@ use Rattle.soundness.specs.Sound.{every, soundLine, soundEmpty, soundItem, soun
 use Rattle.state.specs.declared.line.Line.{Line}
 use Rattle.state.specs.declared.sheet.Item.{Item}
 use Rattle.state.specs.declared.sheet.Sheet.{Sheet}
-use Rattle.state.specs.declared.answer.Answer.the-variants.{Accepted}
+use Rattle.answers.specs.declared.Answer.the-variants.{Accepted}
 use Rattle.sequence.specs.Calls.{Call, key, ask, report, who, keyed, State, step}
 use Rattle.sequence.specs.Gather.{gather, gatherAnswered}
 use Rattle.sequence.specs.Work.{Work, noWork, recordsOf, keyAnswer, workStep}

@@ -10,7 +10,7 @@ use lib.ListN.{length, drop}
 use Rattle.text.specs.Run.{between}
 use Rattle.cif.specs.declared.line.Class.the-variants as class
 use Rattle.state.specs.declared.sheet.Sheet.{Sheet}
-use Rattle.state.specs.declared.answer.Answer.the-variants.{Accepted}
+use Rattle.answers.specs.declared.Answer.the-variants.{Accepted}
 use Rattle.sequence.specs.Calls.{Call, key, ask, report, who, answered, final}
 use Rattle.sequence.specs.Work.{Entry, Work, typedBy, recordsOf, accepts, withEntryOf, keyAnswer, keyWork, workStep}
 use Rattle.sequence.specs.Sequences.{Entered, enteredFirst, enteredBy}

@@ -23,8 +23,8 @@ use Rattle.items.proofs.Names.{name-found}
 use Rattle.cif.proofs.Wording.{line-is}
 use Rattle.state.specs.Desks.{benchCount}
 use Rattle.soundness.specs.Sound.{logMost}
-use Rattle.state.specs.declared.answer.Answer.{Answer}
-use Rattle.state.specs.declared.answer.Answer.the-variants as answer
+use Rattle.answers.specs.declared.Answer.{Answer}
+use Rattle.answers.specs.declared.Answer.the-variants as answer
 use Rattle.sequence.specs.Work.{enterAnswer, tableAnswer, accepts}
 
 -- the line t, with its name and its value, for item k

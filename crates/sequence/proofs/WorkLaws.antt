@@ -9,7 +9,7 @@ use lib.ListN.{length, getD, set}
 use lib.Seq.{getD-set-other, set-comm, set-getD}
 use Rattle.cif.specs.Line.{classOf}
 use Rattle.state.specs.declared.sheet.Sheet.{Sheet}
-use Rattle.state.specs.declared.answer.Answer.{Answer}
+use Rattle.answers.specs.declared.Answer.{Answer}
 use Rattle.sequence.specs.Calls.{Question, report, who, key, ask, keyed}
 use Rattle.sequence.specs.Work.{Entry, Work, typedBy, recordsOf, tableAnswer, accepts, editedText, textAfter, withEntryOf, entriesAfter, keyAnswer, keyWork, workStep}
 use Rattle.sequence.proofs.Choices.{cond-false}

@@ -8,7 +8,7 @@ use Rattle.state.specs.Desks.{freshDesk}
 use Rattle.soundness.specs.Sound.{soundDesk}
 use Rattle.state.specs.declared.sheet.Sheet.{Sheet}
 use Rattle.state.specs.declared.desk.Desk.{Desk}
-use Rattle.state.specs.declared.answer.Answer.{Answer}
+use Rattle.answers.specs.declared.Answer.{Answer}
 use Rattle.calls.specs.Key.{After, keyOf}
 use Rattle.questions.specs.Who.{whoOf}
 use Rattle.questions.specs.declared.question.Asked.{Asked}

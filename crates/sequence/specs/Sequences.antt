@@ -24,7 +24,7 @@ use Rattle.state.specs.Lines.{lineOf}
 use Rattle.state.specs.Sheets.{itemAt}
 use Rattle.soundness.specs.Sound.{logMost, soundDesk, soundLog}
 use Rattle.state.specs.declared.sheet.Sheet.{Sheet}
-use Rattle.state.specs.declared.answer.Answer.the-variants.{Accepted}
+use Rattle.answers.specs.declared.Answer.the-variants.{Accepted}
 use Rattle.questions.specs.declared.question.Asked.the-variants.{Answered}
 use Rattle.sequence.specs.Calls.{Call, key, ask, report, who, Reply, keyed, reported, told, State, freshState, step, answered, final}
 use Rattle.sequence.specs.Gather.{gather, gatherAnswered, Regrouped}

@@ -13,12 +13,13 @@ use Rattle.cif.specs.declared.line.Class.{Class}
 use Rattle.cif.specs.declared.line.Class.the-variants as class
 use Rattle.log.specs.Record.{recordLength, recordOf}
 use Rattle.state.specs.Sheets.{filled, emptyItem}
-use Rattle.state.specs.Desks.{benchCount, answerNumber}
+use Rattle.state.specs.Desks.{benchCount}
+use Rattle.answers.specs.Number.{answerNumber}
 use Rattle.soundness.specs.Sound.{logMost}
 use Rattle.state.specs.declared.sheet.Item.{Item}
 use Rattle.state.specs.declared.sheet.Sheet.{Sheet}
-use Rattle.state.specs.declared.answer.Answer.{Answer}
-use Rattle.state.specs.declared.answer.Answer.the-variants.{Accepted, NoBench, Unsound, NoKey, LineFull, BadForm, UnknownName, WrongKind, NoRoom}
+use Rattle.answers.specs.declared.Answer.{Answer}
+use Rattle.answers.specs.declared.Answer.the-variants.{Accepted, NoBench, Unsound, NoKey, LineFull, BadForm, UnknownName, WrongKind, NoRoom}
 use Rattle.questions.specs.Who.{nobody}
 use Rattle.questions.specs.declared.question.Asked.the-variants.{Answered, NoItem}
 use Rattle.questions.specs.declared.who.Told.{Told}

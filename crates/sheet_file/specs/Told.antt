@@ -3,7 +3,8 @@
 use Prim.Native.Nat.{ℕ}
 use mathlib.Core.List.{List}
 use Rattle.sequence.specs.Calls.{State, freshState}
-use Rattle.cif_file.specs.Answers.{After, fileNumber, fileStep}
+use Rattle.cif_file.specs.Answers.{After, fileStep}
+use Rattle.file_answers.specs.Number.{fileNumber}
 use Rattle.session.specs.Play.{played}
 use Rattle.sheet_file.specs.declared.SheetFiled.{SheetFiled}
 

@@ -8,8 +8,6 @@ use Rattle.state.specs.Sheets.{emptySheet}
 use Rattle.state.specs.declared.line.Line.{Line}
 use Rattle.state.specs.declared.sheet.Sheet.{Sheet}
 use Rattle.state.specs.declared.desk.Desk.{Desk}
-use Rattle.state.specs.declared.answer.Answer.{Answer}
-use Rattle.state.specs.declared.answer.Answer.the-variants.{Accepted, NoBench, Unsound, NoKey, LineFull, BadForm, UnknownName, WrongKind, NoRoom}
 
 abbrev pub benchCount : ℕ
 benchCount = 4
@@ -29,15 +27,3 @@ withLine d bench l = record { lines = set (d .lines) bench l; sheet = d .sheet }
 -- "A fresh desk has all of this empty"
 abbrev pub freshDesk : Desk
 freshDesk = record { lines = replicate benchCount emptyLine; sheet = emptySheet }
-
--- the numbers of "Keys and their refusals"
-abbrev pub answerNumber : Answer → ℕ
-answerNumber Accepted = 0
-answerNumber NoBench = 1
-answerNumber Unsound = 2
-answerNumber NoKey = 3
-answerNumber LineFull = 4
-answerNumber BadForm = 5
-answerNumber UnknownName = 6
-answerNumber WrongKind = 7
-answerNumber NoRoom = 8

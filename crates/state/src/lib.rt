@@ -1,6 +1,5 @@
 // What the desk holds (document 01).
-// line: an unfinished line. sheet: items and count. desk: lines and sheet. answer: the numbered answers.
-pub mod answer;
+// line: an unfinished line. sheet: items and count. desk: lines and sheet.
 pub mod desk;
 pub mod line;
 pub mod sheet;

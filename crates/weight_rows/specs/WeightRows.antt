@@ -12,7 +12,7 @@ use Rattle.decimal.specs.declared.Reading.the-variants.{Number, Nothing}
 use Rattle.values.specs.Value.{textOf}
 use Rattle.formula.specs.Recognised.{allRecognised}
 use Rattle.formula.specs.Sum.{sumOf}
-use Rattle.formula.specs.declared.class.Class.the-variants.{MetalOrganic, Organic}
+use Rattle.formula_class.specs.declared.Class.the-variants.{MetalOrganic, Organic}
 use Rattle.elements.specs.declared.Weight.{Weight}
 use Rattle.elements.specs.declared.Weight.the-variants.{Thousandths, NoWeight}
 use Rattle.levels.specs.Level.{levelOf}

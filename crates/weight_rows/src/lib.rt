@@ -8,7 +8,7 @@ ghost use Rattle.rows.specs.Rows.{rowOf};
 ghost use Rattle.weight_rows.specs.WeightRows.{weighedOf, SmallWeighed, ratioOutside, ratioLevel, ratioRow, row4, farApart, isWeighedCategory, differenceRow, row5};
 use decimal::Reading;
 use elements::Weight;
-use formula::class::Class;
+use formula_class::Class;
 use formula_rows::is_in_class;
 use rows::Row;
 use rows::is_missing;

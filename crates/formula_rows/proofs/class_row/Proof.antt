@@ -8,8 +8,8 @@ use denote.Ref.{now}
 use borrow.Author.Tests.{not-true, not-false}
 use Rattle.values.specs.Value.{textOf}
 use Rattle.formula.specs.Recognised.{allRecognised}
-use Rattle.formula.specs.Class.{classOf}
-use Rattle.formula.specs.declared.class.Class.{Class}
+use Rattle.formula_class.specs.Class.{classOf}
+use Rattle.formula_class.specs.declared.Class.{Class}
 use Rattle.formula_rows.specs.FormulaRows.{inClass}
 use Rattle.formula_rows.proofs.ClassCases.{class-formula, class-category, class-unread, class-match, class-mismatch}
 use borrow.Author.Needs.{needs}

@@ -2,7 +2,7 @@
 -- Assumes nothing.
 use mathlib.Core.Path.{sym, _∙_, ap}
 use denote.Ref.{now}
-use Rattle.formula.specs.declared.class.Class.{Class}
+use Rattle.formula_class.specs.declared.Class.{Class}
 use Rattle.formula_rows.specs.FormulaRows.{inClass}
 use borrow.Author.Needs.{needs}
 use Rattle.formula_rows.proofs.is_in_class.Statement.{statement}

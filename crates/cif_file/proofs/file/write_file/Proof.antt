@@ -7,10 +7,11 @@ use mathlib.Core.Path.{_≡_, refl, sym, _∙_}
 use mathlib.Core.Bool.{true}
 use denote.Ref.{now}
 use Rattle.soundness.specs.Sound.{soundDesk}
-use Rattle.cif_file.specs.Block.{isBlockName}
+use Rattle.file_answers.specs.Block.{isBlockName}
+use Rattle.file_answers.proofs.Blocks.{block-short}
 use Rattle.cif_file.specs.Answers.{fileStep}
 use Rattle.cif_file.proofs.Files.{file-length}
-use Rattle.cif_file.proofs.Steps.{block-short, step-unsound, step-bad-name, step-no-room, step-written}
+use Rattle.cif_file.proofs.Steps.{step-unsound, step-bad-name, step-no-room, step-written}
 use Rattle.cif_file.proofs.file.write_file.Statement.{statement}
 use Rattle.cif_file.proofs.file.write_file.Tie as tie
 

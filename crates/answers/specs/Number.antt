@@ -1,0 +1,17 @@
+-- The numbers of the answers of a key call (document 01, "Keys and their refusals").
+-- Assumes nothing.
+use Prim.Native.Nat.{ℕ}
+use Rattle.answers.specs.declared.Answer.{Answer}
+use Rattle.answers.specs.declared.Answer.the-variants.{Accepted, NoBench, Unsound, NoKey, LineFull, BadForm, UnknownName, WrongKind, NoRoom}
+
+-- the numbers of "Keys and their refusals"
+abbrev pub answerNumber : Answer → ℕ
+answerNumber Accepted = 0
+answerNumber NoBench = 1
+answerNumber Unsound = 2
+answerNumber NoKey = 3
+answerNumber LineFull = 4
+answerNumber BadForm = 5
+answerNumber UnknownName = 6
+answerNumber WrongKind = 7
+answerNumber NoRoom = 8
