@@ -13,7 +13,8 @@ use Rattle.equality.specs.Same.{lower}
 use Rattle.text.proofs.Bools.{and-both, cond-first}
 use Rattle.text.proofs.Runs.{run-length, all-append, all-drop}
 use Rattle.values.specs.Value.{isValue}
-use Rattle.items.specs.Items.{itemCount, rowOf, itemOf, passes, IsName}
+use Rattle.items.specs.Items.{itemCount, rowOf, itemOf, IsName}
+use Rattle.kinds.specs.Kinds.{passes}
 use Rattle.items.specs.Typed.{lineMost, isTyped}
 use Rattle.cif.specs.Line.{nameEnd, splitOf, namedClass, splitClass, classOf}
 use Rattle.cif.specs.Wording.{IsLine}

@@ -7,7 +7,8 @@ use lib.Dec.{leb}
 use lib.ListN.{length, take, drop}
 use Rattle.text.specs.Run.{runOf, all, between, other, hasAt}
 use Rattle.values.specs.Value.{isValue}
-use Rattle.items.specs.Items.{itemOf, passes}
+use Rattle.items.specs.Items.{itemOf}
+use Rattle.kinds.specs.Kinds.{passes}
 use Rattle.items.specs.Typed.{lineMost, isTyped}
 use Rattle.items.specs.declared.Named.{Named}
 use Rattle.items.specs.declared.Named.the-variants.{Item, Unknown}

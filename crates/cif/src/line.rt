@@ -50,7 +50,7 @@ fn classify_typed(s: &[u8]) -> Class
     let Named::Item(item) = items::item_named(&s[..name]) else {
         return Class::UnknownName;
     };
-    if items::passes_kind(item, &s[start..]) {
+    if kinds::passes_kind(item, &s[start..]) {
         Class::Entry(item, start)
     } else {
         Class::WrongKind

@@ -8,7 +8,7 @@ use Rattle.equality.specs.Same.{lower, sameBy, beginsFolded}
 use Rattle.decimal.specs.Digits.{valueFrom}
 use Rattle.decimal.specs.Reading.{closes, isTail, sizeOf, pointedOf, unsignedOf, readingOf, isNumber}
 use Rattle.values.specs.Value.{mayBegin, isReserved, isBare, isQuotedBy, isQuoted, isValue, isUnassigned, textOf}
-use Rattle.items.specs.Items.{items, findFrom, isCategory, passes}
+use Rattle.items.specs.Items.{items, findFrom}
 use Rattle.cif.specs.Line.{splitOf, classOf}
 use Rattle.terms.specs.Term.{kindAt, isCount, countOf, termOf}
 use Rattle.terms.specs.Terms.{cut, every as everyTerm, some}
@@ -25,7 +25,7 @@ use Rattle.weight_rows.specs.WeightRows.{weighedOf, ratioLevel, row4, farApart,
 use Rattle.graded_rows.specs.GradedRows.{gradedRow, oldNameRow}
 use Rattle.threshold.specs.Threshold.{hasShape, multiplierOf, thresholdLevel, thresholdRow, row12}
 use Rattle.soundness.specs.Sound.{every, soundLine, soundEmpty, soundFilled, soundItem, soundLines, soundSheet, soundDesk, soundLog}
-use Rattle.items.specs.Fits.{fits}
+use Rattle.kinds.specs.Kinds.{isCategory, passes, fits}
 use Rattle.calls.specs.Key.{stored, keyStep, keyOf}
 use Rattle.examples.specs.Table.{Example, sheetWith, answerOf, examples}
 

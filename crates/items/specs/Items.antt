@@ -1,16 +1,14 @@
--- The ten items, their names and kinds (document 01, "What the desk holds"), and which values an item takes.
+-- The ten items, their names and kinds (document 01, "What the desk holds").
 -- Assumes nothing.
 use Prim.Native.Nat.{ℕ, suc, _-_, _≤_}
 use Prim.Native.String.{String}
 use mathlib.Core.Path.{_≡_}
-use mathlib.Core.Bool.{Bool, true, cond, _&&_, _||_}
+use mathlib.Core.Bool.{Bool, cond, _&&_}
 use mathlib.Core.List.{List, [], _∷_, map}
 use lib.Dec.{leb}
 use lib.ListN.{length, getD}
 use Rattle.text.specs.Quote.{bytes}
-use Rattle.equality.specs.Same.{lower, exact, sameBy, sameFolded}
-use Rattle.decimal.specs.Reading.{isNumber}
-use Rattle.values.specs.Value.{isUnassigned, textOf}
+use Rattle.equality.specs.Same.{lower, sameFolded}
 use Rattle.items.specs.declared.Kind.{Kind}
 use Rattle.items.specs.declared.Kind.the-variants.{Text, Number, Category}
 use Rattle.items.specs.declared.Named.{Named}
@@ -68,19 +66,3 @@ pub record IsName (s : List ℕ) (k : ℕ) : Type 0 where
   pub first : 1 ≤ k
   pub last : k ≤ itemCount
   pub same : map lower s ≡ map lower (rowOf k .name)
-
--- "A category is FI, CI, FM, CM, FO or CO, bare or quoted, capitals only"
-unfoldable pub isCategory : List ℕ → Bool
-isCategory t =
-    sameBy exact t (bytes "FI") || (sameBy exact t (bytes "CI") || (sameBy exact t (bytes "FM")
-    || (sameBy exact t (bytes "CM") || (sameBy exact t (bytes "FO") || sameBy exact t (bytes "CO")))))
-
--- a value is of a kind
-abbrev pub ofKind : Kind → List ℕ → Bool
-ofKind Text v = true
-ofKind Number v = isNumber v
-ofKind Category v = isCategory (textOf v)
-
--- a value passes an item's kind; unassigned "passes every kind". No value passes that of an item that is not there.
-unfoldable pub passes : ℕ → List ℕ → Bool
-passes item v = leb 1 item && (leb item itemCount && (isUnassigned v || ofKind (rowOf item .kind) v))

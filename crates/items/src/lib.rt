@@ -1,11 +1,10 @@
-// The ten items: their names, and the values that each takes (document 01, "What the desk holds").
+// The ten items and their names (document 01, "What the desk holds").
 ghost use mathlib.Core.Path.{_≡_};
-ghost use Prim.Native.Nat.{_≤_, _<_, _+_};
-ghost use lib.ListN.{length, take, drop};
+ghost use Prim.Native.Nat.{_<_, _+_};
+ghost use lib.ListN.{length};
 ghost use Rattle.copies.specs.Copy.{copied};
 ghost use Rattle.equality.specs.Same.{sameFolded};
-ghost use Rattle.items.specs.Fits.{fits};
-ghost use Rattle.items.specs.Items.{itemCount, rowOf, nameOf, itemOf, isCategory, ofKind, passes};
+ghost use Rattle.items.specs.Items.{itemCount, rowOf, nameOf, itemOf};
 
 // The longest line.
 pub const LINE_MOST: usize = 80;
@@ -30,7 +29,7 @@ pub enum Named {
 
 pub const ITEM_COUNT: usize = 10;
 
-// The names one after the other, where each begins, and the kinds: t text, n number, c category.
+// The names one after the other, and where each begins.
 const NAMES: [u8; 237] = *b"_chemical_formula_sum\
     _chemical_formula_weight\
     _publ_requested_category\
@@ -43,8 +42,6 @@ const NAMES: [u8; 237] = *b"_chemical_formula_sum\
     _reflns_threshold_expression";
 
 const STARTS: [u8; 11] = [0, 21, 45, 69, 91, 114, 138, 162, 185, 209, 237];
-
-const KINDS: [u8; 10] = *b"tncnnnnnnt";
 
 // Whether s is the text of the table for item k + 1, without regard to the case of A to Z.
 fn is_in_table(k: usize, s: &[u8]) -> bool
@@ -81,67 +78,6 @@ pub fn item_named(s: &[u8]) -> Named
     Named::Unknown
 }
 
-// The kind of item k + 1.
-fn kind_at(k: usize) -> Kind
-    requires { ⌜ k < itemCount ⌝ }
-    ensures { λ r. ⌜ r ≡ rowOf (k + 1) .kind ⌝ }
-{
-    let letter = KINDS[k];
-    match letter {
-        b'n' => Kind::Number,
-        b'c' => Kind::Category,
-        _ => Kind::Text,
-    }
-}
-
-// Whether a text is one of the six categories.
-fn is_category(t: &[u8]) -> bool
-    ensures { λ r. ⌜ r ≡ isCategory (now (t .entry)) ⌝ }
-{
-    if equality::same(t, b"FI") {
-        return true;
-    }
-    if equality::same(t, b"CI") {
-        return true;
-    }
-    if equality::same(t, b"FM") {
-        return true;
-    }
-    if equality::same(t, b"CM") {
-        return true;
-    }
-    if equality::same(t, b"FO") {
-        return true;
-    }
-    equality::same(t, b"CO")
-}
-
-fn is_of_kind(kind: Kind, v: &[u8]) -> bool
-    ensures { λ r. ⌜ r ≡ ofKind kind (now (v .entry)) ⌝ }
-{
-    match kind {
-        Kind::Text => true,
-        Kind::Number => decimal::is_number(v),
-        Kind::Category => is_category(values::text_of(v)),
-    }
-}
-
-// Whether the value v passes the kind of an item; none does where there is no such item.
-pub fn passes_kind(item: usize, v: &[u8]) -> bool
-    ensures { λ r. ⌜ r ≡ passes item (now (v .entry)) ⌝ }
-{
-    if item < 1 {
-        return false;
-    }
-    if ITEM_COUNT < item {
-        return false;
-    }
-    if values::is_unassigned(v) {
-        return true;
-    }
-    is_of_kind(kind_at(item - 1), v)
-}
-
 // The length of an item's name; 0 where there is no such item.
 pub fn name_length(item: usize) -> usize
     ensures { λ r. ⌜ r ≡ length (nameOf item) ⌝ }
@@ -168,20 +104,4 @@ pub fn copy_name(out: &mut [u8], at: usize, item: usize)
     let from = STARTS[item - 1] as usize;
     let to = STARTS[item] as usize;
     copies::copy_in(out, at, &NAMES[from..to]);
-}
-
-// Whether an item can hold the value v: form, bytes, kind, and the length of its line.
-pub fn fits_item(item: usize, v: &[u8]) -> bool
-    ensures { λ r. ⌜ r ≡ fits item (now (v .entry)) ⌝ }
-{
-    if !passes_kind(item, v) {
-        return false;
-    }
-    if !values::is_value(v) {
-        return false;
-    }
-    if !text::all_between(v, FIRST_TYPED, LAST_TYPED) {
-        return false;
-    }
-    name_length(item) + 1 + v.len() <= LINE_MOST
 }

@@ -10,9 +10,9 @@ use lib.ListN.{length}
 use Rattle.text.specs.Run.{all}
 use Rattle.text.proofs.Bools.{and-both}
 use Rattle.values.specs.Value.{isValue}
-use Rattle.items.specs.Items.{rowOf, passes}
+use Rattle.items.specs.Items.{rowOf}
 use Rattle.items.specs.Typed.{lineMost, isTyped}
-use Rattle.items.specs.Fits.{fits}
+use Rattle.kinds.specs.Kinds.{passes, fits}
 
 pub record Fitting (k : ℕ) (v : List ℕ) : Type 0 where
   pub passes : passes k v ≡ true

@@ -14,7 +14,7 @@ use Rattle.copies.specs.Each.{linesFrom}
 use Rattle.text.proofs.Bools.{and-both}
 use Rattle.items.specs.Items.{itemCount}
 use Rattle.items.specs.Typed.{lineMost}
-use Rattle.items.specs.Fits.{fits}
+use Rattle.kinds.specs.Kinds.{fits}
 use Rattle.log.proofs.Records.{record-length}
 use Rattle.state.specs.Sheets.{emptyItem, noItem, valueIn}
 use Rattle.state.specs.Desks.{benchCount}

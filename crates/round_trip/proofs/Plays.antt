@@ -12,10 +12,10 @@ use lib.Seq.{getD-set-same, set-set, drop-append-add}
 use Rattle.text.specs.Run.{all, between}
 use Rattle.text.proofs.Bools.{and-both}
 use Rattle.text.proofs.Runs.{all-append}
-use Rattle.items.specs.Items.{itemCount, rowOf, passes}
+use Rattle.items.specs.Items.{itemCount, rowOf}
 use Rattle.items.specs.Typed.{lineMost, isTyped}
 use Rattle.cif.specs.Line.{classOf}
-use Rattle.items.specs.Fits.{fits}
+use Rattle.kinds.specs.Kinds.{passes, fits}
 use Rattle.cif.specs.declared.line.Class.{Class}
 use Rattle.cif.specs.declared.line.Class.the-variants as class
 use Rattle.cif.proofs.Entries.{entry-taken}

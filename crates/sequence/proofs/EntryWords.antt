@@ -9,7 +9,8 @@ use lib.Dec.{ltb, leb}
 use lib.ListN.{length, take, drop}
 use Rattle.text.specs.Run.{all, between}
 use Rattle.text.proofs.Bools.{cond-first}
-use Rattle.items.specs.Items.{itemOf, passes, IsName}
+use Rattle.items.specs.Items.{itemOf, IsName}
+use Rattle.kinds.specs.Kinds.{passes}
 use Rattle.items.specs.Typed.{lineMost, isTyped}
 use Rattle.cif.specs.Line.{splitOf, namedClass, splitClass, classOf}
 use Rattle.cif.specs.Wording.{IsLine}

@@ -11,9 +11,9 @@ use lib.Dec.{ltb, leb, eqb}
 use lib.ListN.{length, drop}
 use Rattle.text.proofs.Bools.{and-both, or-either}
 use Rattle.values.specs.Value.{isBare, isQuotedBy, isQuoted, isValue}
-use Rattle.items.specs.Items.{rowOf, passes}
+use Rattle.items.specs.Items.{rowOf}
 use Rattle.items.specs.Typed.{lineMost}
-use Rattle.items.specs.Fits.{fits}
+use Rattle.kinds.specs.Kinds.{passes, fits}
 use Rattle.cif.proofs.Entries.{IsEntry}
 use Rattle.state.specs.Sheets.{filled, valueIn}
 use Rattle.state.specs.Desks.{benchCount}

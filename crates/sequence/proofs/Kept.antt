@@ -15,7 +15,7 @@ use Rattle.text.proofs.Bools.{and-both}
 use Rattle.items.specs.Items.{itemCount}
 use Rattle.items.specs.Typed.{lineMost, isTyped}
 use Rattle.cif.specs.Line.{classOf}
-use Rattle.items.specs.Fits.{fits}
+use Rattle.kinds.specs.Kinds.{fits}
 use Rattle.cif.specs.declared.line.Class.{Class}
 use Rattle.cif.specs.declared.line.Class.the-variants as class
 use Rattle.cif.proofs.Entries.{entry-is}

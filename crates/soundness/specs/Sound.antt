@@ -7,7 +7,7 @@ use lib.ListN.{length, take, drop}
 use lib.Dec.{ltb, leb, eqb}
 use Rattle.text.specs.Run.{all, between}
 use Rattle.items.specs.Typed.{lineMost, isTyped}
-use Rattle.items.specs.Fits.{fits}
+use Rattle.kinds.specs.Kinds.{fits}
 use Rattle.state.specs.Lines.{typed}
 use Rattle.state.specs.Sheets.{valueIn}
 use Rattle.state.specs.Desks.{benchCount}

@@ -66,7 +66,7 @@ fn is_sound_filled(count: usize, k: usize, i: Item) -> bool
         return false;
     }
     let value = i.value;
-    if items::fits_item(k, &value[..n]) {
+    if kinds::fits_item(k, &value[..n]) {
         text::all_between(&value[n..], 0, 0)
     } else {
         false

@@ -5,7 +5,8 @@ use mathlib.Core.Path.{_≡_, sym, _∙_, ap}
 use Prim.Native.Nat.{_≤_}
 use lib.ListN.{length, take, drop, length-take}
 use Rattle.text.proofs.Parts.{rest-part}
-use Rattle.items.specs.Items.{itemOf, passes}
+use Rattle.items.specs.Items.{itemOf}
+use Rattle.kinds.specs.Kinds.{passes}
 use Rattle.cif.specs.Line.{splitOf, splitClass, namedClass}
 use Rattle.items.specs.declared.Named.{Named}
 use Rattle.items.specs.declared.Named.the-variants.{Item}

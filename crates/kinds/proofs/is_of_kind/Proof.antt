@@ -1,11 +1,11 @@
--- `items::is_of_kind` meets its contract: each arm is a case of `ofKind`.
+-- `kinds::is_of_kind` meets its contract: each arm is a case of `ofKind`.
 -- Assumes nothing.
 use mathlib.Core.Path.{sym, _∙_, ap}
-use Rattle.items.specs.Items.{ofKind, isCategory}
+use Rattle.kinds.specs.Kinds.{ofKind, isCategory}
 use Rattle.items.specs.declared.Kind.{Kind}
 use borrow.Author.Needs.{needs}
-use Rattle.items.proofs.is_of_kind.Statement.{statement}
-use Rattle.items.proofs.is_of_kind.Tie as tie
+use Rattle.kinds.proofs.is_of_kind.Statement.{statement}
+use Rattle.kinds.proofs.is_of_kind.Tie as tie
 
 returns-2 : tie.Need-returns-2
 returns-2 c =

@@ -1,13 +1,13 @@
--- `items::kind_at` meets its contract: the letter at k is that of the kind of item k + 1.
+-- `kinds::kind_at` meets its contract: the letter at k is that of the kind of item k + 1.
 -- Assumes nothing.
 use mathlib.Core.Path.{_≡_, sym, _∙_}
 use Prim.Native.Nat.{_+_}
 use lib.ListN.{getD}
 use Rattle.items.specs.Items.{rowOf}
-use Rattle.items.proofs.KindTable.{letterOf, letters, letter-at, is-number, is-category, is-text}
+use Rattle.kinds.proofs.KindTable.{letterOf, letters, letter-at, is-number, is-category, is-text}
 use borrow.Author.Needs.{needs}
-use Rattle.items.proofs.kind_at.Statement.{statement}
-use Rattle.items.proofs.kind_at.Tie as tie
+use Rattle.kinds.proofs.kind_at.Statement.{statement}
+use Rattle.kinds.proofs.kind_at.Tie as tie
 
 returns : tie.Need-returns
 unfolding letters

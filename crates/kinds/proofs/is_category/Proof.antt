@@ -1,10 +1,10 @@
--- `items::is_category` meets its contract: each text tried is a case of `isCategory`.
+-- `kinds::is_category` meets its contract: each text tried is a case of `isCategory`.
 -- Assumes nothing.
 use mathlib.Core.Path.{sym, _∙_}
-use Rattle.items.specs.Items.{isCategory}
+use Rattle.kinds.specs.Kinds.{isCategory}
 use borrow.Author.Needs.{needs}
-use Rattle.items.proofs.is_category.Statement.{statement}
-use Rattle.items.proofs.is_category.Tie as tie
+use Rattle.kinds.proofs.is_category.Statement.{statement}
+use Rattle.kinds.proofs.is_category.Tie as tie
 
 returns : tie.Need-returns
 unfolding isCategory

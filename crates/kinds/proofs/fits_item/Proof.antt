@@ -1,4 +1,4 @@
--- `items::fits_item` meets its contract: each return has the tests of `fits` on its way.
+-- `kinds::fits_item` meets its contract: each return has the tests of `fits` on its way.
 -- Assumes nothing.
 use native.Mathlib.Omega.{arith}
 use mathlib.Core.Path.{_≡_, sym, _∙_, ap}
@@ -8,14 +8,15 @@ use Prim.Native.Nat.{ℕ, _+_, _≤_}
 use borrow.Author.Tests.{not-true, not-false}
 use lib.Dec.{leb}
 use lib.ListN.{length}
-use Rattle.items.specs.Fits.{fits}
-use Rattle.items.specs.Items.{itemCount, passes}
+use Rattle.kinds.specs.Kinds.{fits}
+use Rattle.items.specs.Items.{itemCount}
+use Rattle.kinds.specs.Kinds.{passes}
 use Rattle.items.specs.Typed.{lineMost}
 use Rattle.items.proofs.NameOf.{name-of, name-short}
-use Rattle.items.proofs.Passes.{passes-known}
+use Rattle.kinds.proofs.Passes.{passes-known}
 use borrow.Author.Needs.{needs}
-use Rattle.items.proofs.fits_item.Statement.{statement}
-use Rattle.items.proofs.fits_item.Tie as tie
+use Rattle.kinds.proofs.fits_item.Statement.{statement}
+use Rattle.kinds.proofs.fits_item.Tie as tie
 
 passed : (c : tie.Else1) → passes (c .before .before .before .args .item) (c .before .before .before .args .v .now) ≡ true
 passed c = sym (c .before .passes-kind .ensures) ∙ not-false _ (c .if1 .left)

@@ -7,7 +7,8 @@ use Prim.Native.Nat.{ℕ, _≤_}
 use borrow.Author.Tests.{leb-true}
 use lib.Dec.{leb}
 use Rattle.text.proofs.Bools.{and-both}
-use Rattle.items.specs.Items.{itemCount, passes}
+use Rattle.items.specs.Items.{itemCount}
+use Rattle.kinds.specs.Kinds.{passes}
 
 pub passes-known : (k : ℕ) (v : List ℕ) → passes k v ≡ true → (1 ≤ k) × (k ≤ itemCount)
 unfolding passes

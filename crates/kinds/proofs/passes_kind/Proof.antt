@@ -1,14 +1,15 @@
--- `items::passes_kind` meets its contract: each return has the tests of `passes` on its way.
+-- `kinds::passes_kind` meets its contract: each return has the tests of `passes` on its way.
 -- Assumes nothing.
 use native.Mathlib.Omega.{arith}
 use mathlib.Core.Path.{_≡_, sym, _∙_, ap}
 use Prim.Native.Nat.{ℕ, _+_, _-_}
 use borrow.Author.Tests.{le-leb, lt-leb}
-use Rattle.items.specs.Items.{rowOf, ofKind, passes}
+use Rattle.items.specs.Items.{rowOf}
+use Rattle.kinds.specs.Kinds.{ofKind, passes}
 use Rattle.items.specs.declared.Kind.{Kind}
 use borrow.Author.Needs.{needs}
-use Rattle.items.proofs.passes_kind.Statement.{statement}
-use Rattle.items.proofs.passes_kind.Tie as tie
+use Rattle.kinds.proofs.passes_kind.Statement.{statement}
+use Rattle.kinds.proofs.passes_kind.Tie as tie
 
 returns : tie.Need-returns
 unfolding passes

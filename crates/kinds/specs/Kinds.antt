@@ -1,0 +1,36 @@
+-- Which values an item takes: its kind, and the length of its line (document 01, "What the desk holds").
+-- Assumes nothing.
+use Prim.Native.Nat.{ℕ, _+_}
+use mathlib.Core.Bool.{Bool, true, _&&_, _||_}
+use mathlib.Core.List.{List}
+use lib.Dec.{leb}
+use lib.ListN.{length}
+use Rattle.text.specs.Quote.{bytes}
+use Rattle.text.specs.Run.{all}
+use Rattle.equality.specs.Same.{exact, sameBy}
+use Rattle.decimal.specs.Reading.{isNumber}
+use Rattle.values.specs.Value.{isUnassigned, isValue, textOf}
+use Rattle.items.specs.Items.{itemCount, rowOf}
+use Rattle.items.specs.Typed.{lineMost, isTyped}
+use Rattle.items.specs.declared.Kind.{Kind}
+use Rattle.items.specs.declared.Kind.the-variants.{Text, Number, Category}
+
+-- "A category is FI, CI, FM, CM, FO or CO, bare or quoted, capitals only"
+unfoldable pub isCategory : List ℕ → Bool
+isCategory t =
+    sameBy exact t (bytes "FI") || (sameBy exact t (bytes "CI") || (sameBy exact t (bytes "FM")
+    || (sameBy exact t (bytes "CM") || (sameBy exact t (bytes "FO") || sameBy exact t (bytes "CO")))))
+
+-- a value is of a kind
+abbrev pub ofKind : Kind → List ℕ → Bool
+ofKind Text v = true
+ofKind Number v = isNumber v
+ofKind Category v = isCategory (textOf v)
+
+-- a value passes an item's kind; unassigned "passes every kind". No value passes that of an item that is not there.
+unfoldable pub passes : ℕ → List ℕ → Bool
+passes item v = leb 1 item && (leb item itemCount && (isUnassigned v || ofKind (rowOf item .kind) v))
+
+-- "a value of the form below, bytes 32 to 126, that passes its kind and makes, after its name and one space, a line of at most 80 bytes"
+unfoldable pub fits : ℕ → List ℕ → Bool
+fits item v = passes item v && (isValue v && (all isTyped v && leb (length (rowOf item .name) + 1 + length v) lineMost))

@@ -1,0 +1,90 @@
+// The values that an item takes, by its kind (document 01, "What the desk holds").
+ghost use mathlib.Core.Path.{_≡_};
+ghost use Prim.Native.Nat.{_<_, _+_};
+ghost use Rattle.items.specs.Items.{itemCount, rowOf};
+ghost use Rattle.kinds.specs.Kinds.{isCategory, ofKind, passes, fits};
+use items::FIRST_TYPED;
+use items::ITEM_COUNT;
+use items::Kind;
+use items::LAST_TYPED;
+use items::LINE_MOST;
+
+// The kinds of the items: t text, n number, c category.
+const KINDS: [u8; 10] = *b"tncnnnnnnt";
+
+// The kind of item k + 1.
+fn kind_at(k: usize) -> Kind
+    requires { ⌜ k < itemCount ⌝ }
+    ensures { λ r. ⌜ r ≡ rowOf (k + 1) .kind ⌝ }
+{
+    let letter = KINDS[k];
+    match letter {
+        b'n' => Kind::Number,
+        b'c' => Kind::Category,
+        _ => Kind::Text,
+    }
+}
+
+// Whether a text is one of the six categories.
+fn is_category(t: &[u8]) -> bool
+    ensures { λ r. ⌜ r ≡ isCategory (now (t .entry)) ⌝ }
+{
+    if equality::same(t, b"FI") {
+        return true;
+    }
+    if equality::same(t, b"CI") {
+        return true;
+    }
+    if equality::same(t, b"FM") {
+        return true;
+    }
+    if equality::same(t, b"CM") {
+        return true;
+    }
+    if equality::same(t, b"FO") {
+        return true;
+    }
+    equality::same(t, b"CO")
+}
+
+fn is_of_kind(kind: Kind, v: &[u8]) -> bool
+    ensures { λ r. ⌜ r ≡ ofKind kind (now (v .entry)) ⌝ }
+{
+    match kind {
+        Kind::Text => true,
+        Kind::Number => decimal::is_number(v),
+        Kind::Category => is_category(values::text_of(v)),
+    }
+}
+
+// Whether the value v passes the kind of an item; none does where there is no such item.
+pub fn passes_kind(item: usize, v: &[u8]) -> bool
+    ensures { λ r. ⌜ r ≡ passes item (now (v .entry)) ⌝ }
+{
+    if item < 1 {
+        return false;
+    }
+    if ITEM_COUNT < item {
+        return false;
+    }
+    if values::is_unassigned(v) {
+        return true;
+    }
+    is_of_kind(kind_at(item - 1), v)
+}
+
+// Whether an item can hold the value v: form, bytes, kind, and the length of its line.
+pub fn fits_item(item: usize, v: &[u8]) -> bool
+    ensures { λ r. ⌜ r ≡ fits item (now (v .entry)) ⌝ }
+{
+    if !passes_kind(item, v) {
+        return false;
+    }
+    if !values::is_value(v) {
+        return false;
+    }
+    if !text::all_between(v, FIRST_TYPED, LAST_TYPED) {
+        return false;
+    }
+    items::name_length(item) + 1 + v.len() <= LINE_MOST
+}
