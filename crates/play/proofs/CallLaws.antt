@@ -10,7 +10,7 @@ use lib.Dec.{leb}
 use lib.ListN.{length, getD, drop}
 use lib.Seq.{drop-drop, getD-drop}
 use Rattle.sequence.specs.Calls.{Call}
-use Rattle.replies.specs.CallBytes.{callLength, callIn, callsIn, kindsHold}
+use Rattle.one_call.specs.CallBytes.{callLength, callIn, callsIn, kindsHold}
 
 -- the bytes of the next call
 rest : (s : List ℕ) (i : ℕ) → drop callLength (drop (callLength * i) s) ≡ drop (callLength * (i + 1)) s

@@ -10,7 +10,7 @@ use Rattle.state.specs.declared.desk.Desk.{Desk}
 use Rattle.alerts.specs.Sheet.{rowsOf, noRows}
 use Rattle.sequence.specs.Calls.{Call, State}
 use Rattle.sequence.specs.Sequences.{deskAnswers}
-use Rattle.replies.specs.CallBytes.{callsIn}
+use Rattle.one_call.specs.CallBytes.{callsIn}
 use Rattle.replies.specs.ReplyBytes.{replyLength}
 use Rattle.play.specs.DeskBytes.{deskLength, deskBytes}
 use Rattle.play.specs.Written.{answersBytes, writtenLength, AnswersWritten, AllWritten}

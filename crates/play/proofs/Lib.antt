@@ -1,4 +1,3 @@
-pub mod Numbers
 pub mod CallLaws
 pub mod Runs
 pub mod Fills

@@ -7,7 +7,7 @@ use lib.Dec.{leb, eqb}
 use lib.ListN.{length, drop}
 use Rattle.alerts.specs.Sheet.{rowsOf, noRows}
 use Rattle.sequence.specs.Sequences.{stateAfter}
-use Rattle.replies.specs.CallBytes.{callLength, callsIn, kindsHold, callCount}
+use Rattle.one_call.specs.CallBytes.{callLength, callsIn, kindsHold, callCount}
 use Rattle.play.specs.Written.{writtenBytes, writtenLength}
 use Rattle.play.specs.declared.Played.{Played}
 use Rattle.play.specs.declared.Played.the-variants.{Done, CutShort, NoSuchCall, NoRoom}

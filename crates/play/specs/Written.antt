@@ -11,9 +11,9 @@ use Rattle.alerts.specs.Sheet.{rowsOf, noRows}
 use Rattle.rows.specs.declared.Rows.{Rows}
 use Rattle.sequence.specs.Calls.{Call, Reply, State}
 use Rattle.sequence.specs.Sequences.{deskAnswers, stateAfter}
-use Rattle.replies.specs.ReplyBytes.{replyLength, replyBytes}
+use Rattle.replies.specs.ReplyBytes.{replyLength}
 use Rattle.play.specs.DeskBytes.{deskLength, deskBytes}
-use Rattle.replies.specs.OneCall.{stateOf}
+use Rattle.one_call.specs.OneCall.{stateOf, replyBytes}
 
 -- the answers of calls in bytes, in their order
 abbrev pub answersBytes : List (Call × Reply Rows) → List ℕ

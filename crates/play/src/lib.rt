@@ -6,24 +6,22 @@
 // the entry number (8 bytes, little-endian) and 15 zeros; of a key 24 zeros.
 // The final desk is 1338 bytes: of each of the 4 lines its 80 bytes and its length; of each of the 10 items its 80 bytes of value, its length,
 // its entry number and its bench (1 byte); the count; the used number. Lengths and numbers have 8 bytes, little-endian.
-// number: a number read from bytes. desk_bytes: the desk in bytes. call: one call read from bytes.
+// desk_bytes: the desk in bytes.
 ghost use mathlib.Core.Path.{_≡_};
 ghost use Prim.Native.Nat.{_*_, _≤_};
 ghost use lib.ListN.{length};
-ghost use Rattle.replies.specs.CallBytes.{callLength, callsIn, kindsHold};
+ghost use Rattle.one_call.specs.CallBytes.{callLength, callsIn, kindsHold};
 ghost use Rattle.replies.specs.ReplyBytes.{replyLength};
 ghost use Rattle.play.specs.Written.{AnswersWritten, AllWritten, writtenLength};
 ghost use Rattle.play.specs.Play.{after, playOf, told, resultOf, numbered};
 
-mod call;
 mod desk_bytes;
-mod number;
 
-use call::CALL_BYTES;
-use call::LAST_KIND;
-use call::play_call;
 use desk_bytes::DESK_BYTES;
 use desk_bytes::put_desk;
+use one_call::CALL_BYTES;
+use one_call::LAST_KIND;
+use one_call::play_call;
 use replies::reply::REPLY_BYTES;
 use state::desk::Desk;
 

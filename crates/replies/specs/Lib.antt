@@ -1,4 +1,2 @@
 pub mod Number
-pub mod CallBytes
 pub mod ReplyBytes
-pub mod OneCall

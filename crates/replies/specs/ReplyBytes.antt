@@ -1,14 +1,16 @@
--- A call's whole answer in bytes: twenty-five for each answer.
+-- A call's whole answer in bytes: twenty-five for each answer, of which the first is document 01's number of the answer.
 -- Assumes nothing.
 use Prim.Native.Nat.{ℕ, _+_, _*_, _-_}
 use mathlib.Core.List.{List, [], _∷_, _++_, flatMap}
 use lib.ListN.{replicate}
 use Rattle.answers.specs.Number.{answerNumber}
+use Rattle.answers.specs.declared.Answer.{Answer}
 use Rattle.alerts.specs.Sheet.{rowCount}
 use Rattle.rows.specs.declared.Row.{Row}
 use Rattle.rows.specs.declared.Rows.{Rows}
 use Rattle.questions.specs.Question.{askedNumber}
-use Rattle.sequence.specs.Calls.{Reply, keyed, reported, told}
+use Rattle.questions.specs.declared.question.Asked.{Asked}
+use Rattle.questions.specs.declared.who.Told.{Told}
 use Rattle.replies.specs.Number.{numberLength, numberBytes}
 
 -- the bytes of an answer: its number, and room for the twelve rows
@@ -18,8 +20,14 @@ replyLength = 1 + 2 * rowCount
 abbrev pub rowBytes : Row → List ℕ
 rowBytes r = r .level ∷ r .reason ∷ []
 
--- document 01's number of the answer; then, of a report, the rows; of Who, the bench and the entry number; and zeros
-abbrev pub replyBytes : Reply Rows → List ℕ
-replyBytes (keyed a) = answerNumber a ∷ replicate (replyLength - 1) 0
-replyBytes (reported a rows) = askedNumber a ∷ flatMap rowBytes (rows .rows)
-replyBytes (told t) = askedNumber (t .answer) ∷ t .bench ∷ (numberBytes (t .entry) ++ replicate (replyLength - (2 + numberLength)) 0)
+-- of a key: its number, and zeros
+abbrev pub keyBytes : Answer → List ℕ
+keyBytes a = answerNumber a ∷ replicate (replyLength - 1) 0
+
+-- of Report: its number, and the rows
+abbrev pub reportBytes : Asked → Rows → List ℕ
+reportBytes a rows = askedNumber a ∷ flatMap rowBytes (rows .rows)
+
+-- of Who: its number, the bench, the entry number, and zeros
+abbrev pub whoBytes : Told → List ℕ
+whoBytes t = askedNumber (t .answer) ∷ t .bench ∷ (numberBytes (t .entry) ++ replicate (replyLength - (2 + numberLength)) 0)

@@ -1,5 +1,4 @@
-// One call of a sequence, played, with its whole answer in bytes.
-// number: a number in bytes. reply: an answer in bytes. call: one call.
-pub mod call;
+// The whole answer of a call in bytes.
+// number: a number in bytes. reply: an answer in bytes.
 pub mod number;
 pub mod reply;

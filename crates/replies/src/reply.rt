@@ -1,7 +1,6 @@
 // A call's whole answer in bytes.
 ghost use mathlib.Core.Path.{_≡_};
-ghost use Rattle.sequence.specs.Calls.{keyed, reported, told};
-ghost use Rattle.replies.specs.ReplyBytes.{replyBytes};
+ghost use Rattle.replies.specs.ReplyBytes.{keyBytes, reportBytes, whoBytes};
 use crate::number::number_bytes;
 use answers::Answer;
 use answers::answer_number;
@@ -14,7 +13,7 @@ pub const REPLY_BYTES: usize = 1 + 2 * ROW_COUNT;
 
 // The answer of a key call.
 pub fn key_reply(a: Answer) -> [u8; REPLY_BYTES]
-    ensures { λ r. ⌜ r ≡ replyBytes (keyed a) ⌝ }
+    ensures { λ r. ⌜ r ≡ keyBytes a ⌝ }
 {
     let mut bytes = [0u8; REPLY_BYTES];
     bytes[0] = answer_number(a);
@@ -23,7 +22,7 @@ pub fn key_reply(a: Answer) -> [u8; REPLY_BYTES]
 
 // The answer of Report: its rows, each as level and reason.
 pub fn report_reply(p: Reported) -> [u8; REPLY_BYTES]
-    ensures { λ r. ⌜ r ≡ replyBytes (reported (p .answer) (p .rows)) ⌝ }
+    ensures { λ r. ⌜ r ≡ reportBytes (p .answer) (p .rows) ⌝ }
 {
     let answer = p.answer;
     let rows = p.rows;
@@ -41,7 +40,7 @@ pub fn report_reply(p: Reported) -> [u8; REPLY_BYTES]
 
 // The answer of Who: the bench and the entry number.
 pub fn who_reply(t: Told) -> [u8; REPLY_BYTES]
-    ensures { λ r. ⌜ r ≡ replyBytes (told t) ⌝ }
+    ensures { λ r. ⌜ r ≡ whoBytes t ⌝ }
 {
     let answer = t.answer;
     let entry = number_bytes(t.entry as u64);

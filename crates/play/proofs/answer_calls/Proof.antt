@@ -6,13 +6,13 @@ use mathlib.Core.Path.{_≡_, refl, sym, ap, _∙_}
 use mathlib.Core.List.{List}
 use Prim.Native.Nat.{ℕ, _≤_, _-_, _*_}
 use denote.Ref.{now}
-use lib.ListN.{length, drop, length-take, length-drop, length-map}
+use lib.ListN.{length, drop, length-map}
 use Rattle.text.proofs.Parts.{rest-part}
 use Rattle.state.specs.declared.desk.Desk.{Desk}
 use Rattle.sequence.specs.Calls.{freshState}
-use Rattle.replies.specs.CallBytes.{callLength, callIn, callsIn}
-use Rattle.replies.specs.ReplyBytes.{replyLength, replyBytes}
-use Rattle.replies.specs.OneCall.{One, stateOf, deskStep, oneOf}
+use Rattle.one_call.specs.CallBytes.{callLength, callIn, callsIn}
+use Rattle.replies.specs.ReplyBytes.{replyLength}
+use Rattle.one_call.specs.OneCall.{One, stateOf, replyBytes, deskStep, oneOf}
 use Rattle.play.proofs.CallLaws.{calls-next, none-left}
 use Rattle.play.proofs.Runs.{Ran, ran-none, ran-next, ran-all}
 use Rattle.play.proofs.answer_calls.Statement.{statement}
@@ -35,9 +35,6 @@ loop-holds c =
       ran-none deskStep replyBytes (freshState log) (callsIn (a .n) calls) (now (a .out)) (callsIn (a .n - 0) calls) (stateOf (c .fresh-desk .result) 0 log)
           (ap (λ (d : Desk). stateOf d 0 log) (c .fresh-desk .ensures)) (ap (λ (k : ℕ). callsIn k calls) e),
     )
-
-play-call-requires : tie.Need-play-call-requires Inv-loop μ-loop
-play-call-requires c κs = simp (length-take, length-drop) (omega arith)
 
 loop-again : tie.Need-loop-again Inv-loop μ-loop
 loop-again c =
@@ -79,7 +76,7 @@ answer-calls-spec =
     (λ c. omega arith)
     (λ c. omega arith)
     (λ c. omega arith)
-    play-call-requires
+    (λ c κs. search needs)
     (λ c. omega arith)
     (λ c. search needs)
     (λ c κs. search needs)

@@ -6,7 +6,7 @@ use Prim.Native.Nat.{ℕ, _≤_, _-_, _*_}
 use borrow.Author.Tests.{le-leb, lt-leb}
 use denote.Ref.{now}
 use lib.ListN.{drop}
-use Rattle.replies.specs.CallBytes.{callLength, kindsHold}
+use Rattle.one_call.specs.CallBytes.{callLength, kindsHold}
 use Rattle.play.proofs.CallLaws.{kinds-next, none-left}
 use Rattle.play.proofs.are_kinds.Statement.{statement}
 use Rattle.play.proofs.are_kinds.Tie as tie

@@ -5,7 +5,7 @@ use mathlib.Core.Path.{_≡_, sym, _∙_}
 use borrow.Author.Tests.{eq-eqb, ne-eqb, le-leb, lt-leb, not-true, not-false}
 use denote.Ref.{now}
 use lib.ListN.{length}
-use Rattle.replies.specs.CallBytes.{callCount}
+use Rattle.one_call.specs.CallBytes.{callCount}
 use Rattle.play.specs.Written.{writtenLength}
 use Rattle.play.specs.Play.{playOf}
 use Rattle.play.proofs.Fills.{ran-is}

@@ -2,7 +2,7 @@
 -- Assumes nothing.
 use native.Mathlib.Omega.{arith}
 use denote.Ref.{now}
-use Rattle.replies.specs.CallBytes.{callsIn}
+use Rattle.one_call.specs.CallBytes.{callsIn}
 use Rattle.play.proofs.Fills.{filled}
 use borrow.Author.Needs.{needs}
 use Rattle.play.proofs.play_fitting.Statement.{statement}

@@ -1,4 +1,4 @@
--- `replies::call::play_report` meets its contract: Report's answer and rows in bytes, and nothing changed.
+-- `one_call::play_report` meets its contract: Report's answer and rows in bytes, and nothing changed.
 -- Assumes nothing.
 use mathlib.Core.Path.{_≡_, _∙_, ap, sym}
 use mathlib.Core.List.{List}
@@ -8,11 +8,10 @@ use Rattle.alerts.specs.Sheet.{rowsOf, noRows}
 use Rattle.questions.specs.declared.report.Reported.{Reported}
 use Rattle.sequence.specs.Calls.{reported, reportOf}
 use Rattle.sequence.proofs.Desk.{report-is}
-use Rattle.replies.specs.ReplyBytes.{replyBytes}
-use Rattle.replies.specs.OneCall.{One, stateOf}
+use Rattle.one_call.specs.OneCall.{replyBytes, One, stateOf}
 use borrow.Author.Needs.{needs}
-use Rattle.replies.proofs.call.play_report.Statement.{statement}
-use Rattle.replies.proofs.call.play_report.Tie as tie
+use Rattle.one_call.proofs.play_report.Statement.{statement}
+use Rattle.one_call.proofs.play_report.Tie as tie
 
 -- the bytes of an answer, and a state
 abbrev with-state : Desk → ℕ → List ℕ → List ℕ → One

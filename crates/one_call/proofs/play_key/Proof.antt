@@ -1,14 +1,13 @@
--- `replies::call::play_key` meets its contract: the key call's, with its answer in bytes.
+-- `one_call::play_key` meets its contract: the key call's, with its answer in bytes.
 -- Assumes nothing.
 use mathlib.Core.Path.{_≡_, _∙_, ap}
 use denote.Ref.{now}
 use Rattle.calls.specs.Key.{After}
 use Rattle.sequence.specs.Calls.{keyed, left}
-use Rattle.replies.specs.ReplyBytes.{replyBytes}
-use Rattle.replies.specs.OneCall.{One}
+use Rattle.one_call.specs.OneCall.{replyBytes, One}
 use borrow.Author.Needs.{needs}
-use Rattle.replies.proofs.call.play_key.Statement.{statement}
-use Rattle.replies.proofs.call.play_key.Tie as tie
+use Rattle.one_call.proofs.play_key.Statement.{statement}
+use Rattle.one_call.proofs.play_key.Tie as tie
 
 -- what a key call leaves, with the answer in bytes
 abbrev oneAfter : After → One

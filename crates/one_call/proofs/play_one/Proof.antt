@@ -1,14 +1,14 @@
--- `replies::call::play_one` meets its contract: each kind is a case of `callOf`.
+-- `one_call::play_one` meets its contract: each kind is a case of `callOf`.
 -- Assumes nothing.
 use mathlib.Core.Path.{_≡_, sym, _∙_, ap}
 use Prim.Native.Nat.{ℕ}
 use borrow.Author.Tests.{ne-eqb}
 use denote.Ref.{now}
-use Rattle.replies.specs.CallBytes.{callOf}
-use Rattle.replies.specs.OneCall.{stateOf, oneOf}
+use Rattle.one_call.specs.CallBytes.{callOf}
+use Rattle.one_call.specs.OneCall.{stateOf, oneOf}
 use borrow.Author.Needs.{needs}
-use Rattle.replies.proofs.call.play_one.Statement.{statement}
-use Rattle.replies.proofs.call.play_one.Tie as tie
+use Rattle.one_call.proofs.play_one.Statement.{statement}
+use Rattle.one_call.proofs.play_one.Tie as tie
 
 returns : tie.Need-returns
 returns c =

@@ -1,4 +1,4 @@
--- `replies::call::play_who` meets its contract: Who's answer in bytes, and nothing changed.
+-- `one_call::play_who` meets its contract: Who's answer in bytes, and nothing changed.
 -- Assumes nothing.
 use mathlib.Core.Path.{_≡_, _∙_, ap}
 use mathlib.Core.List.{List}
@@ -7,11 +7,10 @@ use Rattle.state.specs.declared.desk.Desk.{Desk}
 use Rattle.questions.specs.Who.{whoOf}
 use Rattle.questions.specs.declared.who.Told.{Told}
 use Rattle.sequence.specs.Calls.{told}
-use Rattle.replies.specs.ReplyBytes.{replyBytes}
-use Rattle.replies.specs.OneCall.{One, stateOf}
+use Rattle.one_call.specs.OneCall.{replyBytes, One, stateOf}
 use borrow.Author.Needs.{needs}
-use Rattle.replies.proofs.call.play_who.Statement.{statement}
-use Rattle.replies.proofs.call.play_who.Tie as tie
+use Rattle.one_call.proofs.play_who.Statement.{statement}
+use Rattle.one_call.proofs.play_who.Tie as tie
 
 -- the bytes of an answer, and a state
 abbrev with-state : Desk → ℕ → List ℕ → List ℕ → One

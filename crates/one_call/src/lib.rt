@@ -1,20 +1,33 @@
-// One call of a sequence, played.
+// One call of a sequence, read from its bytes and played, with its whole answer in bytes.
+// number: the number of a call, read from its bytes.
 ghost use mathlib.Core.Path.{_≡_};
 ghost use Prim.Native.Nat.{ℕ};
 ghost use mathlib.Core.List.{List};
 ghost use Rattle.sequence.specs.Calls.{key, ask, report, who};
-ghost use Rattle.replies.specs.CallBytes.{callOf};
-ghost use Rattle.replies.specs.OneCall.{stateOf, one, oneOf};
-use crate::reply::REPLY_BYTES;
-use crate::reply::key_reply;
-use crate::reply::report_reply;
-use crate::reply::who_reply;
+ghost use Rattle.one_call.specs.CallBytes.{callOf, callIn};
+ghost use Rattle.one_call.specs.OneCall.{stateOf, one, oneOf};
+
+mod number;
+
+use number::byte_at;
+use number::call_number;
+use replies::reply::REPLY_BYTES;
+use replies::reply::key_reply;
+use replies::reply::report_reply;
+use replies::reply::who_reply;
 use state::desk::Desk;
 
-// The kinds of calls; any other is Who.
+// The bytes of a call, and where its key stands in them.
+pub const CALL_BYTES: usize = 10;
+
+const KEY_AT: usize = 9;
+
+// The kinds of calls: a key, Report, and Who, the last.
 const KEY: u8 = 0;
 
 const REPORT: u8 = 1;
+
+pub const LAST_KIND: u8 = 2;
 
 // What a call leaves beside the log, and its answer in bytes.
 pub struct Stepped {
@@ -61,8 +74,8 @@ fn play_who(d: Desk, used: usize, item: u64) -> Stepped
     }
 }
 
-// The call of a kind, a number and a byte.
-pub fn play_one(d: Desk, used: usize, log: &mut [u8], kind: u8, number: u64, byte: u8) -> Stepped
+// The call of a kind, a number and a byte; any other kind is Who.
+fn play_one(d: Desk, used: usize, log: &mut [u8], kind: u8, number: u64, byte: u8) -> Stepped
     ensures { λ r. ⌜ one r (now (log .exit)) ≡ oneOf (callOf kind number byte) (stateOf d used (now (log .entry))) ⌝ }
 {
     match kind {
@@ -70,4 +83,14 @@ pub fn play_one(d: Desk, used: usize, log: &mut [u8], kind: u8, number: u64, byt
         REPORT => play_report(d, used),
         _ => play_who(d, used, number),
     }
+}
+
+// The call in the first ten bytes of s; a byte that s lacks counts as 0.
+pub fn play_call(d: Desk, used: usize, log: &mut [u8], s: &[u8]) -> Stepped
+    ensures { λ r. ⌜ one r (now (log .exit)) ≡ oneOf (callIn (now (s .entry))) (stateOf d used (now (log .entry))) ⌝ }
+{
+    let kind = byte_at(s, 0);
+    let number = call_number(s);
+    let byte = byte_at(s, KEY_AT);
+    play_one(d, used, log, kind, number, byte)
 }
