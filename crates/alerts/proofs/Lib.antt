@@ -1,2 +1,1 @@
-mod Items
 pub mod Demand2

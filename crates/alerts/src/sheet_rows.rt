@@ -1,7 +1,5 @@
 // All twelve rows of a sheet.
 ghost use mathlib.Core.Path.{_≡_};
-ghost use Prim.Native.Nat.{_≤_, min};
-ghost use Rattle.items.specs.Typed.{lineMost};
 ghost use Rattle.state.specs.Sheets.{valueIn};
 ghost use Rattle.threshold.specs.Threshold.{row12};
 ghost use Rattle.alerts.specs.Sheet.{rowsOf, noRows};
@@ -11,12 +9,12 @@ use formula_rows::order_row;
 use formula_rows::recognised_row;
 use graded_rows::graded_row;
 use graded_rows::old_name_row;
-use items::LINE_MOST;
 use rows::ROW_COUNT;
 use rows::Row;
 use rows::Rows;
 use state::sheet::Item;
 use state::sheet::Sheet;
+use state::sheet::value_length;
 use threshold::threshold_row;
 
 // Rows 1 to 5.
@@ -32,13 +30,6 @@ struct FormulaGroup {
 struct GradedPair {
     graded: Row,
     general: Row,
-}
-
-// The length of an item's value, which no array is longer than.
-fn value_length(len: usize) -> usize
-    ensures { λ r. ⌜ (r ≡ min len lineMost) × (r ≤ lineMost) ⌝ }
-{
-    if LINE_MOST < len { LINE_MOST } else { len }
 }
 
 fn formula_texts(f: &[u8], w: &[u8], c: &[u8]) -> FormulaGroup
@@ -62,9 +53,9 @@ fn formula_texts(f: &[u8], w: &[u8], c: &[u8]) -> FormulaGroup
 fn formula_group(f: Item, w: Item, c: Item) -> FormulaGroup
     ensures { λ r. ⌜ FormulaGroupOf (valueIn f) (valueIn w) (valueIn c) r ⌝ }
 {
-    let fl = value_length(f.len);
-    let wl = value_length(w.len);
-    let cl = value_length(c.len);
+    let fl = value_length(f);
+    let wl = value_length(w);
+    let cl = value_length(c);
     let fv = f.value;
     let wv = w.value;
     let cv = c.value;
@@ -82,8 +73,8 @@ fn graded_texts(row: u64, new: &[u8], old: &[u8]) -> GradedPair
 fn graded_pair(row: u64, new: Item, old: Item) -> GradedPair
     ensures { λ r. ⌜ GradedPairOf row (valueIn new) (valueIn old) r ⌝ }
 {
-    let nl = value_length(new.len);
-    let ol = value_length(old.len);
+    let nl = value_length(new);
+    let ol = value_length(old);
     let nv = new.value;
     let ov = old.value;
     graded_texts(row, &nv[..nl], &ov[..ol])
@@ -92,7 +83,7 @@ fn graded_pair(row: u64, new: Item, old: Item) -> GradedPair
 fn threshold_of(t: Item) -> Row
     ensures { λ r. ⌜ r ≡ row12 (valueIn t) ⌝ }
 {
-    let n = value_length(t.len);
+    let n = value_length(t);
     let v = t.value;
     threshold_row(&v[..n])
 }

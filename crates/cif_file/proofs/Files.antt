@@ -5,8 +5,7 @@ use mathlib.Core.List.{List, [], _∷_, _++_, append-assoc}
 use Prim.Native.Nat.{ℕ, _+_, _≤_}
 use native.Mathlib.Omega.{arith}
 use borrow.Author.Tests.{eq-eqb, ne-eqb}
-use lib.ListN.{length, take, drop, length-append, take-append-drop}
-use lib.Seq.{take-at}
+use lib.ListN.{length, length-append}
 use Rattle.text.specs.Quote.{bytes}
 use Rattle.copies.specs.Copy.{copied}
 use Rattle.copies.specs.Each.{linesFrom}
@@ -27,10 +26,6 @@ filled-line k i n = simp (ne-eqb (i .len) 0 n)
 
 pub ended-length : (k : ℕ) (v : List ℕ) → length (ended (itemText k v)) ≡ length (nameOf k) + 1 + length v + 1
 ended-length k v = length-append (itemText k v) (10 ∷ []) ∙ ap (λ (n : ℕ). n + 1) (length-append (nameOf k) (32 ∷ v)) ∙ omega arith
-
--- as many first bytes as the value has are the value
-pub value-part : (i : Item) {n : ℕ} → n ≡ length (valueIn i) → take n (i .value) ≡ valueIn i
-value-part i {n} e = ap (take n) (sym (take-append-drop (i .len) (i .value))) ∙ take-at (valueIn i) (drop (i .len) (i .value)) n (sym e)
 
 -- a line copied in four pieces
 pub line-copied : (d : List ℕ) (at : ℕ) (k : ℕ) (v : List ℕ) {o₁ o₂ o₃ o₄ : List ℕ} (p₂ p₃ p₄ : ℕ) → o₁ ≡ copied d at (nameOf k) → o₂ ≡ copied o₁ p₂ (32 ∷ [])

@@ -9,12 +9,12 @@ ghost use Rattle.state.specs.Sheets.{valueIn};
 ghost use Rattle.cif_file.specs.File.{ended, itemText, itemLine, fileOf};
 ghost use Rattle.cif_file.specs.Answers.{after, fileStep};
 use crate::length::lines_length;
-use crate::length::value_length;
 use file_answers::answer::FileAnswer;
 use items::ITEM_COUNT;
 use state::desk::Desk;
 use state::sheet::Item;
 use state::sheet::Sheet;
+use state::sheet::value_length;
 
 // The answer, and how many bytes were written.
 pub struct Filed {

@@ -3,24 +3,12 @@ ghost use mathlib.Core.Path.{_≡_};
 ghost use Prim.Native.Nat.{_≤_, _<_, _+_, _*_};
 ghost use lib.ListN.{length};
 ghost use Rattle.copies.specs.Each.{linesFrom};
-ghost use Rattle.items.specs.Typed.{lineMost};
 ghost use Rattle.items.specs.Items.{itemCount};
-ghost use Rattle.state.specs.Sheets.{valueIn};
 ghost use Rattle.cif_file.specs.File.{itemLine};
 use items::ITEM_COUNT;
-use items::LINE_MOST;
 use state::sheet::Item;
 use state::sheet::Sheet;
-
-// The length of an item's value; no more than all bytes of the array count.
-pub(crate) fn value_length(item: Item) -> usize
-    ensures { λ r. ⌜ (r ≡ length (valueIn item)) × (r ≤ lineMost) ⌝ }
-{
-    if LINE_MOST < item.len {
-        return LINE_MOST;
-    }
-    item.len
-}
+use state::sheet::value_length;
 
 // The length of the line of item k + 1; 0 for an empty item.
 fn line_length(k: usize, item: Item) -> usize

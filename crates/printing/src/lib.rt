@@ -19,13 +19,13 @@ use crate::page::put_byte;
 use crate::page::put_decimal;
 use crate::page::put_two_digits;
 use items::ITEM_COUNT;
-use items::LINE_MOST;
 use rows::ROW_COUNT;
 use rows::Row;
 use rows::Rows;
 use state::desk::Desk;
 use state::sheet::Item;
 use state::sheet::Sheet;
+use state::sheet::value_length;
 
 // How many bytes were printed, or that there was no room for them.
 pub enum Printed {
@@ -114,16 +114,13 @@ fn put_rows(p: Page, rows: Rows) -> Page
     page
 }
 
-// The page with an item's value more; no more than all bytes of the array count.
+// The page with an item's value more.
 fn put_value(p: Page, item: Item) -> Page
     requires { ⌜ p .len + 80 ≤ pageMost ⌝ }
     ensures { λ r. ⌜ Adds p (valueIn item) r × (r .len ≤ p .len + 80) ⌝ }
 {
-    let n = item.len;
+    let n = value_length(item);
     let value = item.value;
-    if LINE_MOST < n {
-        return put(p, &value);
-    }
     put(p, &value[..n])
 }
 

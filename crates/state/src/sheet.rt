@@ -1,6 +1,9 @@
 // The sheet: ten items and the count of accepted entries.
 ghost use mathlib.Core.Path.{_≡_};
-ghost use Rattle.state.specs.Sheets.{emptySheet};
+ghost use Prim.Native.Nat.{_≤_};
+ghost use lib.ListN.{length};
+ghost use Rattle.items.specs.Typed.{lineMost};
+ghost use Rattle.state.specs.Sheets.{emptySheet, valueIn};
 use items::ITEM_COUNT;
 use items::LINE_MOST;
 
@@ -33,4 +36,14 @@ pub fn empty_sheet() -> Sheet
         items: [item; ITEM_COUNT],
         count: 0,
     }
+}
+
+// The length of an item's value; no more than all bytes of the array count.
+pub fn value_length(item: Item) -> usize
+    ensures { λ r. ⌜ (r ≡ length (valueIn item)) × (r ≤ lineMost) ⌝ }
+{
+    if LINE_MOST < item.len {
+        return LINE_MOST;
+    }
+    item.len
 }

@@ -5,20 +5,21 @@ use mathlib.Core.Path.{_≡_, sym, _∙_, ap, subst}
 use mathlib.Core.List.{List}
 use Prim.Native.Nat.{ℕ}
 use lib.ListN.{length, take, length-take}
+use Rattle.items.specs.Typed.{lineMost}
 use Rattle.state.specs.Sheets.{valueIn}
+use Rattle.state.proofs.Values.{value-part}
 use Rattle.alerts.specs.Groups.{FormulaGroupOf}
-use Rattle.alerts.proofs.Items.{clamped}
 use borrow.Author.Needs.{needs}
 use Rattle.alerts.proofs.sheet_rows.formula_group.Statement.{statement}
 use Rattle.alerts.proofs.sheet_rows.formula_group.Tie as tie
 
-long-f : (c : tie.Start) → length (c .args .f .value) ≡ 80
+long-f : (c : tie.Start) → length (c .args .f .value) ≡ lineMost
 long-f c = search needs
 
-long-w : (c : tie.Start) → length (c .args .w .value) ≡ 80
+long-w : (c : tie.Start) → length (c .args .w .value) ≡ lineMost
 long-w c = search needs
 
-long-c : (c : tie.Start) → length (c .args .c .value) ≡ 80
+long-c : (c : tie.Start) → length (c .args .c .value) ≡ lineMost
 long-c c = search needs
 
 array-share-prefix-fv : tie.Need-array-share-prefix-fv
@@ -46,9 +47,9 @@ returns c =
     let l1 = l2 .before in
     let s = l1 .before in
     let a = s .args in
-    let f : take (l1 .value-length .result) (a .f .value) ≡ valueIn (a .f) = ap (λ (k : ℕ). take k (a .f .value)) (l1 .value-length .ensures .0) ∙ clamped (a .f .value) (a .f .len) (long-f s) in
-    let w : take (l2 .value-length2 .result) (a .w .value) ≡ valueIn (a .w) = ap (λ (k : ℕ). take k (a .w .value)) (l2 .value-length2 .ensures .0) ∙ clamped (a .w .value) (a .w .len) (long-w s) in
-    let k : take (l3 .value-length3 .result) (a .c .value) ≡ valueIn (a .c) = ap (λ (k : ℕ). take k (a .c .value)) (l3 .value-length3 .ensures .0) ∙ clamped (a .c .value) (a .c .len) (long-c s) in
+    let f : take (l1 .value-length .result) (a .f .value) ≡ valueIn (a .f) = value-part (a .f) (l1 .value-length .ensures .0) in
+    let w : take (l2 .value-length2 .result) (a .w .value) ≡ valueIn (a .w) = value-part (a .w) (l2 .value-length2 .ensures .0) in
+    let k : take (l3 .value-length3 .result) (a .c .value) ≡ valueIn (a .c) = value-part (a .c) (l3 .value-length3 .ensures .0) in
     let r = c .formula-texts .result in
     subst (λ (x : List ℕ). FormulaGroupOf x (valueIn (a .w)) (valueIn (a .c)) r) f
     (subst (λ (x : List ℕ). FormulaGroupOf (take (l1 .value-length .result) (a .f .value)) x (valueIn (a .c)) r) w

@@ -5,17 +5,18 @@ use mathlib.Core.Path.{_≡_, sym, _∙_, ap, subst}
 use mathlib.Core.List.{List}
 use Prim.Native.Nat.{ℕ}
 use lib.ListN.{length, take, length-take}
+use Rattle.items.specs.Typed.{lineMost}
 use Rattle.state.specs.Sheets.{valueIn}
+use Rattle.state.proofs.Values.{value-part}
 use Rattle.alerts.specs.Groups.{GradedPairOf}
-use Rattle.alerts.proofs.Items.{clamped}
 use borrow.Author.Needs.{needs}
 use Rattle.alerts.proofs.sheet_rows.graded_pair.Statement.{statement}
 use Rattle.alerts.proofs.sheet_rows.graded_pair.Tie as tie
 
-long-new : (c : tie.Start) → length (c .args .new .value) ≡ 80
+long-new : (c : tie.Start) → length (c .args .new .value) ≡ lineMost
 long-new c = search needs
 
-long-old : (c : tie.Start) → length (c .args .old .value) ≡ 80
+long-old : (c : tie.Start) → length (c .args .old .value) ≡ lineMost
 long-old c = search needs
 
 array-share-prefix-nv : tie.Need-array-share-prefix-nv
@@ -36,8 +37,8 @@ returns c =
     let s = l2 .before .before in
     let new = s .args .new in
     let old = s .args .old in
-    let n : take (l2 .before .value-length .result) (new .value) ≡ valueIn new = ap (λ (k : ℕ). take k (new .value)) (l2 .before .value-length .ensures .0) ∙ clamped (new .value) (new .len) (long-new s) in
-    let o : take (l2 .value-length2 .result) (old .value) ≡ valueIn old = ap (λ (k : ℕ). take k (old .value)) (l2 .value-length2 .ensures .0) ∙ clamped (old .value) (old .len) (long-old s) in
+    let n : take (l2 .before .value-length .result) (new .value) ≡ valueIn new = value-part new (l2 .before .value-length .ensures .0) in
+    let o : take (l2 .value-length2 .result) (old .value) ≡ valueIn old = value-part old (l2 .value-length2 .ensures .0) in
     subst (λ (x : List ℕ). GradedPairOf (s .args .row) x (valueIn old) (c .graded-texts .result)) n
     (subst (λ (x : List ℕ). GradedPairOf (s .args .row) (take (l2 .before .value-length .result) (new .value)) x (c .graded-texts .result)) o (c .graded-texts .ensures))
 

@@ -4,13 +4,14 @@ use native.Mathlib.Omega.{arith}
 use mathlib.Core.Path.{_≡_, _∙_, ap}
 use Prim.Native.Nat.{ℕ}
 use lib.ListN.{length, take, length-take}
+use Rattle.items.specs.Typed.{lineMost}
+use Rattle.state.proofs.Values.{value-part}
 use Rattle.threshold.specs.Threshold.{row12}
-use Rattle.alerts.proofs.Items.{clamped}
 use borrow.Author.Needs.{needs}
 use Rattle.alerts.proofs.sheet_rows.threshold_of.Statement.{statement}
 use Rattle.alerts.proofs.sheet_rows.threshold_of.Tie as tie
 
-long : (c : tie.Start) → length (c .args .t .value) ≡ 80
+long : (c : tie.Start) → length (c .args .t .value) ≡ lineMost
 long c = search needs
 
 array-share-prefix-v : tie.Need-array-share-prefix-v
@@ -23,7 +24,7 @@ returns : tie.Need-returns
 returns c =
     let l = c .before .before .before in
     let t = l .before .args .t in
-    c .threshold-row .ensures ∙ ap row12 (ap (λ (k : ℕ). take k (t .value)) (l .value-length .ensures .0) ∙ clamped (t .value) (t .len) (long (l .before)))
+    c .threshold-row .ensures ∙ ap row12 (value-part t (l .value-length .ensures .0))
 
 pub threshold-of-spec : {M : Type 1} → statement M
 threshold-of-spec =

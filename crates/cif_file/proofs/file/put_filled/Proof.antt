@@ -11,8 +11,9 @@ use Rattle.copies.specs.Copy.{copied}
 use Rattle.items.specs.Typed.{lineMost}
 use Rattle.items.specs.Items.{nameOf}
 use Rattle.state.specs.Sheets.{valueIn}
+use Rattle.state.proofs.Values.{value-part}
 use Rattle.cif_file.specs.File.{ended, itemText}
-use Rattle.cif_file.proofs.Files.{ended-length, line-copied, value-part}
+use Rattle.cif_file.proofs.Files.{ended-length, line-copied}
 use Rattle.cif_file.proofs.file.put_filled.Statement.{statement}
 use Rattle.cif_file.proofs.file.put_filled.Tie as tie
 

@@ -1,12 +1,12 @@
--- `cif_file::length::value_length` meets its contract: the number of the first bytes that count, or of all.
+-- `state::sheet::value_length` meets its contract: the number of the first bytes that count, or of all.
 -- Assumes nothing.
 use native.Mathlib.Omega.{arith}
 use mathlib.Core.Path.{_≡_}
 use lib.ListN.{length, length-take}
 use Rattle.items.specs.Typed.{lineMost}
 use borrow.Author.Needs.{needs}
-use Rattle.cif_file.proofs.length.value_length.Statement.{statement}
-use Rattle.cif_file.proofs.length.value_length.Tie as tie
+use Rattle.state.proofs.sheet.value_length.Statement.{statement}
+use Rattle.state.proofs.sheet.value_length.Tie as tie
 
 long : (c : tie.Start) → length (c .args .item .value) ≡ lineMost
 long c = search needs
