@@ -20,7 +20,8 @@ use Rattle.log.specs.declared.Written.the-variants.{Bytes, NoRoom}
 use Rattle.log.proofs.Records.{tail-back, tail-lent, wrote-none, wrote-bytes, room-left}
 use Rattle.state.specs.Lines.{padded}
 use Rattle.state.specs.Desks.{benchCount, noLine, lineAt}
-use Rattle.soundness.specs.Sound.{logMost, every, soundLine, soundLines, soundDesk, soundLog}
+use Rattle.soundness.specs.Sound.{every, soundLine, soundLines, soundDesk}
+use Rattle.sound_log.specs.SoundLog.{logMost, soundLog}
 use Rattle.state.specs.declared.line.Line.{Line}
 use Rattle.state.specs.declared.desk.Desk.{Desk}
 use Rattle.answers.specs.declared.Answer.the-variants as answer

@@ -13,7 +13,8 @@ use Rattle.log.specs.Record.{recordLength, recordOf}
 use Rattle.state.specs.Lines.{typed, emptyLine, appended, erased}
 use Rattle.state.specs.Sheets.{filled}
 use Rattle.state.specs.Desks.{benchCount, lineAt, withLine}
-use Rattle.soundness.specs.Sound.{soundDesk, soundLog}
+use Rattle.soundness.specs.Sound.{soundDesk}
+use Rattle.sound_log.specs.SoundLog.{soundLog}
 use Rattle.state.specs.declared.line.Line.{Line}
 use Rattle.state.specs.declared.sheet.Sheet.{Sheet}
 use Rattle.state.specs.declared.desk.Desk.{Desk}

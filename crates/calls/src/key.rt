@@ -202,7 +202,7 @@ pub fn key(d: Desk, used: usize, log: &mut [u8], bench: u64, byte: u8) -> Keyed
             answer: Answer::Unsound,
         };
     }
-    if !soundness::is_sound_log(d, log.len(), used) {
+    if !sound_log::is_sound_log(d, log.len(), used) {
         return Keyed {
             desk: d,
             used,

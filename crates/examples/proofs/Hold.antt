@@ -24,7 +24,8 @@ use Rattle.formula_rows.specs.FormulaRows.{row1, row2, row3}
 use Rattle.weight_rows.specs.WeightRows.{weighedOf, ratioLevel, row4, farApart, isWeighedCategory, row5}
 use Rattle.graded_rows.specs.GradedRows.{gradedRow, oldNameRow}
 use Rattle.threshold.specs.Threshold.{hasShape, multiplierOf, thresholdLevel, thresholdRow, row12}
-use Rattle.soundness.specs.Sound.{every, soundLine, soundEmpty, soundFilled, soundItem, soundLines, soundSheet, soundDesk, soundLog}
+use Rattle.soundness.specs.Sound.{every, soundLine, soundEmpty, soundFilled, soundItem, soundLines, soundSheet, soundDesk}
+use Rattle.sound_log.specs.SoundLog.{soundLog}
 use Rattle.kinds.specs.Kinds.{isCategory, passes, fits}
 use Rattle.calls.specs.Key.{stored, keyStep, keyOf}
 use Rattle.examples.specs.Table.{Example, sheetWith, answerOf, examples}

@@ -18,7 +18,8 @@ use Rattle.kinds.specs.Kinds.{fits}
 use Rattle.log.proofs.Records.{record-length}
 use Rattle.state.specs.Sheets.{emptyItem, noItem, valueIn}
 use Rattle.state.specs.Desks.{benchCount}
-use Rattle.soundness.specs.Sound.{logMost, every, zeros, soundFilled, soundItem}
+use Rattle.soundness.specs.Sound.{every, zeros, soundFilled, soundItem}
+use Rattle.sound_log.specs.SoundLog.{logMost}
 use Rattle.state.specs.declared.sheet.Item.{Item}
 use Rattle.sequence.specs.Calls.{key}
 use Rattle.sequence.specs.Work.{Entry, recordsOf, lastOf}

@@ -23,7 +23,7 @@ use Rattle.items.proofs.NameOf.{name-of}
 use Rattle.items.proofs.Names.{name-typed}
 use Rattle.log.specs.Record.{recordLength}
 use Rattle.state.specs.Desks.{benchCount}
-use Rattle.soundness.specs.Sound.{logMost}
+use Rattle.sound_log.specs.SoundLog.{logMost}
 use Rattle.answers.specs.declared.Answer.{Answer}
 use Rattle.answers.specs.declared.Answer.the-variants.{Accepted}
 use Rattle.alerts.specs.Sheet.{rowsOf}

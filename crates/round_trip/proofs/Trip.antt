@@ -13,7 +13,8 @@ use Rattle.text.proofs.Bools.{and-both}
 use Rattle.items.specs.Items.{itemCount}
 use Rattle.state.specs.Sheets.{itemAt, valueIn}
 use Rattle.state.specs.Desks.{benchCount}
-use Rattle.soundness.specs.Sound.{logMost, every, soundItem, soundLines, soundSheet, soundDesk}
+use Rattle.soundness.specs.Sound.{every, soundItem, soundLines, soundSheet, soundDesk}
+use Rattle.sound_log.specs.SoundLog.{logMost}
 use Rattle.state.specs.declared.desk.Desk.{Desk}
 use Rattle.answers.specs.declared.Answer.the-variants.{Accepted}
 use Rattle.cif_file.specs.File.{itemLine}

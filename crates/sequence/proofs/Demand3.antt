@@ -11,7 +11,8 @@ use Rattle.items.specs.Items.{itemCount}
 use Rattle.state.specs.Lines.{lineOf}
 use Rattle.state.specs.Sheets.{emptyItem, noItem, itemAt}
 use Rattle.state.specs.Desks.{benchCount, noLine}
-use Rattle.soundness.specs.Sound.{every, soundLine, soundEmpty, soundItem, soundLines, soundSheet, soundDesk, soundLog}
+use Rattle.soundness.specs.Sound.{every, soundLine, soundEmpty, soundItem, soundLines, soundSheet, soundDesk}
+use Rattle.sound_log.specs.SoundLog.{soundLog}
 use Rattle.state.specs.declared.line.Line.{Line}
 use Rattle.state.specs.declared.sheet.Item.{Item}
 use Rattle.state.specs.declared.sheet.Sheet.{Sheet}

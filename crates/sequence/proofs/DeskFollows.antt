@@ -24,7 +24,8 @@ use Rattle.log.proofs.Records.{record-length}
 use Rattle.state.specs.Lines.{typed, lineOf, emptyLine, appended, erased}
 use Rattle.state.specs.Sheets.{filled, noItem, itemAt}
 use Rattle.state.specs.Desks.{benchCount, noLine, lineAt}
-use Rattle.soundness.specs.Sound.{logMost, soundItem, soundEmpty, soundSheet, soundLines, soundDesk, soundLog}
+use Rattle.soundness.specs.Sound.{soundItem, soundEmpty, soundSheet, soundLines, soundDesk}
+use Rattle.sound_log.specs.SoundLog.{logMost, soundLog}
 use Rattle.state.specs.declared.line.Line.{Line}
 use Rattle.state.specs.declared.sheet.Item.{Item}
 use Rattle.state.specs.declared.sheet.Sheet.{Sheet}

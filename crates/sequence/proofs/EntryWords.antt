@@ -23,7 +23,7 @@ use Rattle.cif.specs.declared.line.Class.the-variants as class
 use Rattle.items.proofs.Names.{name-found}
 use Rattle.cif.proofs.Wording.{line-is}
 use Rattle.state.specs.Desks.{benchCount}
-use Rattle.soundness.specs.Sound.{logMost}
+use Rattle.sound_log.specs.SoundLog.{logMost}
 use Rattle.answers.specs.declared.Answer.{Answer}
 use Rattle.answers.specs.declared.Answer.the-variants as answer
 use Rattle.sequence.specs.Work.{enterAnswer, tableAnswer, accepts}

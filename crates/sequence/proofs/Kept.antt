@@ -24,7 +24,8 @@ use Rattle.log.proofs.Records.{record-length}
 use Rattle.state.specs.Lines.{typed, lineOf, emptyLine, appended, erased}
 use Rattle.state.specs.Sheets.{filled, noItem}
 use Rattle.state.specs.Desks.{benchCount, noLine, lineAt, withLine}
-use Rattle.soundness.specs.Sound.{logMost, soundLine, soundLines, soundItem, soundSheet, soundDesk, soundLog}
+use Rattle.soundness.specs.Sound.{soundLine, soundLines, soundItem, soundSheet, soundDesk}
+use Rattle.sound_log.specs.SoundLog.{logMost, soundLog}
 use Rattle.state.specs.declared.line.Line.{Line}
 use Rattle.state.specs.declared.sheet.Item.{Item}
 use Rattle.state.specs.declared.desk.Desk.{Desk}

@@ -22,7 +22,8 @@ use Rattle.items.specs.Items.{itemCount, IsName}
 use Rattle.cif.specs.Wording.{IsLine}
 use Rattle.state.specs.Lines.{lineOf}
 use Rattle.state.specs.Sheets.{itemAt}
-use Rattle.soundness.specs.Sound.{logMost, soundDesk, soundLog}
+use Rattle.soundness.specs.Sound.{soundDesk}
+use Rattle.sound_log.specs.SoundLog.{logMost, soundLog}
 use Rattle.state.specs.declared.sheet.Sheet.{Sheet}
 use Rattle.answers.specs.declared.Answer.the-variants.{Accepted}
 use Rattle.questions.specs.declared.question.Asked.the-variants.{Answered}

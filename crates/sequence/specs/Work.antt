@@ -15,7 +15,7 @@ use Rattle.log.specs.Record.{recordLength, recordOf}
 use Rattle.state.specs.Sheets.{filled, emptyItem}
 use Rattle.state.specs.Desks.{benchCount}
 use Rattle.answers.specs.Number.{answerNumber}
-use Rattle.soundness.specs.Sound.{logMost}
+use Rattle.sound_log.specs.SoundLog.{logMost}
 use Rattle.state.specs.declared.sheet.Item.{Item}
 use Rattle.state.specs.declared.sheet.Sheet.{Sheet}
 use Rattle.answers.specs.declared.Answer.{Answer}

@@ -1,6 +1,6 @@
--- When a desk is sound (document 01, "What the desk holds").
+-- When a desk is sound (document 01, "What the desk holds"); the part on the log is in specs/SoundLog.antt of sound_log.
 -- Assumes nothing.
-use Prim.Native.Nat.{ℕ, suc, _+_, _*_}
+use Prim.Native.Nat.{ℕ, suc, _+_}
 use mathlib.Core.List.{List, [], _∷_}
 use mathlib.Core.Bool.{Bool, true, cond, _&&_}
 use lib.ListN.{length, take, drop}
@@ -15,10 +15,6 @@ use Rattle.state.specs.declared.line.Line.{Line}
 use Rattle.state.specs.declared.sheet.Item.{Item}
 use Rattle.state.specs.declared.sheet.Sheet.{Sheet}
 use Rattle.state.specs.declared.desk.Desk.{Desk}
-
--- "The log: .. at most 65,536"
-abbrev pub logMost : ℕ
-logMost = 65536
 
 -- a test of every element and its place, counted from i
 unfoldable pub every : {A : Type 0} → (ℕ → A → Bool) → ℕ → List A → Bool
@@ -56,7 +52,3 @@ soundSheet s = every (soundItem (s .count)) 0 (s .items)
 -- "A desk is sound when .."
 unfoldable pub soundDesk : Desk → Bool
 soundDesk d = soundLines d && soundSheet (d .sheet)
-
--- "For key calls also: the log is at most 65,536 bytes long, used is not more than its length, and six times the count is not more than used"
-unfoldable pub soundLog : Desk → ℕ → ℕ → Bool
-soundLog d len used = leb len logMost && (leb used len && leb (6 * d .sheet .count) used)

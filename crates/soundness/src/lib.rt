@@ -1,10 +1,10 @@
-// The test of soundness (document 01, "What the desk holds").
+// The test of soundness (document 01, "What the desk holds"); its part on the log is in sound_log.
 ghost use mathlib.Core.Path.{_≡_};
 ghost use Prim.Native.Nat.{_<_, _≤_};
 ghost use lib.ListN.{length};
 ghost use Rattle.items.specs.Typed.{lineMost};
 ghost use Rattle.items.specs.Items.{itemCount};
-ghost use Rattle.soundness.specs.Sound.{soundLine, soundEmpty, soundFilled, soundItem, soundLines, soundSheet, soundDesk, soundLog};
+ghost use Rattle.soundness.specs.Sound.{soundLine, soundEmpty, soundFilled, soundItem, soundLines, soundSheet, soundDesk};
 use items::FIRST_TYPED;
 use items::ITEM_COUNT;
 use items::LAST_TYPED;
@@ -14,11 +14,6 @@ use state::desk::Desk;
 use state::line::Line;
 use state::sheet::Item;
 use state::sheet::Sheet;
-
-// The longest log, and the least that a record takes of it.
-pub const LOG_MOST: usize = 65536;
-
-const RECORD_LEAST: usize = 6;
 
 fn is_sound_line(l: Line) -> bool
     ensures { λ r. ⌜ r ≡ soundLine l ⌝ }
@@ -123,21 +118,4 @@ pub fn is_sound(d: Desk) -> bool
     } else {
         false
     }
-}
-
-// Whether a desk goes with a log of len bytes, used of them used: the part that a key call also asks.
-pub fn is_sound_log(d: Desk, len: usize, used: usize) -> bool
-    ensures { λ r. ⌜ r ≡ soundLog d len used ⌝ }
-{
-    if LOG_MOST < len {
-        return false;
-    }
-    if len < used {
-        return false;
-    }
-    let s = d.sheet;
-    if used / RECORD_LEAST < s.count {
-        return false;
-    }
-    true
 }

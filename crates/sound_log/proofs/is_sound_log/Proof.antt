@@ -1,11 +1,11 @@
--- `soundness::is_sound_log` meets its contract: each return has the tests of `soundLog` on its way.
+-- `sound_log::is_sound_log` meets its contract: each return has the tests of `soundLog` on its way.
 -- Assumes nothing.
 use native.Mathlib.Omega.{arith}
 use Prim.Native.Nat.{_*_}
 use borrow.Author.Tests.{le-leb, lt-leb}
-use Rattle.soundness.specs.Sound.{soundLog}
-use Rattle.soundness.proofs.is_sound_log.Statement.{statement}
-use Rattle.soundness.proofs.is_sound_log.Tie as tie
+use Rattle.sound_log.specs.SoundLog.{soundLog}
+use Rattle.sound_log.proofs.is_sound_log.Statement.{statement}
+use Rattle.sound_log.proofs.is_sound_log.Tie as tie
 
 returns : tie.Need-returns
 unfolding soundLog
