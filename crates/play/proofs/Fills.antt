@@ -6,23 +6,21 @@ use Prim.Native.Nat.{ℕ, _+_, _*_, _≤_}
 use native.Mathlib.Omega.{arith}
 use lib.ListN.{length, drop, length-append}
 use Rattle.copies.specs.Copy.{copied}
-use Rattle.state.specs.declared.desk.Desk.{Desk}
 use Rattle.alerts.specs.Sheet.{rowsOf, noRows}
-use Rattle.sequence.specs.Calls.{Call, State}
+use Rattle.sequence.specs.Calls.{Call}
 use Rattle.sequence.specs.Sequences.{deskAnswers}
 use Rattle.one_call.specs.CallBytes.{callsIn}
 use Rattle.replies.specs.ReplyBytes.{replyLength}
-use Rattle.play.specs.DeskBytes.{deskLength, deskBytes}
+use Rattle.desk_bytes.specs.DeskBytes.{deskLength}
 use Rattle.play.specs.Written.{answersBytes, writtenLength, AnswersWritten, AllWritten}
 use Rattle.play.specs.Play.{After, after, ran}
 use Rattle.play.specs.declared.Played.the-variants.{Done}
 use Rattle.copies.proofs.Copies.{copied-next, copied-start}
 
-pub filled : (log₀ out₀ : List ℕ) (cs : List Call) (n : ℕ) (d : Desk) (used : ℕ) {log out last : List ℕ} → AnswersWritten log₀ out₀ cs n d used log out
-    → last ≡ copied out (replyLength * n) (deskBytes d used) → length (deskBytes d used) ≡ deskLength → writtenLength n ≤ length out₀ → AllWritten log₀ out₀ cs n log last
-filled log₀ out₀ cs n d used {log} {out} {last} a w e room =
+pub filled : (log₀ out₀ : List ℕ) (cs : List Call) (n : ℕ) (desk : List ℕ) {log out last : List ℕ} → AnswersWritten log₀ out₀ cs n desk log out
+    → last ≡ copied out (replyLength * n) desk → length desk ≡ deskLength → writtenLength n ≤ length out₀ → AllWritten log₀ out₀ cs n log last
+filled log₀ out₀ cs n desk {log} {out} {last} a w e room =
     let first = answersBytes (deskAnswers rowsOf noRows log₀ cs) in
-    let desk = deskBytes d used in
     let lf : length first ≡ replyLength * n = a .long in
     let all : length (first ++ desk) ≡ writtenLength n = length-append first desk ∙ rw (lf, e) in
     let wrote : last ≡ copied out₀ 0 (first ++ desk) = copied-next out₀ 0 first (replyLength * n) desk (a .bytes) w refl (omega arith) (omega arith) in
@@ -30,8 +28,8 @@ filled log₀ out₀ cs n d used {log} {out} {last} a w e room =
     record {
       bytes =
           wrote ∙ copied-start out₀ (first ++ desk) fits ∙ ap (λ (k : ℕ). (first ++ desk) ++ drop k out₀) all
-          ∙ ap (λ (s : State). (first ++ deskBytes (s .desk) (s .used)) ++ drop (writtenLength n) out₀) (a .state);
-      log-is = ap (λ (s : State). s .log) (a .state);
+          ∙ ap (λ (d : List ℕ). (first ++ d) ++ drop (writtenLength n) out₀) (a .desk-is);
+      log-is = a .log-is;
     }
 
 pub ran-is : (n : ℕ) (calls log₀ out₀ : List ℕ) {log out : List ℕ} → AllWritten log₀ out₀ (callsIn n calls) n log out → after (Done (writtenLength n)) log out ≡ ran n calls log₀ out₀

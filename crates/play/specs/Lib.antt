@@ -1,3 +1,2 @@
-pub mod DeskBytes
 pub mod Written
 pub mod Play

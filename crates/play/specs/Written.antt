@@ -6,14 +6,13 @@ use mathlib.Core.Path.{_≡_}
 use mathlib.Core.List.{List, _++_, flatMap}
 use lib.ListN.{length, drop}
 use Rattle.copies.specs.Copy.{copied}
-use Rattle.state.specs.declared.desk.Desk.{Desk}
 use Rattle.alerts.specs.Sheet.{rowsOf, noRows}
 use Rattle.rows.specs.declared.Rows.{Rows}
 use Rattle.sequence.specs.Calls.{Call, Reply, State}
 use Rattle.sequence.specs.Sequences.{deskAnswers, stateAfter}
 use Rattle.replies.specs.ReplyBytes.{replyLength}
-use Rattle.play.specs.DeskBytes.{deskLength, deskBytes}
-use Rattle.one_call.specs.OneCall.{stateOf, replyBytes}
+use Rattle.desk_bytes.specs.DeskBytes.{deskLength, deskBytes}
+use Rattle.one_call.specs.OneCall.{replyBytes}
 
 -- the answers of calls in bytes, in their order
 abbrev pub answersBytes : List (Call × Reply Rows) → List ℕ
@@ -31,11 +30,12 @@ writtenBytes log cs = answersBytes (deskAnswers rowsOf noRows log cs) ++ stateBy
 abbrev pub writtenLength : ℕ → ℕ
 writtenLength n = replyLength * n + deskLength
 
--- n calls cs are played: their answers stand at the start of out, and d, used and log are what they leave
-pub record AnswersWritten (log₀ out₀ : List ℕ) (cs : List Call) (n : ℕ) (d : Desk) (used : ℕ) (log out : List ℕ) : Type 0 where
+-- n calls cs are played: their answers stand at the start of out, and desk (in bytes) and log are what they leave
+pub record AnswersWritten (log₀ out₀ : List ℕ) (cs : List Call) (n : ℕ) (desk log out : List ℕ) : Type 0 where
   pub bytes : out ≡ copied out₀ 0 (answersBytes (deskAnswers rowsOf noRows log₀ cs))
   pub long : length (answersBytes (deskAnswers rowsOf noRows log₀ cs)) ≡ replyLength * n
-  pub state : stateOf d used log ≡ stateAfter rowsOf noRows log₀ cs
+  pub desk-is : desk ≡ stateBytes (stateAfter rowsOf noRows log₀ cs)
+  pub log-is : log ≡ stateAfter rowsOf noRows log₀ cs .log
 
 -- and the desk stands after the answers
 pub record AllWritten (log₀ out₀ : List ℕ) (cs : List Call) (n : ℕ) (log out : List ℕ) : Type 0 where

@@ -6,7 +6,6 @@
 // the entry number (8 bytes, little-endian) and 15 zeros; of a key 24 zeros.
 // The final desk is 1338 bytes: of each of the 4 lines its 80 bytes and its length; of each of the 10 items its 80 bytes of value, its length,
 // its entry number and its bench (1 byte); the count; the used number. Lengths and numbers have 8 bytes, little-endian.
-// desk_bytes: the desk in bytes.
 ghost use mathlib.Core.Path.{_≡_};
 ghost use Prim.Native.Nat.{_*_, _≤_};
 ghost use lib.ListN.{length};
@@ -14,16 +13,12 @@ ghost use Rattle.one_call.specs.CallBytes.{callLength, callsIn, kindsHold};
 ghost use Rattle.replies.specs.ReplyBytes.{replyLength};
 ghost use Rattle.play.specs.Written.{AnswersWritten, AllWritten, writtenLength};
 ghost use Rattle.play.specs.Play.{after, playOf, told, resultOf, numbered};
-
-mod desk_bytes;
-
 use desk_bytes::DESK_BYTES;
-use desk_bytes::put_desk;
+use desk_bytes::desk_bytes;
 use one_call::CALL_BYTES;
 use one_call::LAST_KIND;
 use one_call::play_call;
 use replies::reply::REPLY_BYTES;
-use state::desk::Desk;
 
 // How many bytes were written; or that the calls end within a call, that a call has no such kind, that out is too short.
 pub enum Played {
@@ -31,12 +26,6 @@ pub enum Played {
     CutShort,
     NoSuchCall,
     NoRoom,
-}
-
-// What calls leave beside the log.
-struct Left {
-    desk: Desk,
-    used: usize,
 }
 
 // Whether the first n calls are of kinds that there are.
@@ -54,10 +43,10 @@ fn are_kinds(calls: &[u8], n: usize) -> bool
     true
 }
 
-// The first n calls, from a fresh desk, with their answers at the start of out.
-fn answer_calls(calls: &[u8], n: usize, log: &mut [u8], out: &mut [u8]) -> Left
+// The first n calls, from a fresh desk, with their answers at the start of out; the desk that they leave, in bytes.
+fn answer_calls(calls: &[u8], n: usize, log: &mut [u8], out: &mut [u8]) -> [u8; DESK_BYTES]
     requires { ⌜ (callLength * n ≤ length (now calls)) × (replyLength * n ≤ length (now out)) ⌝ }
-    ensures { λ r. ⌜ AnswersWritten (now (log .entry)) (now (out .entry)) (callsIn n (now (calls .entry))) n (r .desk) (r .used) (now (log .exit)) (now (out .exit)) ⌝ }
+    ensures { λ r. ⌜ AnswersWritten (now (log .entry)) (now (out .entry)) (callsIn n (now (calls .entry))) n r (now (log .exit)) (now (out .exit)) ⌝ }
 {
     let mut d = state::desk::fresh_desk();
     let mut used = 0;
@@ -67,22 +56,20 @@ fn answer_calls(calls: &[u8], n: usize, log: &mut [u8], out: &mut [u8]) -> Left
         let s = play_call(d, used, log, &calls[at..]);
         let reply = s.reply;
         copies::copy_in(out, REPLY_BYTES * i, &reply);
-        let next = s.desk;
-        d = next;
+        d = s.desk;
         used = s.used;
         i += 1;
     }
-    Left { desk: d, used }
+    desk_bytes(d, used)
 }
 
-// The same, and the desk that they leave after the answers.
+// The same, with the desk after the answers.
 fn play_fitting(calls: &[u8], n: usize, log: &mut [u8], out: &mut [u8])
     requires { ⌜ (callLength * n ≤ length (now calls)) × (writtenLength n ≤ length (now out)) ⌝ }
     ensures { λ _. ⌜ AllWritten (now (log .entry)) (now (out .entry)) (callsIn n (now (calls .entry))) n (now (log .exit)) (now (out .exit)) ⌝ }
 {
-    let left = answer_calls(calls, n, log, out);
-    let desk = left.desk;
-    put_desk(out, REPLY_BYTES * n, desk, left.used);
+    let desk = answer_calls(calls, n, log, out);
+    copies::copy_in(out, REPLY_BYTES * n, &desk);
 }
 
 // Plays the calls on a fresh desk over the log, none of it used, and writes each call's whole answer and then the final desk into out.

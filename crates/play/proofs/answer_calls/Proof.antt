@@ -9,10 +9,11 @@ use denote.Ref.{now}
 use lib.ListN.{length, drop, length-map}
 use Rattle.text.proofs.Parts.{rest-part}
 use Rattle.state.specs.declared.desk.Desk.{Desk}
-use Rattle.sequence.specs.Calls.{freshState}
+use Rattle.sequence.specs.Calls.{State, freshState}
 use Rattle.one_call.specs.CallBytes.{callLength, callIn, callsIn}
 use Rattle.replies.specs.ReplyBytes.{replyLength}
 use Rattle.one_call.specs.OneCall.{One, stateOf, replyBytes, deskStep, oneOf}
+use Rattle.play.specs.Written.{stateBytes}
 use Rattle.play.proofs.CallLaws.{calls-next, none-left}
 use Rattle.play.proofs.Runs.{Ran, ran-none, ran-next, ran-all}
 use Rattle.play.proofs.answer_calls.Statement.{statement}
@@ -56,13 +57,13 @@ loop-again c =
 
 returns : tie.Need-returns Inv-loop μ-loop
 returns c =
-    let l = c .before in
+    let l = c .before .before in
     let a = l .before .before .before .before .before .args in
     let calls = now (a .calls) in
     let s = stateOf (l .loop .d) (l .loop .used) (l .loop .log) in
     let q = ran-all deskStep replyBytes (freshState (now (a .log))) (callsIn (a .n) calls) (now (a .out)) (a .n) (l .loop .i) s (l .loop .inv .2)
-    (ap (λ (k : ℕ). callsIn k (drop (callLength * l .loop .i) calls)) (none-left (a .n) (l .loop .i) (c .loop-test .left))) (omega arith) in
-    record { bytes = q .0; long = q .1 .0; state = q .1 .1 }
+    (ap (λ (k : ℕ). callsIn k (drop (callLength * l .loop .i) calls)) (none-left (a .n) (l .loop .i) (c .before .loop-test .left))) (omega arith) in
+    record { bytes = q .0; long = q .1 .0; desk-is = c .desk-bytes .ensures ∙ ap stateBytes (q .1 .1); log-is = ap (λ (t : State). t .log) (q .1 .1) }
 
 pub answer-calls-spec : {M : Type 1} → statement M
 answer-calls-spec =
@@ -83,6 +84,7 @@ answer-calls-spec =
     (λ c. omega arith)
     (λ c. omega arith)
     loop-again
+    (λ c κs. omega arith)
     (λ c. omega arith)
     (λ c. omega arith)
     returns)

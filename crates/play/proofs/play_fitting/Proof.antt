@@ -14,13 +14,14 @@ returns c =
     let q = p .before .before .before .before .before .before .before in
     let a = q .before .before .before .before .before .before .args in
     let r = q .answer-calls .result in
-    filled (now (a .log)) (now (a .out)) (callsIn (a .n) (now (a .calls))) (a .n) (r .desk) (r .used) (q .answer-calls .ensures) (p .put-desk .ensures .0) (p .put-desk .ensures .1) (omega arith)
+    filled (now (a .log)) (now (a .out)) (callsIn (a .n) (now (a .calls))) (a .n) r (q .answer-calls .ensures) (p .copy-in .ensures) (q .answer-calls .ok .1 .0 .1) (omega arith)
 
 pub play-fitting-spec : {M : Type 1} → statement M
 play-fitting-spec =
     tie.close
     (tie.spec
     (λ c κs. search needs)
+    (λ c. search needs)
     (λ c. search needs)
     (λ c κs. search needs)
     (λ c. search needs)
