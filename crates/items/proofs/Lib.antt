@@ -1,3 +1,3 @@
 pub mod NameTable
-pub mod NameOf
 pub mod Names
+pub mod Likely

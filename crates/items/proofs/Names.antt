@@ -5,16 +5,21 @@ use mathlib.Core.Bool.{Bool, true, false, cond}
 use mathlib.Core.List.{List, [], _∷_, map}
 use Prim.Native.Nat.{ℕ, suc, _+_, _-_, _≤_, _<_}
 use native.Mathlib.Omega.{arith}
+use borrow.Author.Tests.{leb-true}
+use lib.Dec.{leb}
 use lib.ListN.{length, getD, replicate, getD-replicate, List·getD-map}
 use Rattle.text.specs.Run.{all, between, other, hasAt}
 use Rattle.equality.specs.Same.{lower, sameBy, sameFolded}
 use Rattle.equality.proofs.Sames.{same→map, same-cong}
-use Rattle.text.proofs.Tables.{entry}
+use Rattle.text.proofs.Tables.{agree}
 use Rattle.items.specs.Items.{ItemRow, items, itemCount, noRow, rowOf, findFrom, itemOf, IsName}
 use Rattle.items.specs.Typed.{isTyped}
 use Rattle.items.specs.declared.Named.{Named}
 use Rattle.items.specs.declared.Named.the-variants.{Item, Unknown}
-use Rattle.items.proofs.NameTable.{items-length}
+
+items-length : length items ≡ itemCount
+unfolding items
+items-length = refl
 
 -- the text s has the name of a row that counts k in the table rs, whose first row counts n
 record There (rs : List ItemRow) (n : ℕ) (s : List ℕ) (k : ℕ) : Type 0 where
@@ -53,15 +58,9 @@ find-cong [] n s t e = refl
 find-cong (r ∷ rs) n s t e = rw (same-cong lower s t (r .name) e, find-cong rs (suc n) s t e)
 
 -- each name is found as itself: one test that antt computes
-own : ℕ → Named
-own j = itemOf (getD items j noRow .name)
-
-item : ℕ → Named
-item j = Item (suc j)
-
 own-found : (j : ℕ) → j < itemCount → itemOf (getD items j noRow .name) ≡ Item (suc j)
-unfolding own item items findFrom sameBy lower
-own-found j h = sym (entry own Unknown itemCount j h) ∙ entry item Unknown itemCount j h
+unfolding items findFrom sameBy lower
+own-found = agree (λ (j : ℕ). itemOf (getD items j noRow .name)) (λ (j : ℕ). Item (suc j)) Unknown itemCount refl
 
 -- the name of item k is found as item k
 pub found-name : (s : List ℕ) (k : ℕ) → IsName s k → itemOf s ≡ Item k
@@ -83,7 +82,7 @@ holds-at f e k some known =
     let within : k - 1 < itemCount = omega arith in
     sym (List·getD-map f items (k - 1) noRow) ∙ ap (λ (l : List Bool). getD l (k - 1) (f noRow)) e ∙ getD-replicate itemCount (k - 1) true (f noRow) within
 
--- the items' names are bytes that can be typed, `_` first, no spaces
+-- the items' names are bytes that can be typed, `_` first, no spaces, two bytes at least
 module _ (k : ℕ) (some : 1 ≤ k) (known : k ≤ itemCount) where
   pub name-typed : all isTyped (rowOf k .name) ≡ true
   unfolding items all between
@@ -96,3 +95,7 @@ module _ (k : ℕ) (some : 1 ≤ k) (known : k ≤ itemCount) where
   pub name-unspaced : all (other 32) (rowOf k .name) ≡ true
   unfolding items all other
   name-unspaced = holds-at (λ (r : ItemRow). all (other 32) (r .name)) refl k some known
+
+  pub name-long : 2 ≤ length (rowOf k .name)
+  unfolding items
+  name-long = leb-true _ _ (holds-at (λ (r : ItemRow). leb 2 (length (r .name))) refl k some known)

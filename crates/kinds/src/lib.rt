@@ -29,22 +29,11 @@ fn kind_at(k: usize) -> Kind
 fn is_category(t: &[u8]) -> bool
     ensures { λ r. ⌜ r ≡ isCategory (now (t .entry)) ⌝ }
 {
-    if equality::same(t, b"FI") {
-        return true;
-    }
-    if equality::same(t, b"CI") {
-        return true;
-    }
-    if equality::same(t, b"FM") {
-        return true;
-    }
-    if equality::same(t, b"CM") {
-        return true;
-    }
-    if equality::same(t, b"FO") {
-        return true;
-    }
-    equality::same(t, b"CO")
+    equality::same(t, b"FI")
+        | (equality::same(t, b"CI")
+            | (equality::same(t, b"FM")
+                | (equality::same(t, b"CM")
+                    | (equality::same(t, b"FO") | equality::same(t, b"CO")))))
 }
 
 fn is_of_kind(kind: Kind, v: &[u8]) -> bool

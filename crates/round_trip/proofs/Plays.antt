@@ -19,7 +19,7 @@ use Rattle.kinds.specs.Kinds.{passes, fits}
 use Rattle.cif.specs.declared.line.Class.{Class}
 use Rattle.cif.specs.declared.line.Class.the-variants as class
 use Rattle.cif.proofs.Entries.{entry-taken}
-use Rattle.items.proofs.NameOf.{name-of}
+use Rattle.items.proofs.NameTable.{name-of}
 use Rattle.items.proofs.Names.{name-typed}
 use Rattle.log.specs.Record.{recordLength}
 use Rattle.state.specs.Desks.{benchCount}

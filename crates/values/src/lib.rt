@@ -15,19 +15,10 @@ fn may_begin(b: u8) -> bool
 fn is_reserved(s: &[u8]) -> bool
     ensures { λ r. ⌜ r ≡ isReserved (now (s .entry)) ⌝ }
 {
-    if equality::begins_folded(s, b"data_") {
-        return true;
-    }
-    if equality::begins_folded(s, b"save_") {
-        return true;
-    }
-    if equality::same_folded(s, b"loop_") {
-        return true;
-    }
-    if equality::same_folded(s, b"stop_") {
-        return true;
-    }
-    equality::same_folded(s, b"global_")
+    equality::begins_folded(s, b"data_")
+        | (equality::begins_folded(s, b"save_")
+            | (equality::same_folded(s, b"loop_")
+                | (equality::same_folded(s, b"stop_") | equality::same_folded(s, b"global_"))))
 }
 
 // Whether s is a bare value.

@@ -12,7 +12,7 @@ use Rattle.kinds.specs.Kinds.{fits}
 use Rattle.items.specs.Items.{itemCount}
 use Rattle.kinds.specs.Kinds.{passes}
 use Rattle.items.specs.Typed.{lineMost}
-use Rattle.items.proofs.NameOf.{name-of, name-short}
+use Rattle.items.proofs.NameTable.{name-of, name-short}
 use Rattle.kinds.proofs.Passes.{passes-known}
 use borrow.Author.Needs.{needs}
 use Rattle.kinds.proofs.fits_item.Statement.{statement}
@@ -41,13 +41,13 @@ returns-3 c =
 add-result : tie.Need-add-result
 add-result c =
     let k = known (c .before .before .before .before .before) in
-    let n = name-short _ (k .0) (k .1) in
+    let n = name-short _ (k .1) in
     omega (arith, n, c .name-length .ensures)
 
 add-result-2 : tie.Need-add-result-2
 add-result-2 c =
     let k = known (c .before .before .before .before .before) in
-    let n = name-short _ (k .0) (k .1) in
+    let n = name-short _ (k .1) in
     omega (arith, n, c .name-length .ensures)
 
 returns-4 : tie.Need-returns-4

@@ -5,7 +5,7 @@ use mathlib.Core.Path.{sym, ap, _∙_}
 use mathlib.Core.List.{List}
 use Prim.Native.Nat.{ℕ, _+_}
 use lib.ListN.{length}
-use Rattle.items.proofs.NameOf.{name-short}
+use Rattle.items.proofs.NameTable.{name-short}
 use Rattle.state.specs.Sheets.{valueIn}
 use Rattle.cif_file.proofs.Files.{empty-line, filled-line, ended-length}
 use borrow.Author.Needs.{needs}
@@ -19,25 +19,25 @@ returns c =
     (sym e, omega arith)
 
 add-result : tie.Need-add-result
-add-result c = let a = c .before .before .before .args in omega (arith, name-short (a .k + 1) (omega arith) (omega arith), c .name-length .ensures)
+add-result c = let a = c .before .before .before .args in omega (arith, name-short (a .k + 1) (omega arith), c .name-length .ensures)
 
 add-result-2 : tie.Need-add-result-2
 add-result-2 c =
     let a = c .before .before .before .before .args in
-    let n = name-short (a .k + 1) (omega arith) (omega arith) in
+    let n = name-short (a .k + 1) (omega arith) in
     omega (arith, n, c .before .name-length .ensures, c .value-length .ensures)
 
 add-result-3 : tie.Need-add-result-3
 add-result-3 c =
     let a = c .before .before .before .before .args in
-    let n = name-short (a .k + 1) (omega arith) (omega arith) in
+    let n = name-short (a .k + 1) (omega arith) in
     omega (arith, n, c .before .name-length .ensures, c .value-length .ensures)
 
 returns-2 : tie.Need-returns-2
 returns-2 c =
     let b = c .before .before in
     let a = b .before .before .args in
-    let n = name-short (a .k + 1) (omega arith) (omega arith) in
+    let n = name-short (a .k + 1) (omega arith) in
     let e = ap (λ (l : List ℕ). length l) (filled-line (a .k + 1) (a .item) (b .if1 .left)) ∙ ended-length (a .k + 1) (valueIn (a .item)) in
     (omega (arith, e, c .before .name-length .ensures, c .value-length .ensures), omega (arith, n, c .before .name-length .ensures, c .value-length .ensures))
 
