@@ -24,8 +24,8 @@ Inv-loop s bytes₀ i₀ bytes i = (i ≤ itemCount) × (length bytes ≡ itemLe
 abbrev μ-loop : tie.MeasureT-loop
 μ-loop s bytes₀ i₀ bytes i = itemCount - i
 
-ten : (c : tie.Start Inv-loop μ-loop) → length (c .args .t1 .items) ≡ itemCount
-ten c = sym (length-map (c .args .t1 .items) _) ∙ c .good .0 .1 .1 .0 .1 .0 .1
+all-items : (c : tie.Start Inv-loop μ-loop) → length (c .args .t1 .items) ≡ itemCount
+all-items c = sym (length-map (c .args .t1 .items) _) ∙ c .good .0 .1 .1 .0 .1 .0 .1
 
 loop-holds : tie.Need-loop-holds Inv-loop μ-loop
 loop-holds c = (omega arith, refl, put-none itemBytes itemLength _ _ 0)
@@ -40,14 +40,14 @@ loop-again c =
     let long = sym (ap length e) ∙ b .item-bytes .ok .1 .0 .1 in
     let wrote = p .copy-in .ensures ∙ ap (λ (k : ℕ). copied (l .loop .bytes) k (b .item-bytes .result)) (sym (zero-add (itemLength * l .loop .i)))
     ∙ ap (λ (t : List ℕ). copied (l .loop .bytes) (0 + itemLength * l .loop .i) t) e in
-    let q = put-next itemBytes itemLength (s .args .t1 .items) zeros 0 (l .loop .i) (l .loop .bytes) _ noItem (l .loop .inv .2) (omega (arith, ten s)) (omega arith) long wrote in
+    let q = put-next itemBytes itemLength (s .args .t1 .items) zeros 0 (l .loop .i) (l .loop .bytes) _ noItem (l .loop .inv .2) (omega (arith, all-items s)) (omega arith) long wrote in
     (omega arith, q .same, q)
 
 returns : tie.Need-returns Inv-loop μ-loop
 returns c =
     let l = c .before in
     let s = l .before in
-    let q = put-all itemBytes itemLength (s .args .t1 .items) zeros 0 itemCount (l .loop .i) (l .loop .bytes) (l .loop .inv .2) (omega arith) (omega (arith, ten s)) in
+    let q = put-all itemBytes itemLength (s .args .t1 .items) zeros 0 itemCount (l .loop .i) (l .loop .bytes) (l .loop .inv .2) (omega arith) (omega (arith, all-items s)) in
     q .0 ∙ copied-whole zeros (flatMap itemBytes (s .args .t1 .items)) (q .1)
 
 pub items-bytes-spec : {M : Type 1} → statement M

@@ -23,8 +23,8 @@ Inv-loop d bytes₀ i₀ bytes i = (i ≤ benchCount) × (length bytes ≡ lineL
 abbrev μ-loop : tie.MeasureT-loop
 μ-loop d bytes₀ i₀ bytes i = benchCount - i
 
-four : (c : tie.Start Inv-loop μ-loop) → length (c .args .t1 .lines) ≡ benchCount
-four c = sym (length-map (c .args .t1 .lines) _) ∙ c .good .0 .1 .1 .0 .1 .0 .1
+all-lines : (c : tie.Start Inv-loop μ-loop) → length (c .args .t1 .lines) ≡ benchCount
+all-lines c = sym (length-map (c .args .t1 .lines) _) ∙ c .good .0 .1 .1 .0 .1 .0 .1
 
 loop-holds : tie.Need-loop-holds Inv-loop μ-loop
 loop-holds c = (omega arith, refl, put-none lineBytes lineLength _ _ 0)
@@ -39,14 +39,14 @@ loop-again c =
     let long = sym (ap length e) ∙ b .line-bytes .ok .1 .0 .1 in
     let wrote = p .copy-in .ensures ∙ ap (λ (k : ℕ). copied (l .loop .bytes) k (b .line-bytes .result)) (sym (zero-add (lineLength * l .loop .i)))
     ∙ ap (λ (t : List ℕ). copied (l .loop .bytes) (0 + lineLength * l .loop .i) t) e in
-    let q = put-next lineBytes lineLength (s .args .t1 .lines) zeros 0 (l .loop .i) (l .loop .bytes) _ noLine (l .loop .inv .2) (omega (arith, four s)) (omega arith) long wrote in
+    let q = put-next lineBytes lineLength (s .args .t1 .lines) zeros 0 (l .loop .i) (l .loop .bytes) _ noLine (l .loop .inv .2) (omega (arith, all-lines s)) (omega arith) long wrote in
     (omega arith, q .same, q)
 
 returns : tie.Need-returns Inv-loop μ-loop
 returns c =
     let l = c .before in
     let s = l .before in
-    let q = put-all lineBytes lineLength (s .args .t1 .lines) zeros 0 benchCount (l .loop .i) (l .loop .bytes) (l .loop .inv .2) (omega arith) (omega (arith, four s)) in
+    let q = put-all lineBytes lineLength (s .args .t1 .lines) zeros 0 benchCount (l .loop .i) (l .loop .bytes) (l .loop .inv .2) (omega arith) (omega (arith, all-lines s)) in
     q .0 ∙ copied-whole zeros (flatMap lineBytes (s .args .t1 .lines)) (q .1)
 
 pub lines-bytes-spec : {M : Type 1} → statement M

@@ -6,31 +6,33 @@ use Prim.Native.Nat.{_-_}
 use lib.ListN.{length, take, drop, length-take, length-drop}
 use lib.Seq.{take-all}
 use borrow.Author.Tests.{le-leb, lt-leb, lt-ltb, le-ltb}
+use Rattle.state.specs.Desks.{benchCount}
+use Rattle.items.specs.Typed.{lineMost}
 use Rattle.soundness.specs.Sound.{soundFilled}
 use borrow.Author.Needs.{needs}
 use Rattle.soundness.proofs.is_sound_filled.Statement.{statement}
 use Rattle.soundness.proofs.is_sound_filled.Tie as tie
 
 -- the array of a value has its length
-long : (c : tie.Start) → length (c .args .i .value) ≡ 80
+long : (c : tie.Start) → length (c .args .i .value) ≡ lineMost
 long c = search needs
 
 returns : tie.Need-returns
 unfolding soundFilled
-returns c = simp (le-ltb _ 4 (c .if1 .taken))
+returns c = simp (le-ltb _ benchCount (c .if1 .taken))
 
 returns-2 : tie.Need-returns-2
 unfolding soundFilled
 returns-2 c =
     let e1 = c .before .before in
-    simp (lt-ltb _ 4 (e1 .if1 .left), lt-leb 1 _ (c .if2 .taken))
+    simp (lt-ltb _ benchCount (e1 .if1 .left), lt-leb 1 _ (c .if2 .taken))
 
 returns-3 : tie.Need-returns-3
 unfolding soundFilled
 returns-3 c =
     let e2 = c .before .before in
     let e1 = e2 .before .before in
-    simp (lt-ltb _ 4 (e1 .if1 .left), le-leb 1 _ (e2 .if2 .left), lt-leb _ _ (c .if3 .taken))
+    simp (lt-ltb _ benchCount (e1 .if1 .left), le-leb 1 _ (e2 .if2 .left), lt-leb _ _ (c .if3 .taken))
 
 returns-4 : tie.Need-returns-4
 unfolding soundFilled
@@ -38,7 +40,7 @@ returns-4 c =
     let e3 = c .before in
     let e2 = e3 .before .before in
     let e1 = e2 .before .before in
-    simp (lt-ltb _ 4 (e1 .if1 .left), le-leb 1 _ (e2 .if2 .left), le-leb _ _ (e3 .if3 .left), lt-leb _ 80 (c .if4 .taken))
+    simp (lt-ltb _ benchCount (e1 .if1 .left), le-leb 1 _ (e2 .if2 .left), le-leb _ _ (e3 .if3 .left), lt-leb _ lineMost (c .if4 .taken))
 
 array-share-prefix-value : tie.Need-array-share-prefix-value
 array-share-prefix-value c = omega (arith, long (c .before .before .before .before .before .before .before .before))
@@ -58,10 +60,10 @@ returns-5 c =
     let e2 = e3 .before .before in
     let e1 = e2 .before .before in
     let i = e1 .before .before .args .i in
-    let rest : take (80 - i .len) (drop (i .len) (i .value)) ≡ drop (i .len) (i .value)
-    = take-all (80 - i .len) (drop (i .len) (i .value)) (simp length-drop (omega (arith, long (e1 .before .before)))) in
+    let rest : take (lineMost - i .len) (drop (i .len) (i .value)) ≡ drop (i .len) (i .value)
+    = take-all (lineMost - i .len) (drop (i .len) (i .value)) (simp length-drop (omega (arith, long (e1 .before .before)))) in
     c .all-between .ensures
-    ∙ simp (rest, lt-ltb _ 4 (e1 .if1 .left), le-leb 1 _ (e2 .if2 .left), le-leb _ _ (e3 .if3 .left), le-leb _ 80 (e4 .if4 .left), sym (f .before .fits-item .ensures) ∙ f .if5 .taken)
+    ∙ simp (rest, lt-ltb _ benchCount (e1 .if1 .left), le-leb 1 _ (e2 .if2 .left), le-leb _ _ (e3 .if3 .left), le-leb _ lineMost (e4 .if4 .left), sym (f .before .fits-item .ensures) ∙ f .if5 .taken)
 
 returns-6 : tie.Need-returns-6
 unfolding soundFilled
@@ -70,7 +72,7 @@ returns-6 c =
     let e3 = e4 .before in
     let e2 = e3 .before .before in
     let e1 = e2 .before .before in
-    simp (lt-ltb _ 4 (e1 .if1 .left), le-leb 1 _ (e2 .if2 .left), le-leb _ _ (e3 .if3 .left), le-leb _ 80 (e4 .if4 .left), sym (c .before .fits-item .ensures) ∙ c .if5 .left)
+    simp (lt-ltb _ benchCount (e1 .if1 .left), le-leb 1 _ (e2 .if2 .left), le-leb _ _ (e3 .if3 .left), le-leb _ lineMost (e4 .if4 .left), sym (c .before .fits-item .ensures) ∙ c .if5 .left)
 
 pub is-sound-filled-spec : {M : Type 1} → statement M
 is-sound-filled-spec =

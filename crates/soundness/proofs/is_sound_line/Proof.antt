@@ -6,18 +6,19 @@ use Prim.Native.Nat.{_-_}
 use lib.ListN.{length, take, drop, length-take, length-drop}
 use lib.Seq.{take-all}
 use borrow.Author.Tests.{le-leb, lt-leb}
+use Rattle.items.specs.Typed.{lineMost}
 use Rattle.soundness.specs.Sound.{soundLine}
 use borrow.Author.Needs.{needs}
 use Rattle.soundness.proofs.is_sound_line.Statement.{statement}
 use Rattle.soundness.proofs.is_sound_line.Tie as tie
 
 -- the array of a line has its length
-long : (c : tie.Start) → length (c .args .l .bytes) ≡ 80
+long : (c : tie.Start) → length (c .args .l .bytes) ≡ lineMost
 long c = search needs
 
 returns : tie.Need-returns
 unfolding soundLine
-returns c = simp (lt-leb _ 80 (c .if1 .taken))
+returns c = simp (lt-leb _ lineMost (c .if1 .taken))
 
 array-share-prefix-bytes : tie.Need-array-share-prefix-bytes
 array-share-prefix-bytes c = omega (arith, long (c .before .before))
@@ -34,15 +35,15 @@ returns-2 c =
     let f = c .before .before .before in
     let e = f .before .before .before .before in
     let l = e .before .args .l in
-    let rest : take (80 - l .len) (drop (l .len) (l .bytes)) ≡ drop (l .len) (l .bytes)
-    = take-all (80 - l .len) (drop (l .len) (l .bytes)) (simp length-drop (omega (arith, long (e .before)))) in
-    c .all-between2 .ensures ∙ simp (rest, le-leb _ 80 (e .if1 .left), sym (f .before .all-between .ensures) ∙ f .if2 .taken)
+    let rest : take (lineMost - l .len) (drop (l .len) (l .bytes)) ≡ drop (l .len) (l .bytes)
+    = take-all (lineMost - l .len) (drop (l .len) (l .bytes)) (simp length-drop (omega (arith, long (e .before)))) in
+    c .all-between2 .ensures ∙ simp (rest, le-leb _ lineMost (e .if1 .left), sym (f .before .all-between .ensures) ∙ f .if2 .taken)
 
 returns-3 : tie.Need-returns-3
 unfolding soundLine
 returns-3 c =
     let e = c .before .before .before .before in
-    simp (le-leb _ 80 (e .if1 .left), sym (c .before .all-between .ensures) ∙ c .if2 .left)
+    simp (le-leb _ lineMost (e .if1 .left), sym (c .before .all-between .ensures) ∙ c .if2 .left)
 
 pub is-sound-line-spec : {M : Type 1} → statement M
 is-sound-line-spec =

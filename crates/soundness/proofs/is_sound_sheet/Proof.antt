@@ -7,6 +7,7 @@ use mathlib.Core.Bool.{true, false}
 use Prim.Native.Nat.{ℕ, _≤_, _-_}
 use borrow.Author.Tests.{not-true, not-false}
 use lib.ListN.{length, getD, drop, length-map}
+use Rattle.items.specs.Items.{itemCount}
 use Rattle.state.specs.Sheets.{noItem}
 use Rattle.soundness.specs.Sound.{every, soundItem, soundSheet}
 use Rattle.soundness.proofs.Everys.{every-at, every-end}
@@ -14,13 +15,13 @@ use Rattle.soundness.proofs.is_sound_sheet.Statement.{statement}
 use Rattle.soundness.proofs.is_sound_sheet.Tie as tie
 
 abbrev Inv-loop : tie.InvT-loop
-Inv-loop s count i₀ i = (i ≤ 10) × (every (soundItem (s .count)) 0 (s .items) ≡ every (soundItem (s .count)) i (drop i (s .items)))
+Inv-loop s count i₀ i = (i ≤ itemCount) × (every (soundItem (s .count)) 0 (s .items) ≡ every (soundItem (s .count)) i (drop i (s .items)))
 
 abbrev μ-loop : tie.MeasureT-loop
-μ-loop s count i₀ i = 10 - i
+μ-loop s count i₀ i = itemCount - i
 
-ten : (c : tie.Start Inv-loop μ-loop) → length (c .args .t1 .items) ≡ 10
-ten c = sym (length-map (c .args .t1 .items) _) ∙ c .good .0 .1 .1 .0 .1 .0 .1
+all-items : (c : tie.Start Inv-loop μ-loop) → length (c .args .t1 .items) ≡ itemCount
+all-items c = sym (length-map (c .args .t1 .items) _) ∙ c .good .0 .1 .1 .0 .1 .0 .1
 
 loop-holds : tie.Need-loop-holds Inv-loop μ-loop
 loop-holds c = (omega arith, refl)
@@ -32,7 +33,7 @@ returns c =
     let b = c .before .before .before .before .before in
     let s = b .args .t1 in
     let e : soundItem (s .count) (l .i) (getD (s .items) (l .i) noItem) ≡ false = sym (c .before .is-sound-item .ensures) ∙ not-true _ (c .if1 .taken) in
-    sym (l .inv .1 ∙ every-at (soundItem (s .count)) (s .items) (l .i) noItem (omega (arith, ten b)) ∙ rw e)
+    sym (l .inv .1 ∙ every-at (soundItem (s .count)) (s .items) (l .i) noItem (omega (arith, all-items b)) ∙ rw e)
 
 loop-again : tie.Need-loop-again Inv-loop μ-loop
 unfolding soundSheet
@@ -41,11 +42,11 @@ loop-again c =
     let b = c .before .before .before .before .before in
     let s = b .args .t1 in
     let e : soundItem (s .count) (l .i) (getD (s .items) (l .i) noItem) ≡ true = sym (c .before .is-sound-item .ensures) ∙ not-false _ (c .if1 .left) in
-    (omega arith, l .inv .1 ∙ every-at (soundItem (s .count)) (s .items) (l .i) noItem (omega (arith, ten b)) ∙ rw e)
+    (omega arith, l .inv .1 ∙ every-at (soundItem (s .count)) (s .items) (l .i) noItem (omega (arith, all-items b)) ∙ rw e)
 
 returns-2 : tie.Need-returns-2 Inv-loop μ-loop
 unfolding soundSheet
-returns-2 c = sym (c .before .loop .inv .1 ∙ every-end _ (c .before .before .args .t1 .items) (c .before .loop .i) (omega (arith, ten (c .before .before))))
+returns-2 c = sym (c .before .loop .inv .1 ∙ every-end _ (c .before .before .args .t1 .items) (c .before .loop .i) (omega (arith, all-items (c .before .before))))
 
 pub is-sound-sheet-spec : {M : Type 1} → statement M
 is-sound-sheet-spec =

@@ -19,8 +19,8 @@ Inv-loop out₀ start sheet at₀ i₀ out at i = (i ≤ itemCount) × Put itemL
 abbrev μ-loop : tie.MeasureT-loop
 μ-loop out₀ start sheet at₀ i₀ out at i = itemCount - i
 
-ten : (c : tie.Start Inv-loop μ-loop) → length (c .args .t3 .items) ≡ itemCount
-ten c = sym (length-map (c .args .t3 .items) _) ∙ c .good .1 .1 .0 .1 .1 .0 .1 .0 .1
+all-items : (c : tie.Start Inv-loop μ-loop) → length (c .args .t3 .items) ≡ itemCount
+all-items c = sym (length-map (c .args .t3 .items) _) ∙ c .good .1 .1 .0 .1 .1 .0 .1 .0 .1
 
 loop-holds : tie.Need-loop-holds Inv-loop μ-loop
 loop-holds c = let a = c .before .args in (omega arith, put-none itemLine (a .t3 .items) (now (a .out)) (a .start))
@@ -30,7 +30,7 @@ put-item-requires c κs =
     let l = c .before .before .before in
     let s = l .before .before in
     let a = s .args in
-    (put-room itemLine (a .t3 .items) (now (a .out)) (a .start) (l .loop .inv .1) noItem (omega (arith, ten s)) (s .pre), omega arith)
+    (put-room itemLine (a .t3 .items) (now (a .out)) (a .start) (l .loop .inv .1) noItem (omega (arith, all-items s)) (s .pre), omega arith)
 
 loop-again : tie.Need-loop-again Inv-loop μ-loop
 loop-again c =
@@ -39,14 +39,14 @@ loop-again c =
     let s = l .before .before in
     let a = s .args in
     let e = p .put-item .ensures in
-    (omega arith, put-next itemLine (a .t3 .items) (now (a .out)) (a .start) (l .loop .inv .1) noItem (omega (arith, ten s)) (s .pre) (e .0) (e .1))
+    (omega arith, put-next itemLine (a .t3 .items) (now (a .out)) (a .start) (l .loop .inv .1) noItem (omega (arith, all-items s)) (s .pre) (e .0) (e .1))
 
 returns : tie.Need-returns Inv-loop μ-loop
 returns c =
     let l = c .before in
     let s = l .before .before in
     let a = s .args in
-    put-all itemLine (a .t3 .items) (now (a .out)) (a .start) (l .loop .inv .1) (omega (arith, ten s)) .0
+    put-all itemLine (a .t3 .items) (now (a .out)) (a .start) (l .loop .inv .1) (omega (arith, all-items s)) .0
 
 pub put-items-spec : {M : Type 1} → statement M
 put-items-spec =

@@ -19,8 +19,8 @@ Inv-loop sheet n₀ i₀ n i = (i ≤ itemCount) × (n ≤ 110 * i) × (n ≡ le
 abbrev μ-loop : tie.MeasureT-loop
 μ-loop sheet n₀ i₀ n i = itemCount - i
 
-ten : (c : tie.Start Inv-loop μ-loop) → length (c .args .t1 .items) ≡ itemCount
-ten c = sym (length-map (c .args .t1 .items) _) ∙ c .good .0 .1 .1 .0 .1 .0 .1
+all-items : (c : tie.Start Inv-loop μ-loop) → length (c .args .t1 .items) ≡ itemCount
+all-items c = sym (length-map (c .args .t1 .items) _) ∙ c .good .0 .1 .1 .0 .1 .0 .1
 
 loop-holds : tie.Need-loop-holds Inv-loop μ-loop
 loop-holds c = (omega arith, omega arith, sym (ap (λ (l : List ℕ). length l) (lines-none itemLine (c .args .t1 .items))))
@@ -32,14 +32,14 @@ loop-again c =
     let i = l .loop .i in
     let xs = s .args .t1 .items in
     let x = itemLine (i + 1) (getD xs i noItem) in
-    let more = ap (λ (t : List ℕ). length t) (lines-next itemLine xs i noItem (omega (arith, ten s))) ∙ length-append (firstLines itemLine xs i) x in
+    let more = ap (λ (t : List ℕ). length t) (lines-next itemLine xs i noItem (omega (arith, all-items s))) ∙ length-append (firstLines itemLine xs i) x in
     (omega arith, omega arith, omega (arith, more, c .line-length .ensures, l .loop .inv))
 
 returns : tie.Need-returns Inv-loop μ-loop
 returns c =
     let l = c .before in
     let s = l .before in
-    let all = ap (λ (t : List ℕ). length t) (lines-all itemLine (s .args .t1 .items) (l .loop .i) (omega (arith, ten s))) in
+    let all = ap (λ (t : List ℕ). length t) (lines-all itemLine (s .args .t1 .items) (l .loop .i) (omega (arith, all-items s))) in
     (omega (arith, all, l .loop .inv), omega arith)
 
 pub lines-length-spec : {M : Type 1} → statement M

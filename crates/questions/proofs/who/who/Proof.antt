@@ -2,6 +2,7 @@
 -- Assumes nothing.
 use mathlib.Core.Path.{sym, _∙_}
 use borrow.Author.Tests.{le-leb, lt-leb, not-true, not-false}
+use Rattle.items.specs.Items.{itemCount}
 use Rattle.questions.specs.Who.{whoOf}
 use borrow.Author.Needs.{needs}
 use Rattle.questions.proofs.who.who.Statement.{statement}
@@ -22,7 +23,7 @@ unfolding whoOf
 returns-3 c =
     let e2 = c .before .before in
     let e1 = e2 .before in
-    c .tell-nobody3 .ensures ∙ simp (sym (e1 .before .is-sound .ensures) ∙ not-false _ (e1 .if1 .left), le-leb 1 _ (e2 .if2 .left), lt-leb _ 10 (c .before .if3 .taken))
+    c .tell-nobody3 .ensures ∙ simp (sym (e1 .before .is-sound .ensures) ∙ not-false _ (e1 .if1 .left), le-leb 1 _ (e2 .if2 .left), lt-leb _ itemCount (c .before .if3 .taken))
 
 returns-4 : tie.Need-returns-4
 unfolding whoOf
@@ -30,7 +31,7 @@ returns-4 c =
     let e3 = c .before .before .before in
     let e2 = e3 .before in
     let e1 = e2 .before in
-    c .tell .ensures ∙ simp (sym (e1 .before .is-sound .ensures) ∙ not-false _ (e1 .if1 .left), le-leb 1 _ (e2 .if2 .left), le-leb _ 10 (e3 .if3 .left))
+    c .tell .ensures ∙ simp (sym (e1 .before .is-sound .ensures) ∙ not-false _ (e1 .if1 .left), le-leb 1 _ (e2 .if2 .left), le-leb _ itemCount (e3 .if3 .left))
 
 pub who-spec : {M : Type 1} → statement M
 who-spec =

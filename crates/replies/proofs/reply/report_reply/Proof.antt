@@ -19,8 +19,8 @@ Inv-loop rows bytes₀ i₀ bytes i = (i ≤ rowCount) × (length bytes ≡ repl
 abbrev μ-loop : tie.MeasureT-loop
 μ-loop rows bytes₀ i₀ bytes i = rowCount - i
 
-twelve : (c : tie.Start Inv-loop μ-loop) → length (c .args .p .rows .rows) ≡ rowCount
-twelve c = sym (length-map (c .args .p .rows .rows) _) ∙ c .good .0 .1 .1 .1 .0 .1 .1 .0 .1 .0 .1
+all-rows : (c : tie.Start Inv-loop μ-loop) → length (c .args .p .rows .rows) ≡ rowCount
+all-rows c = sym (length-map (c .args .p .rows .rows) _) ∙ c .good .0 .1 .1 .1 .0 .1 .1 .0 .1 .0 .1
 
 loop-holds : tie.Need-loop-holds Inv-loop μ-loop
 loop-holds c = (omega arith, refl, put-none rowBytes 2 _ _ 1)
@@ -30,7 +30,7 @@ loop-again c =
     let p = c .before in
     let l = p .before .before .before .before .before in
     let s = l .before .before .before in
-    let q = put-next rowBytes 2 (s .args .p .rows .rows) (l .before .asked-number .result ∷ replicate (2 * rowCount) 0) 1 (l .loop .i) (l .loop .bytes) _ noAlert (l .loop .inv .2) (omega (arith, twelve s)) (omega arith) refl (p .copy-in .ensures) in
+    let q = put-next rowBytes 2 (s .args .p .rows .rows) (l .before .asked-number .result ∷ replicate (2 * rowCount) 0) 1 (l .loop .i) (l .loop .bytes) _ noAlert (l .loop .inv .2) (omega (arith, all-rows s)) (omega arith) refl (p .copy-in .ensures) in
     (omega arith, q .same, q)
 
 returns : tie.Need-returns Inv-loop μ-loop
@@ -38,7 +38,7 @@ returns c =
     let l = c .before in
     let s = l .before .before .before in
     let rows = s .args .p .rows .rows in
-    let q = put-all rowBytes 2 rows (l .before .asked-number .result ∷ replicate (2 * rowCount) 0) 1 rowCount (l .loop .i) (l .loop .bytes) (l .loop .inv .2) (omega arith) (omega (arith, twelve s)) in
+    let q = put-all rowBytes 2 rows (l .before .asked-number .result ∷ replicate (2 * rowCount) 0) 1 rowCount (l .loop .i) (l .loop .bytes) (l .loop .inv .2) (omega arith) (omega (arith, all-rows s)) in
     q .0 ∙ copied-after (l .before .asked-number .result) (replicate (2 * rowCount) 0) (flatMap rowBytes rows) (q .1) ∙ ap (λ (k : ℕ). k ∷ flatMap rowBytes rows) (l .before .asked-number .ensures)
 
 pub report-reply-spec : {M : Type 1} → statement M
