@@ -9,7 +9,7 @@ ghost use Rattle.cif.specs.Line.{classOf};
 ghost use Rattle.items.specs.Items.{itemCount};
 ghost use Rattle.state.specs.Lines.{typed};
 ghost use Rattle.state.specs.Desks.{benchCount, lineAt};
-ghost use Rattle.calls.specs.Key.{after, withEntry, entered, stored, enteredAs, enter, appendKey, keyStep, keyOf};
+ghost use Rattle.calls.specs.Key.{after, withEntry, entered, stored, enteredAs, appendKey, keyStep, keyOf};
 ghost use Rattle.calls.specs.Ready.{Ready};
 use answers::Answer;
 use cif::line::Class;
@@ -119,19 +119,10 @@ fn enter_line(d: Desk, used: usize, log: &mut [u8], bench: usize, l: Line) -> Ke
     enter_typed(d, used, log, bench, &bytes[..n])
 }
 
-fn enter_bench(d: Desk, used: usize, log: &mut [u8], bench: usize) -> Keyed
-    requires { ⌜ Ready d used (now log) bench ⌝ }
-    ensures { λ r. ⌜ after r (now (log .exit)) ≡ enter d used (now (log .entry)) bench ⌝ }
+fn append_byte(d: Desk, used: usize, bench: usize, l: Line, byte: u8) -> Keyed
+    requires { ⌜ l ≡ lineAt d bench ⌝ }
+    ensures { λ r. ⌜ ((log : List ℕ) → after r log ≡ appendKey d used log bench byte) ⌝ }
 {
-    let l = d.lines[bench];
-    enter_line(d, used, log, bench, l)
-}
-
-fn append_byte(d: Desk, used: usize, bench: usize, byte: u8) -> Keyed
-    requires { ⌜ bench < benchCount ⌝ }
-    ensures { λ r. ⌜ ((l : List ℕ) → after r l ≡ appendKey d used l bench byte) ⌝ }
-{
-    let l = d.lines[bench];
     if l.len < LINE_MOST {
         let next = state::line::append(l, byte);
         let desk = state::desk::with_line(d, bench, next);
@@ -154,10 +145,10 @@ fn step(d: Desk, used: usize, log: &mut [u8], bench: usize, byte: u8) -> Keyed
     requires { ⌜ Ready d used (now log) bench ⌝ }
     ensures { λ r. ⌜ after r (now (log .exit)) ≡ keyStep d used (now (log .entry)) bench byte ⌝ }
 {
+    let l = d.lines[bench];
     match byte {
-        32..=126 => append_byte(d, used, bench, byte),
+        32..=126 => append_byte(d, used, bench, l, byte),
         8 => {
-            let l = d.lines[bench];
             let next = state::line::erase(l);
             let desk = state::desk::with_line(d, bench, next);
             Keyed {
@@ -175,7 +166,7 @@ fn step(d: Desk, used: usize, log: &mut [u8], bench: usize, byte: u8) -> Keyed
                 answer: Answer::Accepted,
             }
         }
-        10 => enter_bench(d, used, log, bench),
+        10 => enter_line(d, used, log, bench, l),
         _ => Keyed {
             desk: d,
             used,

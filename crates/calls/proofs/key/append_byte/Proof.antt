@@ -6,12 +6,12 @@ use Rattle.calls.proofs.key.append_byte.Statement.{statement}
 use Rattle.calls.proofs.key.append_byte.Tie as tie
 
 returns : tie.Need-returns
-returns c = λ l. simp (lt-ltb _ 80 (c .before .before .if1 .taken), c .with-line .ensures, c .before .append .ensures)
+returns c =
+    let t = c .before .before in
+    λ log. simp (← t .before .before .pre, lt-ltb _ 80 (t .if1 .taken), c .with-line .ensures, c .before .append .ensures)
 
 returns-2 : tie.Need-returns-2
-returns-2 c = λ l. simp (le-ltb _ 80 (c .if1 .left))
+returns-2 c = λ log. simp (← c .before .before .pre, le-ltb _ 80 (c .if1 .left))
 
 pub append-byte-spec : {M : Type 1} → statement M
-append-byte-spec =
-    tie.close
-    (tie.spec (λ c. search needs) (λ c. search needs) (λ c κs. search needs) (λ c κs. search needs) returns returns-2)
+append-byte-spec = tie.close (tie.spec (λ c κs. search needs) (λ c κs. search needs) returns returns-2)

@@ -12,7 +12,7 @@ use Rattle.calls.proofs.key.step.Tie as tie
 
 returns : tie.Need-returns
 unfolding keyStep between
-returns c = simp (c .with-line .ensures, c .before .erase .ensures, c .before .before .before .match .keys1)
+returns c = simp (c .with-line .ensures, c .before .erase .ensures, c .before .before .match .keys1)
 
 returns-2 : tie.Need-returns-2
 unfolding keyStep between
@@ -21,13 +21,13 @@ returns-2 c = simp (c .with-line2 .ensures, c .before .empty-line .ensures, c .b
 returns-3 : tie.Need-returns-3
 unfolding keyStep between
 returns-3 c =
-    let k = c .before .before .before .before in
-    c .before .before .enter-bench .ensures ∙ simp (k .match .keys3)
+    let p = c .before .before in
+    p .enter-line .ensures ∙ simp (p .before .before .match .keys3)
 
 returns-4 : tie.Need-returns-4
 unfolding keyStep between
 returns-4 c =
-    let a = c .before .before .before .before .before .args in
+    let a = c .before .before .before .before .before .before .args in
     c .append-byte .ensures (now (a .log)) ∙ simp (le-leb 32 (a .byte) (c .before .before .if1 .left), le-leb (a .byte) 126 (omega arith))
 
 returns-5 : tie.Need-returns-5
@@ -41,7 +41,7 @@ unfolding keyStep between
 returns-6 c =
     let m = c .before .before in
     let r = m .match .rest in
-    let a = m .before .before .args in
+    let a = m .before .before .before .args in
     simp (le-leb 32 (a .byte) (c .before .if1 .left), lt-leb (a .byte) 126 (omega arith), ne-eqb _ 8 (r .0 .0 .1), ne-eqb _ 24 (r .0 .1), ne-eqb _ 10 (r .1))
 
 pub step-spec : {M : Type 1} → statement M
