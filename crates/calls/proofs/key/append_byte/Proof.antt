@@ -2,16 +2,17 @@
 -- Assumes nothing.
 use borrow.Author.Tests.{lt-ltb, le-ltb}
 use borrow.Author.Needs.{needs}
+use Rattle.items.specs.Typed.{lineMost}
 use Rattle.calls.proofs.key.append_byte.Statement.{statement}
 use Rattle.calls.proofs.key.append_byte.Tie as tie
 
 returns : tie.Need-returns
 returns c =
     let t = c .before .before in
-    λ log. simp (← t .before .before .pre, lt-ltb _ 80 (t .if1 .taken), c .with-line .ensures, c .before .append .ensures)
+    λ log. simp (← t .before .before .pre, lt-ltb _ lineMost (t .if1 .taken), c .with-line .ensures, c .before .append .ensures)
 
 returns-2 : tie.Need-returns-2
-returns-2 c = λ log. simp (← c .before .before .pre, le-ltb _ 80 (c .if1 .left))
+returns-2 c = λ log. simp (← c .before .before .pre, le-ltb _ lineMost (c .if1 .left))
 
 pub append-byte-spec : {M : Type 1} → statement M
 append-byte-spec = tie.close (tie.spec (λ c κs. search needs) (λ c κs. search needs) returns returns-2)

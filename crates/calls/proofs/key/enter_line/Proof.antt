@@ -4,10 +4,11 @@ use native.Mathlib.Omega.{arith}
 use mathlib.Core.Path.{_≡_}
 use lib.ListN.{length, length-take}
 use borrow.Author.Needs.{needs}
+use Rattle.items.specs.Typed.{lineMost}
 use Rattle.calls.proofs.key.enter_line.Statement.{statement}
 use Rattle.calls.proofs.key.enter_line.Tie as tie
 
-long : (c : tie.Start) → length (c .args .l .bytes) ≡ 80
+long : (c : tie.Start) → length (c .args .l .bytes) ≡ lineMost
 long c = search needs
 
 array-share-prefix-bytes : tie.Need-array-share-prefix-bytes

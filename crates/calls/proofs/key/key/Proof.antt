@@ -4,31 +4,32 @@ use mathlib.Core.Path.{_≡_, sym, _∙_}
 use borrow.Author.Tests.{lt-ltb, le-ltb, not-true, not-false}
 use denote.Ref.{now}
 use lib.ListN.{length, length-map}
+use Rattle.state.specs.Desks.{benchCount}
 use Rattle.calls.specs.Key.{keyOf}
 use Rattle.calls.proofs.Keys.{sound-ready}
 use borrow.Author.Needs.{needs}
 use Rattle.calls.proofs.key.key.Statement.{statement}
 use Rattle.calls.proofs.key.key.Tie as tie
 
-four : (c : tie.Start) → length (c .args .d .lines) ≡ 4
-four c = sym (length-map (c .args .d .lines) _) ∙ c .good .0 .1 .1 .0 .1 .0 .1
+all-lines : (c : tie.Start) → length (c .args .d .lines) ≡ benchCount
+all-lines c = sym (length-map (c .args .d .lines) _) ∙ c .good .0 .1 .1 .0 .1 .0 .1
 
 returns : tie.Need-returns
 unfolding keyOf
-returns c = simp (le-ltb _ 4 (c .if1 .taken))
+returns c = simp (le-ltb _ benchCount (c .if1 .taken))
 
 returns-2 : tie.Need-returns-2
 unfolding keyOf
 returns-2 c =
     let e1 = c .before .before in
-    simp (lt-ltb _ 4 (e1 .if1 .left), sym (c .before .is-sound .ensures) ∙ not-true _ (c .if2 .taken))
+    simp (lt-ltb _ benchCount (e1 .if1 .left), sym (c .before .is-sound .ensures) ∙ not-true _ (c .if2 .taken))
 
 returns-3 : tie.Need-returns-3
 unfolding keyOf
 returns-3 c =
     let e2 = c .before .before in
     let e1 = e2 .before .before in
-    simp (lt-ltb _ 4 (e1 .if1 .left), sym (e2 .before .is-sound .ensures) ∙ not-false _ (e2 .if2 .left), sym (c .before .is-sound-log .ensures) ∙ not-true _ (c .if3 .taken))
+    simp (lt-ltb _ benchCount (e1 .if1 .left), sym (e2 .before .is-sound .ensures) ∙ not-false _ (e2 .if2 .left), sym (c .before .is-sound-log .ensures) ∙ not-true _ (c .if3 .taken))
 
 step-requires : tie.Need-step-requires
 step-requires c κs =
@@ -37,7 +38,7 @@ step-requires c κs =
     let e1 = e2 .before .before in
     let start = e1 .before .before in
     let a = start .args in
-    sound-ready (a .d) (a .used) (now (a .log)) (a .bench) (four start) (e1 .if1 .left) (sym (e2 .before .is-sound .ensures) ∙ not-false _ (e2 .if2 .left)) (sym (e3 .before .is-sound-log .ensures) ∙ not-false _ (e3 .if3 .left))
+    sound-ready (a .d) (a .used) (now (a .log)) (a .bench) (all-lines start) (e1 .if1 .left) (sym (e2 .before .is-sound .ensures) ∙ not-false _ (e2 .if2 .left)) (sym (e3 .before .is-sound-log .ensures) ∙ not-false _ (e3 .if3 .left))
 
 returns-4 : tie.Need-returns-4
 unfolding keyOf
@@ -46,7 +47,7 @@ returns-4 c =
     let e2 = e3 .before .before in
     let e1 = e2 .before .before in
     c .before .before .step .ensures
-    ∙ simp (lt-ltb _ 4 (e1 .if1 .left), sym (e2 .before .is-sound .ensures) ∙ not-false _ (e2 .if2 .left), sym (e3 .before .is-sound-log .ensures) ∙ not-false _ (e3 .if3 .left))
+    ∙ simp (lt-ltb _ benchCount (e1 .if1 .left), sym (e2 .before .is-sound .ensures) ∙ not-false _ (e2 .if2 .left), sym (e3 .before .is-sound-log .ensures) ∙ not-false _ (e3 .if3 .left))
 
 pub key-spec : {M : Type 1} → statement M
 key-spec =
