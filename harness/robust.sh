@@ -5,7 +5,7 @@
 # Needs the built harness, client and programs. Prints one line for each check and at the end 'N passed, M failed'.
 set -u
 case "$*" in
-    '') memory=8000 random=1000000 huge=32000000 lines=15000 ;;
+    '') memory=4000 random=500000 huge=16000000 lines=8000 ;;
     --long) memory=200000 random=8000000 huge=512000000 lines=200000 ;;
     *) echo "usage: harness/robust.sh [--long]" >&2; exit 2 ;;
 esac

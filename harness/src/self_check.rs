@@ -17,7 +17,7 @@ use reference::number::{number, DIGITS, PLACES, UNCERTAINTY_DIGITS};
 use reference::sequence::Call;
 use reference::{grade, line, value};
 
-const PLAN: Plan = Plan { fixed_seed: 1, new_seed: 2, count: 20_000, lists: true };
+const PLAN: Plan = Plan { fixed_seed: 1, new_seed: 2, count: 6_000, lists: true };
 
 /// The reference program with one answer replaced.
 enum Wrong {

@@ -6,10 +6,10 @@ use mathlib.Core.List.{List, [], _++_}
 use Prim.Native.Nat.{ℕ, _+_, _*_}
 use native.Mathlib.Omega.{arith}
 use lib.ListN.{length, length-append}
-use Rattle.sequence.specs.Calls.{State, freshState}
+use Rattle.sequence.specs.Calls.{State, freshState, stateOf}
 use Rattle.state.specs.Desks.{freshDesk}
 use Rattle.state.specs.declared.desk.Desk.{Desk}
-use Rattle.session.specs.Play.{stands, standsAfter, played}
+use Rattle.session.specs.Play.{stateLeft, played}
 use Rattle.session.proofs.Pairs.{played-in-parts}
 use Rattle.desk.specs.Run.{PlaysPart, PlaysAll}
 use Rattle.desk.specs.declared.Turn.{Turn}
@@ -21,18 +21,18 @@ pub record Reached (log : List ℕ) (s : State) : Type 0 where
   pub whole : length input ≡ 2 * pairs
   pub plays : s ≡ played (freshState log) input
 
-pub reached-none : (log : List ℕ) (d : Desk) → d ≡ freshDesk → Reached log (stands d 0 log)
-reached-none log d e = record { input = []; pairs = 0; whole = omega arith; plays = ap (λ (x : Desk). stands x 0 log) e }
+pub reached-none : (log : List ℕ) (d : Desk) → d ≡ freshDesk → Reached log (stateOf d 0 log)
+reached-none log d e = record { input = []; pairs = 0; whole = omega arith; plays = ap (λ (x : Desk). stateOf x 0 log) e }
 
 pub reached-all : {log : List ℕ} {s : State} → Reached log s → PlaysAll log (s .desk)
 reached-all h = record { input = h .input; plays = ap (λ (x : State). x .desk) (h .plays) }
 
 module _ {log now : List ℕ} {s : State} {r : Turn} (h : Reached log s) (p : PlaysPart s r now) where
-  together : standsAfter (r .played) now ≡ played (freshState log) (h .input ++ p .part)
+  together : stateLeft (r .played) now ≡ played (freshState log) (h .input ++ p .part)
   together = p .plays ∙ ap (λ (x : State). played x (p .part)) (h .plays) ∙ played-in-parts (h .pairs) (freshState log) (h .input) (p .part) (h .whole)
 
   -- one part more, that is full
-  pub reached-next : r .more ≡ true → Reached log (standsAfter (r .played) now)
+  pub reached-next : r .more ≡ true → Reached log (stateLeft (r .played) now)
   reached-next f = record {
     input = h .input ++ p .part;
     pairs = h .pairs + 2048;

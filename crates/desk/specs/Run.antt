@@ -7,7 +7,7 @@ use mathlib.Core.List.{List}
 use lib.ListN.{length}
 use Rattle.state.specs.declared.desk.Desk.{Desk}
 use Rattle.sequence.specs.Calls.{State, freshState}
-use Rattle.session.specs.Play.{standsAfter, played}
+use Rattle.session.specs.Play.{stateLeft, played}
 use Rattle.desk.specs.declared.Turn.{Turn}
 
 -- the bytes of a part that is full
@@ -17,7 +17,7 @@ partLength = 4096
 -- one part is played from the state s, and the log is then `log`
 pub record PlaysPart (s : State) (r : Turn) (log : List ℕ) : Type 0 where
   pub part : List ℕ
-  pub plays : standsAfter (r .played) log ≡ played s part
+  pub plays : stateLeft (r .played) log ≡ played s part
   pub full : r .more ≡ true → length part ≡ partLength
 
 -- the desk d is what an input leaves on a fresh desk with that log

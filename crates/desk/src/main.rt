@@ -1,5 +1,5 @@
 // Plays the pairs of standard input, a bench digit and a key byte each, on a fresh desk, and prints its report (document 01, "Measured examples").
-ghost use Rattle.session.specs.Play.{standsAfter};
+ghost use Rattle.session.specs.Play.{stateLeft};
 ghost use Rattle.desk.specs.Run.{PlaysPart, PlaysAll};
 use libc::STDIN_FILENO;
 use libc::STDOUT_FILENO;
@@ -21,7 +21,7 @@ struct Turn {
 
 // Reads one part and plays its pairs.
 fn play_part(before: Played, log: &mut [u8]) -> Turn
-    ensures { λ r. ⌜ PlaysPart (standsAfter before (now (log .entry))) r (now (log .exit)) ⌝ }
+    ensures { λ r. ⌜ PlaysPart (stateLeft before (now (log .entry))) r (now (log .exit)) ⌝ }
 {
     let desk = before.desk;
     let mut part = [0u8; PART_LENGTH];

@@ -13,12 +13,13 @@ use lib.Seq.{take-all, drop-append-add, drop-drop}
 use Rattle.copies.specs.Copy.{copied}
 use Rattle.text.proofs.Bools.{not-holds, cond-first}
 use Rattle.copies.proofs.Copies.{copied-fits}
-use Rattle.log.specs.Record.{little, recordLength, recordOf, hasRoom, writtenOf}
+use Rattle.text.specs.Little.{little}
+use Rattle.log.specs.Record.{recordLength, recordOf, hasRoom, writtenOf}
 use Rattle.log.specs.declared.Written.the-variants.{Bytes, NoRoom}
 
 -- the six bytes before a value of n bytes
 abbrev pub headOf : ℕ → ℕ → ℕ → List ℕ
-headOf n bench item = little (6 + n) ++ (little 1 ++ (bench ∷ item ∷ []))
+headOf n bench item = little 2 (6 + n) ++ (little 2 1 ++ (bench ∷ item ∷ []))
 
 pub record-length : (bench item : ℕ) (v : List ℕ) → length (recordOf bench item v) ≡ recordLength v
 record-length bench item v = omega arith

@@ -1,24 +1,21 @@
 -- A record of the log (document 01, "The log").
 -- Assumes nothing.
-use Prim.Native.Nat.{ℕ, _+_, _/_, _%_}
+use Prim.Native.Nat.{ℕ, _+_}
 use mathlib.Core.Bool.{Bool, cond, _&&_}
 use mathlib.Core.List.{List, [], _∷_, _++_}
 use lib.Dec.{leb}
 use lib.ListN.{length, drop}
+use Rattle.text.specs.Little.{little}
 use Rattle.log.specs.declared.Written.{Written}
 use Rattle.log.specs.declared.Written.the-variants.{Bytes, NoRoom}
-
--- a number in two bytes, "little-endian"
-abbrev pub little : ℕ → List ℕ
-little n = n % 256 ∷ n / 256 % 256 ∷ []
 
 -- "Length is 6 plus the value's"
 abbrev pub recordLength : List ℕ → ℕ
 recordLength value = 6 + length value
 
--- "length of the whole record (two bytes), kind 1 (two bytes), bench, item, the value as typed"
+-- "length of the whole record (two bytes), kind 1 (two bytes), bench, item, the value as typed"; numbers are "little-endian"
 abbrev pub recordOf : ℕ → ℕ → List ℕ → List ℕ
-recordOf bench item value = little (recordLength value) ++ (little 1 ++ (bench ∷ item ∷ value))
+recordOf bench item value = little 2 (recordLength value) ++ (little 2 1 ++ (bench ∷ item ∷ value))
 
 -- the record is not longer than the free part, and its length has two bytes
 unfoldable pub hasRoom : List ℕ → List ℕ → Bool

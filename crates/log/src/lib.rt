@@ -3,7 +3,8 @@ ghost use mathlib.Core.Path.{_≡_};
 ghost use mathlib.Core.List.{[], _∷_, _++_};
 ghost use Prim.Native.Nat.{_+_, _≤_};
 ghost use lib.ListN.{length, drop, take};
-ghost use Rattle.log.specs.Record.{little, recordOf, writtenOf, freeAfter};
+ghost use Rattle.text.specs.Little.{little};
+ghost use Rattle.log.specs.Record.{recordOf, writtenOf, freeAfter};
 
 // How many bytes a record took, or that there was no room for it. Document 01 refuses an entry without room with 8.
 pub enum Written {
@@ -19,7 +20,7 @@ const RECORD_MOST: usize = 65535;
 // The six bytes before a value of n bytes.
 fn put_head(free: &mut [u8], n: usize, bench: u8, item: u8)
     requires { ⌜ (n + 6 ≤ 65535) × (6 ≤ length (now free)) ⌝ }
-    ensures { λ _. ⌜ now (free .exit) ≡ (little (6 + n) ++ (little 1 ++ (bench ∷ item ∷ []))) ++ drop 6 (now (free .entry)) ⌝ }
+    ensures { λ _. ⌜ now (free .exit) ≡ (little 2 (6 + n) ++ (little 2 1 ++ (bench ∷ item ∷ []))) ++ drop 6 (now (free .entry)) ⌝ }
 {
     let all = HEAD + n;
     free[0] = (all % 256) as u8;

@@ -5,13 +5,9 @@ use mathlib.Core.List.{List}
 use Rattle.state.specs.declared.desk.Desk.{Desk}
 use Rattle.alerts.specs.Sheet.{rowsOf, noRows}
 use Rattle.rows.specs.declared.Rows.{Rows}
-use Rattle.sequence.specs.Calls.{Call, Reply, State, step, keyed, reported, told}
+use Rattle.sequence.specs.Calls.{Call, Reply, State, step, keyed, reported, told, stateOf}
 use Rattle.replies.specs.ReplyBytes.{keyBytes, reportBytes, whoBytes}
 use Rattle.one_call.specs.declared.Stepped.{Stepped}
-
--- a desk, a used number and a log
-abbrev pub stateOf : Desk → ℕ → List ℕ → State
-stateOf d used log = record { desk = d; used = used; log = log }
 
 -- the desk's step, with the twelve rows of document 01
 abbrev pub deskStep : Call → State → Reply Rows × State

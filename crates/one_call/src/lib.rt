@@ -3,9 +3,9 @@
 ghost use mathlib.Core.Path.{_≡_};
 ghost use Prim.Native.Nat.{ℕ};
 ghost use mathlib.Core.List.{List};
-ghost use Rattle.sequence.specs.Calls.{key, ask, report, who};
+ghost use Rattle.sequence.specs.Calls.{key, ask, report, who, stateOf};
 ghost use Rattle.one_call.specs.CallBytes.{callOf, callIn};
-ghost use Rattle.one_call.specs.OneCall.{stateOf, one, oneOf};
+ghost use Rattle.one_call.specs.OneCall.{one, oneOf};
 
 mod number;
 

@@ -1,7 +1,8 @@
 -- Numbers in bytes, little-endian.
 -- Assumes nothing.
-use Prim.Native.Nat.{ℕ, zero, suc, _+_, _*_, _/_, _%_}
+use Prim.Native.Nat.{ℕ, _+_, _*_}
 use mathlib.Core.List.{List, [], _∷_}
+use Rattle.text.specs.Little.{little}
 
 -- the bytes of a number
 abbrev pub numberLength : ℕ
@@ -11,11 +12,6 @@ numberLength = 8
 abbrev pub numberOf : List ℕ → ℕ
 numberOf [] = 0
 numberOf (b ∷ bs) = b + 256 * numberOf bs
-
--- a number in k bytes, the least first
-abbrev pub little : ℕ → ℕ → List ℕ
-little zero n = []
-little (suc k) n = n % 256 ∷ little k (n / 256)
 
 -- a number in 8 bytes
 abbrev pub numberBytes : ℕ → List ℕ

@@ -25,7 +25,7 @@ use Rattle.sequence.proofs.GatherChecks.{gather-regroups}
 use Rattle.sequence.proofs.Gathering.{final-append, gathered}
 use Rattle.sequence.proofs.Simulation.{Followed, followed}
 use Rattle.sequence.proofs.WorkLaws.{work-laws}
-use Rattle.sequence.proofs.DeskFollows.{stateOf, Good, log-length, log-sound, item-at, desk-follows}
+use Rattle.sequence.proofs.DeskFollows.{workState, Good, log-length, log-sound, item-at, desk-follows}
 use Rattle.sequence.proofs.Enters.{enter-entered, adds-none, entered-benches}
 
 -- a fresh desk is a sound one, of the right shape
@@ -44,8 +44,8 @@ fresh-good log = record {
 
 module _ {Rows : Type 0} (rowsOf : Sheet → Rows) (noRows : Rows) (log : List ℕ) where
   -- the desk after any sequence, by the work
-  follows : (cs : List Call) → Followed (step rowsOf noRows) (workStep rowsOf (length log)) (stateOf log) (Good log) noWork cs
-  follows cs = followed (step rowsOf noRows) (workStep rowsOf (length log)) (stateOf log) (Good log) (desk-follows rowsOf noRows log) cs noWork (fresh-good log)
+  follows : (cs : List Call) → Followed (step rowsOf noRows) (workStep rowsOf (length log)) (workState log) (Good log) noWork cs
+  follows cs = followed (step rowsOf noRows) (workStep rowsOf (length log)) (workState log) (Good log) (desk-follows rowsOf noRows log) cs noWork (fresh-good log)
 
   -- the answer of a call after it
   next-answer : (cs : List Call) (c : Call) → answerAfter rowsOf noRows log cs c ≡ workStep rowsOf (length log) c (workAfter rowsOf noRows log cs) .0
@@ -76,7 +76,7 @@ module _ {Rows : Type 0} (rowsOf : Sheet → Rows) (noRows : Rows) (log : List �
       record {
         regrouped = gather-regroups cs;
         gathered-answers = follows (gather cs) .answers ∙ moved .0 ∙ ap gatherAnswered (sym (follows cs .answers));
-        gathered-state = follows (gather cs) .end ∙ ap (stateOf log) (moved .1) ∙ sym end;
+        gathered-state = follows (gather cs) .end ∙ ap (workState log) (moved .1) ∙ sym end;
         answers = follows cs .answers;
         lines = ap (λ (s : State). s .desk .lines) end;
         entry = λ before after bench e h. next-entry before bench h;

@@ -55,8 +55,8 @@ deskOf w = record { lines = map lineOf (w .typed); sheet = sheetOf (w .entries) 
 abbrev pub logOf : List ℕ → List Entry → List ℕ
 logOf log es = recordsOf es ++ drop (length (recordsOf es)) log
 
-abbrev pub stateOf : List ℕ → Work → State
-stateOf log w = record { desk = deskOf w; used = length (recordsOf (w .entries)); log = logOf log (w .entries) }
+abbrev pub workState : List ℕ → Work → State
+workState log w = record { desk = deskOf w; used = length (recordsOf (w .entries)); log = logOf log (w .entries) }
 
 -- an answer, and what goes with a work
 abbrev afterWork : List ℕ → Answer → Work → After
@@ -307,7 +307,7 @@ module _ {Rows : Type 0} (rowsOf : Sheet → Rows) (noRows : Rows) (log : List �
   unfolding reportOf
   report-follows w g = rw (g .sound)
 
-  pub desk-follows : Follows (step rowsOf noRows) (workStep rowsOf (length log)) (stateOf log) (Good log)
+  pub desk-follows : Follows (step rowsOf noRows) (workStep rowsOf (length log)) (workState log) (Good log)
   desk-follows = record { keep = keeps; answer = answers; state = states }
     where
       keeps : (c : Call) (w : Work) → Good log w → Good log (workStep rowsOf (length log) c w .1)
@@ -315,12 +315,12 @@ module _ {Rows : Type 0} (rowsOf : Sheet → Rows) (noRows : Rows) (log : List �
       keeps (ask report) w g = g
       keeps (ask (who item)) w g = g
 
-      answers : (c : Call) (w : Work) → Good log w → step rowsOf noRows c (stateOf log w) .0 ≡ workStep rowsOf (length log) c w .0
+      answers : (c : Call) (w : Work) → Good log w → step rowsOf noRows c (workState log w) .0 ≡ workStep rowsOf (length log) c w .0
       answers (key bench byte) w g = ap (λ (a : After). keyed (a .answer)) (key-follows log w bench byte g)
       answers (ask report) w g = report-follows w g
       answers (ask (who item)) w g = ap told (who-follows log w g item)
 
-      states : (c : Call) (w : Work) → Good log w → step rowsOf noRows c (stateOf log w) .1 ≡ stateOf log (workStep rowsOf (length log) c w .1)
+      states : (c : Call) (w : Work) → Good log w → step rowsOf noRows c (workState log w) .1 ≡ workState log (workStep rowsOf (length log) c w .1)
       states (key bench byte) w g = ap left (key-follows log w bench byte g)
       states (ask report) w g = refl
       states (ask (who item)) w g = refl

@@ -37,13 +37,17 @@ pub record State : Type 0 where
   pub used : ℕ
   pub log : List ℕ
 
+-- a desk, a used number and a log
+abbrev pub stateOf : Desk → ℕ → List ℕ → State
+stateOf d used log = record { desk = d; used = used; log = log }
+
 -- "It starts from a fresh desk and a log of any length and content, none used"
 abbrev pub freshState : List ℕ → State
-freshState log = record { desk = freshDesk; used = 0; log = log }
+freshState log = stateOf freshDesk 0 log
 
 -- what a key call leaves to the next call
 abbrev pub left : After → State
-left a = record { desk = a .desk; used = a .used; log = a .log }
+left a = stateOf (a .desk) (a .used) (a .log)
 
 -- the twelve rows of a sheet, and the rows that go with a refusal, are defined with Report: here they may be any
 module _ {Rows : Type 0} (rowsOf : Sheet → Rows) (noRows : Rows) where

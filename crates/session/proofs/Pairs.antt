@@ -10,8 +10,8 @@ use lib.Seq.{drop-cons}
 use Rattle.alerts.specs.Sheet.{rowsOf, noRows}
 use Rattle.calls.specs.Key.{After, after, keyOf}
 use Rattle.calls.specs.declared.key.Keyed.{Keyed}
-use Rattle.sequence.specs.Calls.{Call, key, State, left, step, final}
-use Rattle.session.specs.Play.{benchOf, pairsOf, stands, played}
+use Rattle.sequence.specs.Calls.{Call, key, State, left, step, final, stateOf}
+use Rattle.session.specs.Play.{benchOf, pairsOf, played}
 
 -- after i pairs the state s stands, from the state first
 pub record Ran (input : List ℕ) (first s : State) (i : ℕ) : Type 0 where
@@ -41,7 +41,7 @@ pair-at input at h = simp towards-suc
 pub ran-next : {input log : List ℕ} {first s : State} {i bench : ℕ} {r : Keyed} → Ran input first s i → 2 * i + 1 < length input
     → bench ≡ benchOf (getD input (2 * i) 0)
     → after r log ≡ keyOf (s .desk) (s .used) (s .log) bench (getD input (2 * i + 1) 0)
-    → Ran input first (stands (r .desk) (r .used) log) (i + 1)
+    → Ran input first (stateOf (r .desk) (r .used) log) (i + 1)
 ran-next {input} {log} {first} {s} {i} {bench} {r} ran h b e =
     let byte = getD input (2 * i + 1) 0 in
     let rest : List Call = pairsOf (drop (2 * i + 2) input) in
@@ -49,7 +49,7 @@ ran-next {input} {log} {first} {s} {i} {bench} {r} ran h b e =
     let on : 2 * (i + 1) ≡ 2 * i + 2 = omega arith in
     record {
       leads =
-          ap (λ (n : ℕ). played (stands (r .desk) (r .used) log) (drop n input)) on
+          ap (λ (n : ℕ). played (stateOf (r .desk) (r .used) log) (drop n input)) on
           ∙ ap (λ (a : After). final (step rowsOf noRows) (left a) rest) q
           ∙ sym (ap (final (step rowsOf noRows) s) (pair-at input (2 * i) h))
           ∙ ran .leads;

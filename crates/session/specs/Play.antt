@@ -4,9 +4,8 @@ use Prim.Native.Nat.{ℕ, _-_}
 use mathlib.Core.Bool.{cond}
 use mathlib.Core.List.{List, [], _∷_}
 use Rattle.text.specs.Run.{between}
-use Rattle.state.specs.declared.desk.Desk.{Desk}
 use Rattle.alerts.specs.Sheet.{rowsOf, noRows}
-use Rattle.sequence.specs.Calls.{Call, key, State, step, final}
+use Rattle.sequence.specs.Calls.{Call, key, State, stateOf, step, final}
 use Rattle.session.specs.declared.play.Played.{Played}
 
 -- "a bench digit": `0` to `3`; "Any other first byte goes in as bench 255"
@@ -19,13 +18,9 @@ pairsOf [] = []
 pairsOf (first ∷ []) = []
 pairsOf (first ∷ byte ∷ rest) = key (benchOf first) byte ∷ pairsOf rest
 
--- a desk, a used number and a log, as a sequence of calls has them
-abbrev pub stands : Desk → ℕ → List ℕ → State
-stands d used log = record { desk = d; used = used; log = log }
-
 -- the function's result and what the log then holds
-abbrev pub standsAfter : Played → List ℕ → State
-standsAfter r log = stands (r .desk) (r .used) log
+abbrev pub stateLeft : Played → List ℕ → State
+stateLeft r log = stateOf (r .desk) (r .used) log
 
 -- what the pairs of an input leave; a refused call leaves everything, so that "refusals are passed over"
 abbrev pub played : State → List ℕ → State

@@ -1,6 +1,7 @@
 // A session: pairs of a bench digit and a key byte, each one key call.
 ghost use mathlib.Core.Path.{_≡_};
-ghost use Rattle.session.specs.Play.{benchOf, stands, standsAfter, played};
+ghost use Rattle.sequence.specs.Calls.{stateOf};
+ghost use Rattle.session.specs.Play.{benchOf, stateLeft, played};
 use state::desk::Desk;
 
 // What a session leaves beside the log: the desk and the used number.
@@ -27,7 +28,7 @@ pub fn bench_of(first: u8) -> u64
 
 // Plays every whole pair of the input. Refusals are passed over, and so is a last odd byte.
 pub fn play_pairs(d: Desk, used: usize, log: &mut [u8], input: &[u8]) -> Played
-    ensures { λ r. ⌜ standsAfter r (now (log .exit)) ≡ played (stands d used (now (log .entry))) (now (input .entry)) ⌝ }
+    ensures { λ r. ⌜ stateLeft r (now (log .exit)) ≡ played (stateOf d used (now (log .entry))) (now (input .entry)) ⌝ }
 {
     let pairs = input.len() / 2;
     let mut desk = d;

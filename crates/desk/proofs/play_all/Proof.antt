@@ -5,13 +5,13 @@ use native.Mathlib.Omega.{arith}
 use mathlib.Core.Path.{_≡_}
 use borrow.Author.Tests.{not-false}
 use lib.ListN.{length}
-use Rattle.session.specs.Play.{standsAfter}
+use Rattle.session.specs.Play.{stateLeft}
 use Rattle.desk.proofs.Parts.{Reached, reached-none, reached-next, reached-end, reached-all}
 use Rattle.desk.proofs.play_all.Statement.{statement}
 use Rattle.desk.proofs.play_all.Tie as tie
 
 abbrev Inv-loop : tie.InvT-loop
-Inv-loop log₀ played₀ turns₀ log played turns = Reached log₀ (standsAfter played log) × (length log ≡ length log₀)
+Inv-loop log₀ played₀ turns₀ log played turns = Reached log₀ (stateLeft played log) × (length log ≡ length log₀)
 
 abbrev μ-loop : tie.MeasureT-loop
 μ-loop log₀ played₀ turns₀ log played turns = turns

@@ -2,9 +2,9 @@
 -- Assumes nothing.
 use mathlib.Core.Path.{_≡_, _∙_, ap}
 use denote.Ref.{now}
-use Rattle.sequence.specs.Calls.{Call}
+use Rattle.sequence.specs.Calls.{Call, stateOf}
 use Rattle.one_call.specs.CallBytes.{callOf, callIn}
-use Rattle.one_call.specs.OneCall.{stateOf, oneOf}
+use Rattle.one_call.specs.OneCall.{oneOf}
 use borrow.Author.Needs.{needs}
 use Rattle.one_call.proofs.play_call.Statement.{statement}
 use Rattle.one_call.proofs.play_call.Tie as tie

@@ -5,7 +5,8 @@ use Prim.Native.Nat.{ℕ}
 use borrow.Author.Tests.{ne-eqb}
 use denote.Ref.{now}
 use Rattle.one_call.specs.CallBytes.{callOf}
-use Rattle.one_call.specs.OneCall.{stateOf, oneOf}
+use Rattle.sequence.specs.Calls.{stateOf}
+use Rattle.one_call.specs.OneCall.{oneOf}
 use borrow.Author.Needs.{needs}
 use Rattle.one_call.proofs.play_one.Statement.{statement}
 use Rattle.one_call.proofs.play_one.Tie as tie

@@ -6,9 +6,9 @@ use Prim.Native.Nat.{ℕ}
 use Rattle.state.specs.declared.desk.Desk.{Desk}
 use Rattle.alerts.specs.Sheet.{rowsOf, noRows}
 use Rattle.questions.specs.declared.report.Reported.{Reported}
-use Rattle.sequence.specs.Calls.{reported, reportOf}
+use Rattle.sequence.specs.Calls.{reported, reportOf, stateOf}
 use Rattle.sequence.proofs.Desk.{report-is}
-use Rattle.one_call.specs.OneCall.{replyBytes, One, stateOf}
+use Rattle.one_call.specs.OneCall.{replyBytes, One}
 use borrow.Author.Needs.{needs}
 use Rattle.one_call.proofs.play_report.Statement.{statement}
 use Rattle.one_call.proofs.play_report.Tie as tie

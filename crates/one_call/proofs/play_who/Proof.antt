@@ -6,8 +6,8 @@ use Prim.Native.Nat.{ℕ}
 use Rattle.state.specs.declared.desk.Desk.{Desk}
 use Rattle.questions.specs.Who.{whoOf}
 use Rattle.questions.specs.declared.who.Told.{Told}
-use Rattle.sequence.specs.Calls.{told}
-use Rattle.one_call.specs.OneCall.{replyBytes, One, stateOf}
+use Rattle.sequence.specs.Calls.{told, stateOf}
+use Rattle.one_call.specs.OneCall.{replyBytes, One}
 use borrow.Author.Needs.{needs}
 use Rattle.one_call.proofs.play_who.Statement.{statement}
 use Rattle.one_call.proofs.play_who.Tie as tie

@@ -9,10 +9,10 @@ use denote.Ref.{now}
 use lib.ListN.{length, drop, length-map}
 use Rattle.text.proofs.Parts.{rest-part}
 use Rattle.state.specs.declared.desk.Desk.{Desk}
-use Rattle.sequence.specs.Calls.{State, freshState}
+use Rattle.sequence.specs.Calls.{State, freshState, stateOf}
 use Rattle.one_call.specs.CallBytes.{callLength, callIn, callsIn}
 use Rattle.replies.specs.ReplyBytes.{replyLength}
-use Rattle.one_call.specs.OneCall.{One, stateOf, replyBytes, deskStep, oneOf}
+use Rattle.one_call.specs.OneCall.{One, replyBytes, deskStep, oneOf}
 use Rattle.play.specs.Written.{stateBytes}
 use Rattle.play.proofs.CallLaws.{calls-next, none-left}
 use Rattle.play.proofs.Runs.{Ran, ran-none, ran-next, ran-all}

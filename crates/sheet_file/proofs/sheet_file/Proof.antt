@@ -3,8 +3,8 @@
 use mathlib.Core.Path.{_≡_, _∙_, ap}
 use denote.Ref.{now}
 use Rattle.state.specs.declared.desk.Desk.{Desk}
-use Rattle.sequence.specs.Calls.{State}
-use Rattle.session.specs.Play.{stands, played}
+use Rattle.sequence.specs.Calls.{State, stateOf}
+use Rattle.session.specs.Play.{played}
 use Rattle.sheet_file.specs.Told.{numbered, filedFrom}
 use borrow.Author.Needs.{needs}
 use Rattle.sheet_file.proofs.sheet_file.Statement.{statement}
@@ -16,7 +16,7 @@ returns c =
     let p = w .before .before .before .before .before in
     let f = p .before .before in
     let a = c .before .before .before .before .before .before .before .before .before .before .before .before .before .before .before .args in
-    let start = ap (λ (d : Desk). played (stands d 0 (now (a .log))) (now (a .input))) (f .fresh-desk .ensures) in
+    let start = ap (λ (d : Desk). played (stateOf d 0 (now (a .log))) (now (a .input))) (f .fresh-desk .ensures) in
     simp (c .file-number .ensures)
     (ap (numbered (p .play-pairs .last .1 .1 .0)) (w .write-file .ensures) ∙ ap (λ (s : State). filedFrom s (now (a .name)) (now (a .out))) (p .play-pairs .ensures ∙ start))
 

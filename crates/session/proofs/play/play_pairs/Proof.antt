@@ -5,13 +5,13 @@ use native.Mathlib.Omega.{arith}
 use mathlib.Core.Path.{_≡_}
 use Prim.Native.Nat.{_≤_, _-_}
 use lib.ListN.{length}
-use Rattle.session.specs.Play.{stands}
+use Rattle.sequence.specs.Calls.{stateOf}
 use Rattle.session.proofs.Pairs.{Ran, ran-none, ran-next, ran-all}
 use Rattle.session.proofs.play.play_pairs.Statement.{statement}
 use Rattle.session.proofs.play.play_pairs.Tie as tie
 
 abbrev Inv-loop : tie.InvT-loop
-Inv-loop used log₀ input pairs desk₀ at₀ i₀ log desk at i = (i ≤ pairs) × (length log ≡ length log₀) × Ran input (stands desk₀ at₀ log₀) (stands desk at log) i
+Inv-loop used log₀ input pairs desk₀ at₀ i₀ log desk at i = (i ≤ pairs) × (length log ≡ length log₀) × Ran input (stateOf desk₀ at₀ log₀) (stateOf desk at log) i
 
 abbrev μ-loop : tie.MeasureT-loop
 μ-loop used log₀ input pairs desk₀ at₀ i₀ log desk at i = pairs - i
