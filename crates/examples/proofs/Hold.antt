@@ -7,7 +7,8 @@ use Rattle.text.specs.Run.{between, other, runOf, all, hasAt}
 use Rattle.equality.specs.Same.{lower, sameBy, beginsFolded}
 use Rattle.decimal.specs.Digits.{valueFrom}
 use Rattle.decimal.specs.Reading.{closes, isTail, sizeOf, pointedOf, unsignedOf, readingOf, isNumber}
-use Rattle.values.specs.Value.{mayBegin, isReserved, isBare, isQuotedBy, isQuoted, isValue, isUnassigned, textOf}
+use Rattle.quotes.specs.Quoted.{isQuotedBy, isQuoted, textOf}
+use Rattle.values.specs.Value.{mayBegin, isReserved, isBare, isValue, isUnassigned}
 use Rattle.items.specs.Items.{items, findFrom}
 use Rattle.cif.specs.Line.{splitOf, classOf}
 use Rattle.terms.specs.Term.{kindAt, isCount, countOf, termOf}

@@ -5,7 +5,7 @@ use mathlib.Core.Bool.{Bool, cond, _||_}
 use mathlib.Core.List.{List}
 use Rattle.text.specs.Quote.{bytes}
 use Rattle.equality.specs.Same.{exact, sameBy}
-use Rattle.values.specs.Value.{textOf}
+use Rattle.quotes.specs.Quoted.{textOf}
 use Rattle.formula.specs.Recognised.{allRecognised}
 use Rattle.formula_order.specs.Order.{inOrder}
 use Rattle.formula_class.specs.Class.{classOf}

@@ -27,7 +27,7 @@ fn tested_row(formula: &[u8], passed: bool, level: u8) -> Row
 pub fn recognised_row(formula: &[u8]) -> Row
     ensures { λ r. ⌜ r ≡ row1 (now (formula .entry)) ⌝ }
 {
-    let passed = formula::recognised::all_recognised(values::text_of(formula));
+    let passed = formula::recognised::all_recognised(quotes::text_of(formula));
     tested_row(formula, passed, 4)
 }
 
@@ -35,7 +35,7 @@ pub fn recognised_row(formula: &[u8]) -> Row
 pub fn order_row(formula: &[u8]) -> Row
     ensures { λ r. ⌜ r ≡ row2 (now (formula .entry)) ⌝ }
 {
-    let passed = formula_order::in_order(values::text_of(formula));
+    let passed = formula_order::in_order(quotes::text_of(formula));
     tested_row(formula, passed, 3)
 }
 
@@ -69,11 +69,11 @@ pub fn class_row(formula: &[u8], category: &[u8]) -> Row
     if is_missing(category) {
         return make_row(1, 1);
     }
-    let t = values::text_of(formula);
+    let t = quotes::text_of(formula);
     if !formula::recognised::all_recognised(t) {
         return make_row(1, 2);
     }
-    if is_in_class(formula_class::class_of(t), values::text_of(category)) {
+    if is_in_class(formula_class::class_of(t), quotes::text_of(category)) {
         make_row(0, 0)
     } else {
         make_row(1, 0)

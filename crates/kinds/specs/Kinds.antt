@@ -9,7 +9,8 @@ use Rattle.text.specs.Quote.{bytes}
 use Rattle.text.specs.Run.{all}
 use Rattle.equality.specs.Same.{exact, sameBy}
 use Rattle.decimal.specs.Reading.{isNumber}
-use Rattle.values.specs.Value.{isUnassigned, isValue, textOf}
+use Rattle.quotes.specs.Quoted.{textOf}
+use Rattle.values.specs.Value.{isUnassigned, isValue}
 use Rattle.items.specs.Items.{itemCount, rowOf}
 use Rattle.items.specs.Typed.{lineMost, isTyped}
 use Rattle.items.specs.declared.Kind.{Kind}

@@ -42,7 +42,7 @@ fn is_of_kind(kind: Kind, v: &[u8]) -> bool
     match kind {
         Kind::Text => true,
         Kind::Number => decimal::is_number(v),
-        Kind::Category => is_category(values::text_of(v)),
+        Kind::Category => is_category(quotes::text_of(v)),
     }
 }
 

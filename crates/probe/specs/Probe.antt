@@ -6,7 +6,8 @@ use mathlib.Core.List.{List}
 use lib.IntN.{ℤ, pos}
 use Rattle.decimal.specs.declared.Reading.{Reading}
 use Rattle.decimal.specs.declared.Reading.the-variants.{Number, Nothing}
-use Rattle.values.specs.Value.{isValue, isQuoted, isUnassigned}
+use Rattle.quotes.specs.Quoted.{isQuoted}
+use Rattle.values.specs.Value.{isValue, isUnassigned}
 use Rattle.items.specs.declared.Named.{Named}
 use Rattle.items.specs.declared.Named.the-variants.{Item, Unknown}
 use Rattle.cif.specs.declared.line.Split.{Split}

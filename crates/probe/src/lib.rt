@@ -46,7 +46,7 @@ pub extern "C" fn probe_value(t: &[u8]) -> u64
     if values::is_unassigned(t) {
         return 1;
     }
-    if values::is_quoted(t) {
+    if quotes::is_quoted(t) {
         return 3;
     }
     if values::is_value(t) {

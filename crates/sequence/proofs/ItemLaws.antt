@@ -10,7 +10,8 @@ use borrow.Author.Tests.{leb-true, le-leb, lt-ltb, ne-eqb}
 use lib.Dec.{ltb, leb, eqb}
 use lib.ListN.{length, drop}
 use Rattle.text.proofs.Bools.{and-both, or-either}
-use Rattle.values.specs.Value.{isBare, isQuotedBy, isQuoted, isValue}
+use Rattle.quotes.specs.Quoted.{isQuotedBy, isQuoted}
+use Rattle.values.specs.Value.{isBare, isValue}
 use Rattle.items.specs.Items.{rowOf}
 use Rattle.items.specs.Typed.{lineMost}
 use Rattle.kinds.specs.Kinds.{passes, fits}

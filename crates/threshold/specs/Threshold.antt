@@ -12,7 +12,7 @@ use Rattle.equality.specs.Same.{exact, sameBy}
 use Rattle.decimal.specs.Reading.{readingOf}
 use Rattle.decimal.specs.declared.Reading.{Reading}
 use Rattle.decimal.specs.declared.Reading.the-variants.{Number, Nothing}
-use Rattle.values.specs.Value.{textOf}
+use Rattle.quotes.specs.Quoted.{textOf}
 use Rattle.levels.specs.Level.{levelOf}
 use Rattle.rows.specs.Rows.{rowOf, missing}
 use Rattle.rows.specs.declared.Row.{Row}

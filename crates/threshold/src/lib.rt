@@ -124,5 +124,5 @@ pub fn threshold_row(threshold: &[u8]) -> Row
     if is_missing(threshold) {
         return make_row(2, 1);
     }
-    row_of_text(values::text_of(threshold))
+    row_of_text(quotes::text_of(threshold))
 }

@@ -14,7 +14,8 @@ use Rattle.text.specs.Quote.{bytes}
 use Rattle.text.specs.Run.{runOf, all, between, other}
 use Rattle.text.proofs.Bools.{and-both, or-either, not-holds}
 use Rattle.text.proofs.Runs.{run-none}
-use Rattle.values.specs.Value.{mayBegin, isReserved, isBare, inner, isQuotedBy, isQuoted, isValue, textOf}
+use Rattle.quotes.specs.Quoted.{inner, isQuotedBy, isQuoted, textOf}
+use Rattle.values.specs.Value.{mayBegin, isReserved, isBare, isValue}
 use Rattle.values.specs.Wording.{Mark, QuotedText, BareText, ValueText}
 
 -- a byte differs from every byte of a text exactly when it is not in the text

@@ -9,7 +9,7 @@ use lib.Signed.{mag}
 use Rattle.decimal.specs.Reading.{readingOf}
 use Rattle.decimal.specs.declared.Reading.{Reading}
 use Rattle.decimal.specs.declared.Reading.the-variants.{Number, Nothing}
-use Rattle.values.specs.Value.{textOf}
+use Rattle.quotes.specs.Quoted.{textOf}
 use Rattle.formula.specs.Recognised.{allRecognised}
 use Rattle.formula.specs.Sum.{sumOf}
 use Rattle.formula_class.specs.declared.Class.the-variants.{MetalOrganic, Organic}

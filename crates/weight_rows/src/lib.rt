@@ -3,7 +3,7 @@ ghost use mathlib.Core.Path.{_≡_};
 ghost use Prim.Native.Nat.{_<_, _≤_, _^_};
 ghost use lib.IntN.{pos};
 ghost use lib.Signed.{mag};
-ghost use Rattle.values.specs.Value.{textOf};
+ghost use Rattle.quotes.specs.Quoted.{textOf};
 ghost use Rattle.rows.specs.Rows.{rowOf};
 ghost use Rattle.weight_rows.specs.WeightRows.{weighedOf, SmallWeighed, ratioOutside, ratioLevel, ratioRow, row4, farApart, isWeighedCategory, differenceRow, row5};
 use decimal::Reading;
@@ -114,7 +114,7 @@ fn difference_row(w: Weighed, category: &[u8]) -> Row
             if !is_far_apart(given, sum) {
                 return make_row(0, 0);
             }
-            if is_weighed_category(values::text_of(category)) {
+            if is_weighed_category(quotes::text_of(category)) {
                 make_row(2, 0)
             } else {
                 make_row(0, 0)
@@ -144,7 +144,7 @@ pub fn weight_rows(formula: &[u8], weight: &[u8], category: &[u8]) -> WeightRows
     if is_missing(weight) {
         return missing_rows();
     }
-    let weighed = weigh(values::text_of(formula), weight);
+    let weighed = weigh(quotes::text_of(formula), weight);
     let ratio = ratio_row(weighed);
     if is_missing(category) {
         return WeightRows {

@@ -11,7 +11,7 @@ use Rattle.decimal.proofs.Signs.{back, small-fits}
 use mathlib.Core.Bool.{Bool, true, false}
 use denote.Ref.{now}
 use borrow.Author.Tests.{not-true, not-false}
-use Rattle.values.specs.Value.{textOf}
+use Rattle.quotes.specs.Quoted.{textOf}
 use Rattle.weight_rows.specs.WeightRows.{SmallWeighed, farApart, isWeighedCategory, differenceRow}
 use Rattle.weight_rows.specs.declared.Weighed.{Weighed}
 use borrow.Author.Needs.{needs}

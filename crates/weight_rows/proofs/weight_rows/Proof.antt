@@ -5,7 +5,7 @@ use mathlib.Core.Bool.{true, false}
 use mathlib.Core.List.{List}
 use Prim.Native.Nat.{ℕ}
 use denote.Ref.{now}
-use Rattle.values.specs.Value.{textOf}
+use Rattle.quotes.specs.Quoted.{textOf}
 use Rattle.rows.specs.Rows.{missing}
 use Rattle.weight_rows.specs.WeightRows.{weighedOf, ratioRow, differenceRow}
 use Rattle.weight_rows.specs.declared.Weighed.{Weighed}

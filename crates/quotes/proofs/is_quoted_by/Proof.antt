@@ -1,11 +1,11 @@
--- `values::is_quoted_by` meets its contract: each return has the tests of `isQuotedBy` on its way.
+-- `quotes::is_quoted_by` meets its contract: each return has the tests of `isQuotedBy` on its way.
 -- Assumes nothing.
 use borrow.Author.Tests.{eq-eqb, ne-eqb, le-leb, lt-leb}
-use Rattle.values.specs.Value.{isQuotedBy}
-use Rattle.values.proofs.Quotes.{inner-part}
+use Rattle.quotes.specs.Quoted.{isQuotedBy}
+use Rattle.quotes.proofs.Quotes.{inner-part}
 use borrow.Author.Needs.{needs}
-use Rattle.values.proofs.is_quoted_by.Statement.{statement}
-use Rattle.values.proofs.is_quoted_by.Tie as tie
+use Rattle.quotes.proofs.is_quoted_by.Statement.{statement}
+use Rattle.quotes.proofs.is_quoted_by.Tie as tie
 
 returns : tie.Need-returns
 unfolding isQuotedBy

@@ -1,10 +1,10 @@
--- `values::is_quoted` meets its contract: one mark or the other.
+-- `quotes::is_quoted` meets its contract: one mark or the other.
 -- Assumes nothing.
 use mathlib.Core.Path.{sym, _∙_}
-use Rattle.values.specs.Value.{isQuoted}
+use Rattle.quotes.specs.Quoted.{isQuoted}
 use borrow.Author.Needs.{needs}
-use Rattle.values.proofs.is_quoted.Statement.{statement}
-use Rattle.values.proofs.is_quoted.Tie as tie
+use Rattle.quotes.proofs.is_quoted.Statement.{statement}
+use Rattle.quotes.proofs.is_quoted.Tie as tie
 
 returns : tie.Need-returns
 unfolding isQuoted

@@ -10,7 +10,7 @@ use borrow.Author.Tests.{leb-true}
 use lib.Dec.{leb}
 use lib.ListN.{length, take, drop}
 use Rattle.text.proofs.Bools.{and-both, or-either}
-use Rattle.values.specs.Value.{inner, isQuotedBy, isQuoted}
+use Rattle.quotes.specs.Quoted.{inner, isQuotedBy, isQuoted}
 
 quoted-by-long : (q : ℕ) (t : List ℕ) → isQuotedBy q t ≡ true → 2 ≤ length t
 unfolding isQuotedBy

@@ -1,14 +1,14 @@
--- `values::text_of` meets its contract: a quoted value has its two marks, and the text is between them.
+-- `quotes::text_of` meets its contract: a quoted value has its two marks, and the text is between them.
 -- Assumes nothing.
 use native.Mathlib.Omega.{arith}
 use mathlib.Core.Path.{_≡_, sym, _∙_}
 use Prim.Native.Nat.{_≤_}
 use lib.ListN.{length}
-use Rattle.values.specs.Value.{textOf}
-use Rattle.values.proofs.Quotes.{quoted-long, inner-part}
+use Rattle.quotes.specs.Quoted.{textOf}
+use Rattle.quotes.proofs.Quotes.{quoted-long, inner-part}
 use borrow.Author.Needs.{needs}
-use Rattle.values.proofs.text_of.Statement.{statement}
-use Rattle.values.proofs.text_of.Tie as tie
+use Rattle.quotes.proofs.text_of.Statement.{statement}
+use Rattle.quotes.proofs.text_of.Tie as tie
 
 long : (c : tie.Then1) → 2 ≤ length (c .before .before .before .args .s .now)
 long c = quoted-long _ (sym (c .before .is-quoted .ensures) ∙ c .if1 .taken)
