@@ -1,7 +1,7 @@
 -- `play::result_of` meets its contract: each arm is a case of the definitions.
 -- Assumes nothing.
 use mathlib.Core.Path.{sym, ap}
-use Rattle.play.specs.Play.{resultOf}
+use Rattle.play.specs.Told.{resultOf}
 use borrow.Author.Needs.{needs}
 use Rattle.play.proofs.result_of.Statement.{statement}
 use Rattle.play.proofs.result_of.Tie as tie

@@ -8,10 +8,9 @@ use lib.ListN.{length, drop}
 use Rattle.alerts.specs.Sheet.{rowsOf, noRows}
 use Rattle.sequence.specs.Sequences.{stateAfter}
 use Rattle.one_call.specs.CallBytes.{callLength, callsIn, kindsHold, callCount}
-use Rattle.play.specs.Written.{writtenBytes, writtenLength}
-use Rattle.play.specs.declared.Played.{Played}
-use Rattle.play.specs.declared.Played.the-variants.{Done, CutShort, NoSuchCall, NoRoom}
-use Rattle.play.specs.declared.PlayResult.{PlayResult}
+use Rattle.call_runs.specs.Written.{writtenBytes, writtenLength}
+use Rattle.call_runs.specs.declared.Played.{Played}
+use Rattle.call_runs.specs.declared.Played.the-variants.{Done, CutShort, NoSuchCall, NoRoom}
 
 -- everything that playing leaves
 pub record After : Type 0 where
@@ -43,32 +42,3 @@ playOf calls log out =
     (cond (leb (writtenLength (callCount calls)) (length out)) (ran (callCount calls) calls log out) (refused NoRoom log out))
     (refused NoSuchCall log out))
     (refused CutShort log out)
-
--- the numbers of the answers
-abbrev pub playedNumber : Played → ℕ
-playedNumber (Done n) = 0
-playedNumber CutShort = 1
-playedNumber NoSuchCall = 2
-playedNumber NoRoom = 3
-
--- how many bytes were written: none with a refusal
-abbrev pub playedLength : Played → ℕ
-playedLength (Done n) = n
-playedLength CutShort = 0
-playedLength NoSuchCall = 0
-playedLength NoRoom = 0
-
--- the same for a program in C
-pub record Told : Type 0 where
-  pub result : PlayResult
-  pub log : List ℕ
-  pub out : List ℕ
-
-abbrev pub told : PlayResult → List ℕ → List ℕ → Told
-told r log out = record { result = r; log = log; out = out }
-
-abbrev pub resultOf : Played → PlayResult
-resultOf p = record { written = playedLength p; answer = playedNumber p }
-
-abbrev pub numbered : After → Told
-numbered a = record { result = resultOf (a .answer); log = a .log; out = a .out }

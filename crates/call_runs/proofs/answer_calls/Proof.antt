@@ -1,4 +1,4 @@
--- `play::answer_calls` meets its contract. The loop's invariant: the answers of the calls passed are written, and the calls that are left lead from the
+-- `call_runs::answer_calls` meets its contract. The loop's invariant: the answers of the calls passed are written, and the calls that are left lead from the
 -- present desk and log to the end. The measure is what is left of the calls. Assumes nothing.
 use borrow.Author.Needs.{needs}
 use native.Mathlib.Omega.{arith}
@@ -13,11 +13,11 @@ use Rattle.sequence.specs.Calls.{State, freshState, stateOf}
 use Rattle.one_call.specs.CallBytes.{callLength, callIn, callsIn}
 use Rattle.replies.specs.ReplyBytes.{replyLength}
 use Rattle.one_call.specs.OneCall.{One, replyBytes, deskStep, oneOf}
-use Rattle.play.specs.Written.{stateBytes}
-use Rattle.play.proofs.CallLaws.{calls-next, none-left}
-use Rattle.play.proofs.Runs.{Ran, ran-none, ran-next, ran-all}
-use Rattle.play.proofs.answer_calls.Statement.{statement}
-use Rattle.play.proofs.answer_calls.Tie as tie
+use Rattle.call_runs.specs.Written.{stateBytes}
+use Rattle.call_runs.proofs.CallLaws.{calls-next, none-left}
+use Rattle.call_runs.proofs.Runs.{Ran, ran-none, ran-next, ran-all}
+use Rattle.call_runs.proofs.answer_calls.Statement.{statement}
+use Rattle.call_runs.proofs.answer_calls.Tie as tie
 
 abbrev Inv-loop : tie.InvT-loop
 Inv-loop calls n log₀ out₀ d₀ used₀ i₀ log out d used i = (i ≤ n) × (length log ≡ length log₀) × Ran deskStep replyBytes (freshState log₀) (callsIn n calls) out₀ (callsIn (n - i) (drop (callLength * i) calls)) i (stateOf d used log) out

@@ -1,4 +1,4 @@
--- `play::are_kinds` meets its contract. The loop's invariant: the kinds passed are right, so the rest decides.
+-- `call_runs::are_kinds` meets its contract. The loop's invariant: the kinds passed are right, so the rest decides.
 -- The measure is what is left of the calls. Assumes nothing.
 use native.Mathlib.Omega.{arith}
 use mathlib.Core.Path.{_≡_, refl, sym, ap, _∙_}
@@ -7,9 +7,9 @@ use borrow.Author.Tests.{le-leb, lt-leb}
 use denote.Ref.{now}
 use lib.ListN.{drop}
 use Rattle.one_call.specs.CallBytes.{callLength, kindsHold}
-use Rattle.play.proofs.CallLaws.{kinds-next, none-left}
-use Rattle.play.proofs.are_kinds.Statement.{statement}
-use Rattle.play.proofs.are_kinds.Tie as tie
+use Rattle.call_runs.proofs.CallLaws.{kinds-next, none-left}
+use Rattle.call_runs.proofs.are_kinds.Statement.{statement}
+use Rattle.call_runs.proofs.are_kinds.Tie as tie
 
 abbrev Inv-loop : tie.InvT-loop
 Inv-loop calls n i₀ i = (i ≤ n) × (kindsHold n calls ≡ kindsHold (n - i) (drop (callLength * i) calls))

@@ -12,9 +12,9 @@ use Rattle.sequence.specs.Sequences.{deskAnswers}
 use Rattle.one_call.specs.CallBytes.{callsIn}
 use Rattle.replies.specs.ReplyBytes.{replyLength}
 use Rattle.desk_bytes.specs.DeskBytes.{deskLength}
-use Rattle.play.specs.Written.{answersBytes, writtenLength, AnswersWritten, AllWritten}
-use Rattle.play.specs.Play.{After, after, ran}
-use Rattle.play.specs.declared.Played.the-variants.{Done}
+use Rattle.call_runs.specs.Written.{answersBytes, writtenLength, AnswersWritten, AllWritten}
+use Rattle.call_runs.specs.Play.{After, after, ran}
+use Rattle.call_runs.specs.declared.Played.the-variants.{Done}
 use Rattle.copies.proofs.Copies.{copied-next, copied-start}
 
 pub filled : (log₀ out₀ : List ℕ) (cs : List Call) (n : ℕ) (desk : List ℕ) {log out last : List ℕ} → AnswersWritten log₀ out₀ cs n desk log out

@@ -1,12 +1,12 @@
--- `play::play_fitting` meets its contract: the answers, and after them the desk.
+-- `call_runs::play_fitting` meets its contract: the answers, and after them the desk.
 -- Assumes nothing.
 use native.Mathlib.Omega.{arith}
 use denote.Ref.{now}
 use Rattle.one_call.specs.CallBytes.{callsIn}
-use Rattle.play.proofs.Fills.{filled}
+use Rattle.call_runs.proofs.Fills.{filled}
 use borrow.Author.Needs.{needs}
-use Rattle.play.proofs.play_fitting.Statement.{statement}
-use Rattle.play.proofs.play_fitting.Tie as tie
+use Rattle.call_runs.proofs.play_fitting.Statement.{statement}
+use Rattle.call_runs.proofs.play_fitting.Tie as tie
 
 returns : tie.Need-returns
 returns c =

@@ -1,4 +1,4 @@
--- `play::play_calls` meets its contract: the first refusal that applies, else the run.
+-- `call_runs::play_calls` meets its contract: the first refusal that applies, else the run.
 -- Assumes nothing.
 use native.Mathlib.Omega.{arith}
 use mathlib.Core.Path.{_≡_, sym, _∙_}
@@ -6,12 +6,12 @@ use borrow.Author.Tests.{eq-eqb, ne-eqb, le-leb, lt-leb, not-true, not-false}
 use denote.Ref.{now}
 use lib.ListN.{length}
 use Rattle.one_call.specs.CallBytes.{callCount}
-use Rattle.play.specs.Written.{writtenLength}
-use Rattle.play.specs.Play.{playOf}
-use Rattle.play.proofs.Fills.{ran-is}
+use Rattle.call_runs.specs.Written.{writtenLength}
+use Rattle.call_runs.specs.Play.{playOf}
+use Rattle.call_runs.proofs.Fills.{ran-is}
 use borrow.Author.Needs.{needs}
-use Rattle.play.proofs.play_calls.Statement.{statement}
-use Rattle.play.proofs.play_calls.Tie as tie
+use Rattle.call_runs.proofs.play_calls.Statement.{statement}
+use Rattle.call_runs.proofs.play_calls.Tie as tie
 
 returns : tie.Need-returns
 unfolding playOf
