@@ -34,7 +34,7 @@ const SCALES: [u64; 7] = [1000000, 100000, 10000, 1000, 100, 10, 1];
 fn digit_run(s: &[u8]) -> usize
     ensures { λ r. ⌜ (r ≡ runOf isDigit (now (s .entry))) × (r ≤ length (now (s .entry))) ⌝ }
 {
-    text::run_between(s, b'0', b'9')
+    runs::run_between(s, b'0', b'9')
 }
 
 fn digit_value(b: u8) -> u64

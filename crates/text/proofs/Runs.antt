@@ -4,13 +4,12 @@ use mathlib.Core.Path.{_≡_, refl, sym, ap, _∙_}
 use mathlib.Core.Bool.{Bool, true, false, cond, _&&_, false≢true, and-true, and-assoc}
 use mathlib.Core.List.{List, [], _∷_, _++_}
 use Prim.Native.Nat.{ℕ, zero, suc, _+_, _≤_, _<_}
-use native.Mathlib.Nat.{zero-add}
 use native.Mathlib.Numerals.{add-one}
 use native.Mathlib.Omega.{arith}
 use borrow.Author.Tests.{lt-ltb, ltb-true, eq-eqb, ne-eqb, eqb-true}
 use lib.Dec.{ltb, eqb, eqb·suc-suc, eqb·zero-suc}
 use lib.ListN.{length, getD, take, drop, replicate, drop-of-length-le, length-append, take-append-drop}
-use lib.Seq.{take-add, drop-cons, length-take-le, getD-append-seam, take-suc, take-all}
+use lib.Seq.{drop-cons, length-take-le, getD-append-seam, take-suc, take-all}
 use Rattle.text.specs.Run.{runOf, all, hasAt}
 use Rattle.text.proofs.Bools.{and-both}
 
@@ -81,21 +80,6 @@ unfolding runOf all
 run-append p [] r h e = e
 run-append p (b ∷ bs) r h e = let k = and-both (p b) (all p bs) h in rw (k .0, run-append p bs r (k .1) e)
 
--- a run goes on over a text of the kind
-pub run-over : (p : ℕ → Bool) (a r : List ℕ) → all p a ≡ true → runOf p (a ++ r) ≡ length a + runOf p r
-unfolding runOf all
-run-over p [] r h = sym (zero-add (runOf p r))
-run-over p (b ∷ bs) r h =
-    let k = and-both (p b) (all p bs) h in
-    let rest = run-over p bs r (k .1) in
-    rw (k .0) (omega (arith, rest))
-
-pub passed-first : (p : ℕ → Bool) (s : List ℕ) (i : ℕ) → i ≤ length s → all p (take i s) ≡ true → Passed p s i
-passed-first p s i h a =
-    let l = length-take-le i s h in
-    let e = ap (runOf p) (sym (take-append-drop i s)) ∙ run-over p (take i s) (drop i s) a in
-    record { within = h; run = omega (arith, e, l) }
-
 -- the first byte decides whether a run is empty
 pub run-none : (p : ℕ → Bool) (b : ℕ) (bs : List ℕ) → p b ≡ false → runOf p (b ∷ bs) ≡ 0
 unfolding runOf
@@ -127,14 +111,6 @@ all-both p (x ∷ xs) b h =
     let s = and-both (p x) (all p (xs ++ b)) h in
     let r = all-both p xs b (s .1) in
     (rw (s .0, r .0), r .1)
-
-pub all-none : (p : ℕ → Bool) (s : List ℕ) → all p (take 0 s) ≡ true
-unfolding all
-all-none p s = refl
-
--- the first i and the n after them are of the kind
-pub all-further : (p : ℕ → Bool) (s : List ℕ) (i n : ℕ) → i + n ≤ length s → all p (take i s) ≡ true → all p (take n (drop i s)) ≡ true → all p (take (i + n) s) ≡ true
-all-further p s i n h a b = ap (all p) (take-add i n s) ∙ all-append p (take i s) (take n (drop i s)) a b
 
 pub all-take : (p : ℕ → Bool) (n : ℕ) (s : List ℕ) → all p s ≡ true → all p (take n s) ≡ true
 all-take p n s h = all-both p (take n s) (drop n s) (rw take-append-drop h) .0
