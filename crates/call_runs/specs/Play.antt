@@ -18,13 +18,9 @@ pub record After : Type 0 where
   pub log : List ℕ
   pub out : List ℕ
 
--- the function's result and what log and out then hold
+-- an answer, and what log and out then hold
 abbrev pub after : Played → List ℕ → List ℕ → After
 after r log out = record { answer = r; log = log; out = out }
-
--- with a refusal log and out come back equal
-abbrev pub refused : Played → List ℕ → List ℕ → After
-refused r log out = record { answer = r; log = log; out = out }
 
 -- n calls played: what is written stands at the start of out, and the other bytes stay
 abbrev pub ran : ℕ → List ℕ → List ℕ → List ℕ → After
@@ -34,11 +30,11 @@ ran n calls log out = record {
   out = writtenBytes log (callsIn n calls) ++ drop (writtenLength n) out;
 }
 
--- the first refusal that applies, else the run
+-- the first refusal that applies, with which log and out come back equal; else the run
 unfoldable pub playOf : List ℕ → List ℕ → List ℕ → After
 playOf calls log out =
     cond (eqb (length calls % callLength) 0)
     (cond (kindsHold (callCount calls) calls)
-    (cond (leb (writtenLength (callCount calls)) (length out)) (ran (callCount calls) calls log out) (refused NoRoom log out))
-    (refused NoSuchCall log out))
-    (refused CutShort log out)
+    (cond (leb (writtenLength (callCount calls)) (length out)) (ran (callCount calls) calls log out) (after NoRoom log out))
+    (after NoSuchCall log out))
+    (after CutShort log out)

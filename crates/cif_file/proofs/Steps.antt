@@ -10,11 +10,11 @@ use Rattle.copies.specs.Copy.{copied}
 use Rattle.copies.proofs.Copies.{copied-start}
 use Rattle.soundness.specs.Sound.{soundDesk}
 use Rattle.state.specs.declared.desk.Desk.{Desk}
-use Rattle.file_answers.specs.Block.{isBlockName}
+use Rattle.block_name.specs.Block.{isBlockName}
 use Rattle.cif_file.specs.File.{fileOf}
 use Rattle.cif_file.specs.Answers.{after, refused, fileStep}
-use Rattle.file_answers.specs.declared.answer.FileAnswer.{FileAnswer}
-use Rattle.file_answers.specs.declared.answer.FileAnswer.the-variants.{Written, Unsound, BadBlockName, NoRoom}
+use Rattle.file_answers.specs.declared.FileAnswer.{FileAnswer}
+use Rattle.file_answers.specs.declared.FileAnswer.the-variants.{Written, Unsound, BadBlockName, NoRoom}
 use Rattle.cif_file.specs.declared.file.Filed.{Filed}
 
 -- a refusal's result

@@ -7,10 +7,10 @@ use lib.Dec.{leb}
 use lib.ListN.{length, drop}
 use Rattle.soundness.specs.Sound.{soundDesk}
 use Rattle.state.specs.declared.desk.Desk.{Desk}
-use Rattle.file_answers.specs.Block.{isBlockName}
+use Rattle.block_name.specs.Block.{isBlockName}
 use Rattle.cif_file.specs.File.{fileOf}
-use Rattle.file_answers.specs.declared.answer.FileAnswer.{FileAnswer}
-use Rattle.file_answers.specs.declared.answer.FileAnswer.the-variants.{Written, Unsound, BadBlockName, NoRoom}
+use Rattle.file_answers.specs.declared.FileAnswer.{FileAnswer}
+use Rattle.file_answers.specs.declared.FileAnswer.the-variants.{Written, Unsound, BadBlockName, NoRoom}
 use Rattle.cif_file.specs.declared.file.Filed.{Filed}
 
 -- everything that writing leaves: the answer, "how many bytes it wrote", and the whole of the lent bytes

@@ -1,12 +1,13 @@
 -- The bytes of a sheet's CIF file (document 02, No. 1).
 -- Assumes nothing.
-use Prim.Native.Nat.{ℕ}
+use Prim.Native.Nat.{ℕ, _+_}
 use mathlib.Core.Bool.{cond}
 use mathlib.Core.List.{List, [], _∷_, _++_}
 use lib.Dec.{eqb}
 use Rattle.text.specs.Quote.{bytes}
 use Rattle.copies.specs.Each.{linesFrom}
-use Rattle.items.specs.Items.{nameOf}
+use Rattle.items.specs.Items.{nameMost, nameOf}
+use Rattle.items.specs.Typed.{lineMost}
 use Rattle.state.specs.Sheets.{valueIn}
 use Rattle.state.specs.declared.sheet.Item.{Item}
 use Rattle.state.specs.declared.sheet.Sheet.{Sheet}
@@ -18,6 +19,10 @@ ended t = t ++ (10 ∷ [])
 -- "its name as in document 01, one space, the value as typed"
 abbrev pub itemText : ℕ → List ℕ → List ℕ
 itemText k v = nameOf k ++ (32 ∷ v)
+
+-- no item's line is longer, whatever desk it stands on: name, space, value, end byte
+abbrev pub itemLineMost : ℕ
+itemLineMost = nameMost + 1 + lineMost + 1
 
 -- the line of item k; none for an empty item
 unfoldable pub itemLine : ℕ → Item → List ℕ

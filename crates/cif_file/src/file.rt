@@ -9,7 +9,7 @@ ghost use Rattle.state.specs.Sheets.{valueIn};
 ghost use Rattle.cif_file.specs.File.{ended, itemText, itemLine, fileOf};
 ghost use Rattle.cif_file.specs.Answers.{after, fileStep};
 use crate::length::lines_length;
-use file_answers::answer::FileAnswer;
+use file_answers::FileAnswer;
 use items::ITEM_COUNT;
 use state::desk::Desk;
 use state::sheet::Item;
@@ -95,7 +95,7 @@ pub fn write_file(d: Desk, name: &[u8], out: &mut [u8]) -> Filed
     if !soundness::is_sound(d) {
         return refuse(FileAnswer::Unsound);
     }
-    if !file_answers::block::is_block_name(name) {
+    if !block_name::is_block_name(name) {
         return refuse(FileAnswer::BadBlockName);
     }
     let sheet = d.sheet;

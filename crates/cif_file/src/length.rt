@@ -4,7 +4,7 @@ ghost use Prim.Native.Nat.{_≤_, _<_, _+_, _*_};
 ghost use lib.ListN.{length};
 ghost use Rattle.copies.specs.Each.{linesFrom};
 ghost use Rattle.items.specs.Items.{itemCount};
-ghost use Rattle.cif_file.specs.File.{itemLine};
+ghost use Rattle.cif_file.specs.File.{itemLineMost, itemLine};
 use items::ITEM_COUNT;
 use state::sheet::Item;
 use state::sheet::Sheet;
@@ -13,7 +13,7 @@ use state::sheet::value_length;
 // The length of the line of item k + 1; 0 for an empty item.
 fn line_length(k: usize, item: Item) -> usize
     requires { ⌜ k < itemCount ⌝ }
-    ensures { λ r. ⌜ (r ≡ length (itemLine (k + 1) item)) × (r ≤ 110) ⌝ }
+    ensures { λ r. ⌜ (r ≡ length (itemLine (k + 1) item)) × (r ≤ itemLineMost) ⌝ }
 {
     if item.len == 0 {
         return 0;
@@ -23,7 +23,7 @@ fn line_length(k: usize, item: Item) -> usize
 
 // The length of all lines of a sheet's items.
 pub(crate) fn lines_length(sheet: Sheet) -> usize
-    ensures { λ r. ⌜ (r ≡ length (linesFrom itemLine 1 (sheet .items))) × (r ≤ 110 * itemCount) ⌝ }
+    ensures { λ r. ⌜ (r ≡ length (linesFrom itemLine 1 (sheet .items))) × (r ≤ itemLineMost * itemCount) ⌝ }
 {
     let mut n = 0;
     let mut i = 0;

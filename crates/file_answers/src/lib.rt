@@ -1,4 +1,22 @@
-// The answers of the CIF file's writer, and the block's name, on which its refusal 11 rests (document 02, No. 1).
-// answer: the numbered answers. block: the block's name.
-pub mod answer;
-pub mod block;
+// The answers of the file's writer, and their numbers in document 02.
+ghost use mathlib.Core.Path.{_≡_};
+ghost use Rattle.file_answers.specs.Number.{fileNumber};
+
+pub enum FileAnswer {
+    Written,
+    Unsound,
+    BadBlockName,
+    NoRoom,
+}
+
+// The number of an answer.
+pub fn file_number(a: FileAnswer) -> u8
+    ensures { λ r. ⌜ r ≡ fileNumber a ⌝ }
+{
+    match a {
+        FileAnswer::Written => 0,
+        FileAnswer::Unsound => 2,
+        FileAnswer::BadBlockName => 11,
+        FileAnswer::NoRoom => 10,
+    }
+}

@@ -12,7 +12,7 @@ use Rattle.terms.specs.Terms.{cut, every, some}
 use Rattle.elements.specs.Elements.{sameSymbol, placeOf, symbols, elementOf, isElement, notMetals, isMetal, weights, weightIn, weightOf}
 use Rattle.formula.specs.Recognised.{allRecognised}
 use Rattle.formula_order.specs.Order.{rank, key, rising, inOrder}
-use Rattle.formula_class.specs.Class.{hasSymbol, hasMetal, classOf}
+use Rattle.formula_class.specs.Class.{hasTerm, classOf}
 use Rattle.formula.specs.Sum.{total, sumOf}
 use Rattle.formula_class.specs.declared.Class.{Class}
 use Rattle.formula_class.specs.declared.Class.the-variants.{Inorganic, MetalOrganic, Organic}
@@ -60,5 +60,5 @@ answered f =
     record { recognised = allRecognised (bytes f); ordered = inOrder (bytes f); class = classOf (bytes f); sum = sumOf (bytes f) }
 
 pub examples-hold : map (λ (x : Example). answered (x .formula)) examples ≡ map (λ (x : Example). x .answers) examples
-unfolding examples cut every some termOf kindAt isCount countOf all between valueFrom allRecognised isElement elementOf symbols placeOf sameSymbol inOrder rising key rank classOf hasSymbol hasMetal isMetal notMetals sumOf total weightOf weightIn weights
+unfolding examples cut every some termOf kindAt isCount countOf all between valueFrom allRecognised isElement elementOf symbols placeOf sameSymbol inOrder rising key rank classOf hasTerm isMetal notMetals sumOf total weightOf weightIn weights
 examples-hold = refl

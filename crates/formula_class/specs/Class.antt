@@ -7,27 +7,21 @@ use Rattle.terms.specs.Terms.{termsOf, some}
 use Rattle.elements.specs.Elements.{sameSymbol, isMetal}
 use Rattle.terms.specs.declared.term.Term.{Term}
 use Rattle.terms.specs.declared.term.Term.the-variants.{Well, Ill}
+use Rattle.formula_class.specs.declared.Wanted.{Wanted}
+use Rattle.formula_class.specs.declared.Wanted.the-variants.{Symbol, AnyMetal}
 use Rattle.formula_class.specs.declared.Class.{Class}
 use Rattle.formula_class.specs.declared.Class.the-variants.{Inorganic, MetalOrganic, Organic}
 
--- a term is well formed and its symbol is a b
-abbrev pub isSymbol : ℕ → ℕ → Term → Bool
-isSymbol a b (Well x y n) = sameSymbol x y a b
-isSymbol a b Ill = false
+-- a term is well formed and is one that is looked for
+abbrev pub isWanted : Wanted → Term → Bool
+isWanted w Ill = false
+isWanted (Symbol a b) (Well x y n) = sameSymbol x y a b
+isWanted AnyMetal (Well x y n) = isMetal x y
 
--- a term of a text has the symbol a b
-unfoldable pub hasSymbol : ℕ → ℕ → List ℕ → Bool
-hasSymbol a b s = some (isSymbol a b) (termsOf s)
-
--- a term is well formed and its symbol is that of a metal
-abbrev pub isMetalTerm : Term → Bool
-isMetalTerm (Well a b n) = isMetal a b
-isMetalTerm Ill = false
-
--- a term of a text has the symbol of a metal
-unfoldable pub hasMetal : List ℕ → Bool
-hasMetal s = some isMetalTerm (termsOf s)
+-- a term of a text is one that is looked for
+unfoldable pub hasTerm : Wanted → List ℕ → Bool
+hasTerm w s = some (isWanted w) (termsOf s)
 
 -- "no C, or C without H, is inorganic ..; C, H and a metal is metal-organic ..; C, H and no metal is organic"
 unfoldable pub classOf : List ℕ → Class
-classOf s = cond (hasSymbol 67 32 s && hasSymbol 72 32 s) (cond (hasMetal s) MetalOrganic Organic) Inorganic
+classOf s = cond (hasTerm (Symbol 67 32) s && hasTerm (Symbol 72 32) s) (cond (hasTerm AnyMetal s) MetalOrganic Organic) Inorganic

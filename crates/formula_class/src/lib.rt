@@ -1,6 +1,6 @@
 // The class of a formula by its elements (document 01, "The twelve rows": row 3).
 ghost use mathlib.Core.Path.{_≡_};
-ghost use Rattle.formula_class.specs.Class.{isSymbol, hasSymbol, isMetalTerm, hasMetal, classOf};
+ghost use Rattle.formula_class.specs.Class.{isWanted, hasTerm, classOf};
 use terms::Step;
 use terms::term::Term;
 
@@ -11,52 +11,35 @@ pub enum Class {
     Organic,
 }
 
-// Whether a term is well formed and its symbol is a b.
-fn is_symbol(t: Term, a: u8, b: u8) -> bool
-    ensures { λ r. ⌜ r ≡ isSymbol a b t ⌝ }
+// What is looked for among the terms of a formula: a symbol, or that of any metal.
+pub enum Wanted {
+    Symbol(u8, u8),
+    AnyMetal,
+}
+
+// Whether a term is well formed and is one that is looked for.
+fn is_wanted(t: Term, w: Wanted) -> bool
+    ensures { λ r. ⌜ r ≡ isWanted w t ⌝ }
 {
-    match t {
-        Term::Well(x, y, _) => elements::same_symbol(x, y, a, b),
-        Term::Ill => false,
+    let Term::Well(x, y, _) = t else {
+        return false;
+    };
+    match w {
+        Wanted::Symbol(a, b) => elements::same_symbol(x, y, a, b),
+        Wanted::AnyMetal => elements::is_metal(x, y),
     }
 }
 
-// Whether a term of a text has the symbol a b.
-fn has_symbol(s: &[u8], a: u8, b: u8) -> bool
-    ensures { λ r. ⌜ r ≡ hasSymbol a b (now (s .entry)) ⌝ }
+// Whether a term of a text is one that is looked for.
+fn has_term(s: &[u8], w: Wanted) -> bool
+    ensures { λ r. ⌜ r ≡ hasTerm w (now (s .entry)) ⌝ }
 {
     let mut from = 0;
     loop {
         let Step::Next(term, next) = terms::step_at(s, from) else {
             return false;
         };
-        if is_symbol(term, a, b) {
-            return true;
-        }
-        from = next;
-    }
-}
-
-// Whether a term is well formed and its symbol is that of a metal.
-fn is_metal_term(t: Term) -> bool
-    ensures { λ r. ⌜ r ≡ isMetalTerm t ⌝ }
-{
-    match t {
-        Term::Well(a, b, _) => elements::is_metal(a, b),
-        Term::Ill => false,
-    }
-}
-
-// Whether a term of a text has the symbol of a metal.
-fn has_metal(s: &[u8]) -> bool
-    ensures { λ r. ⌜ r ≡ hasMetal (now (s .entry)) ⌝ }
-{
-    let mut from = 0;
-    loop {
-        let Step::Next(term, next) = terms::step_at(s, from) else {
-            return false;
-        };
-        if is_metal_term(term) {
+        if is_wanted(term, w) {
             return true;
         }
         from = next;
@@ -67,13 +50,13 @@ fn has_metal(s: &[u8]) -> bool
 pub fn class_of(s: &[u8]) -> Class
     ensures { λ r. ⌜ r ≡ classOf (now (s .entry)) ⌝ }
 {
-    if !has_symbol(s, b'C', b' ') {
+    if !has_term(s, Wanted::Symbol(b'C', b' ')) {
         return Class::Inorganic;
     }
-    if !has_symbol(s, b'H', b' ') {
+    if !has_term(s, Wanted::Symbol(b'H', b' ')) {
         return Class::Inorganic;
     }
-    if has_metal(s) {
+    if has_term(s, Wanted::AnyMetal) {
         Class::MetalOrganic
     } else {
         Class::Organic

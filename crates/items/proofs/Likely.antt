@@ -38,7 +38,7 @@ mark-lower s =
 
 own-mark : (k : ℕ) → k ≤ itemCount → getD letters (markOf (nameOf k)) 0 - 64 ≡ k
 unfolding letters nameOf items
-own-mark k h = agree (λ (k : ℕ). getD letters (markOf (nameOf k)) 0 - 64) (λ (k : ℕ). k) 0 11 refl k (omega arith)
+own-mark k h = agree (λ (k : ℕ). getD letters (markOf (nameOf k)) 0 - 64) (λ (k : ℕ). k) 0 (itemCount + 1) refl k (omega arith)
 
 -- the letters of the table are @ to J
 pub letter-range : (m : ℕ) → m < 32 → (64 ≤ getD letters m 0) × (getD letters m 0 ≤ 74)

@@ -7,7 +7,7 @@ use native.Mathlib.Omega.{arith}
 use borrow.Author.Tests.{le-leb, lt-leb}
 use lib.ListN.{length, getD, take, drop, replicate}
 use Rattle.text.proofs.Tables.{agree, nowhere-above}
-use Rattle.items.specs.Items.{ItemRow, items, itemCount, noRow, rowOf, nameOf}
+use Rattle.items.specs.Items.{ItemRow, items, itemCount, nameMost, noRow, rowOf, nameOf}
 
 -- the names, each filled up with points
 filled : List ItemRow → List ℕ
@@ -22,23 +22,23 @@ unfoldable pub lengths : List ℕ
 lengths = 0 ∷ 21 ∷ 24 ∷ 24 ∷ 22 ∷ 23 ∷ 24 ∷ 24 ∷ 23 ∷ 24 ∷ 28 ∷ []
 
 module _ (item : ℕ) (known : item ≤ itemCount) where
-  below : item < 11
+  below : item < itemCount + 1
   below = omega arith
 
   pub name-length : getD lengths item 0 ≡ length (nameOf item)
   unfolding lengths items nameOf
-  name-length = agree (λ (k : ℕ). getD lengths k 0) (λ (k : ℕ). length (nameOf k)) 0 11 refl item below
+  name-length = agree (λ (k : ℕ). getD lengths k 0) (λ (k : ℕ). length (nameOf k)) 0 (itemCount + 1) refl item below
 
-  pub name-short : length (nameOf item) ≤ 28
+  pub name-short : length (nameOf item) ≤ nameMost
   unfolding items nameOf
-  name-short = nowhere-above (λ (k : ℕ). length (nameOf k)) (λ (k : ℕ). 28) 11 refl item below
+  name-short = nowhere-above (λ (k : ℕ). length (nameOf k)) (λ (k : ℕ). nameMost) (itemCount + 1) refl item below
 
   -- the part of the table from the item's row on, as long as its name
   pub name-part : (n : ℕ) → n ≡ length (nameOf item) → take (32 * item + n - 32 * item) (drop (32 * item) flat) ≡ nameOf item
   unfolding flat items nameOf
   name-part n e =
       let size : 32 * item + n - 32 * item ≡ length (nameOf item) = omega arith in
-      ap (λ (m : ℕ). take m (drop (32 * item) flat)) size ∙ agree (λ (k : ℕ). take (length (nameOf k)) (drop (32 * k) flat)) nameOf [] 11 refl item below
+      ap (λ (m : ℕ). take m (drop (32 * item) flat)) size ∙ agree (λ (k : ℕ). take (length (nameOf k)) (drop (32 * k) flat)) nameOf [] (itemCount + 1) refl item below
 
 pub name-of : (item : ℕ) → 1 ≤ item → item ≤ itemCount → nameOf item ≡ rowOf item .name
 unfolding nameOf

@@ -40,6 +40,10 @@ items =
 abbrev pub itemCount : ℕ
 itemCount = 10
 
+-- the longest name has so many bytes
+abbrev pub nameMost : ℕ
+nameMost = 28
+
 -- no row of the table
 abbrev pub noRow : ItemRow
 noRow = record { name = []; kind = Text }

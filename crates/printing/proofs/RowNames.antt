@@ -6,6 +6,7 @@ use Prim.Native.Nat.{ℕ, _+_, _-_, _≤_, _<_}
 use lib.ListN.{length, getD, take, drop}
 use Rattle.text.proofs.Tables.{agree, nowhere-above}
 use Rattle.alerts.specs.Sheet.{rowCount}
+use Rattle.printing.specs.Page.{rowNameMost}
 use Rattle.printing.specs.Print.{rowNames, rowName}
 
 concat : List (List ℕ) → List ℕ
@@ -31,6 +32,6 @@ pub starts-within : (k : ℕ) → k < rowCount → getD starts (k + 1) 0 ≤ 103
 unfolding starts
 starts-within = nowhere-above (λ (k : ℕ). getD starts (k + 1) 0) (λ (k : ℕ). 103) rowCount refl
 
-pub name-short : (k : ℕ) → k < rowCount → length (rowName (k + 1)) ≤ 9
+pub name-short : (k : ℕ) → k < rowCount → length (rowName (k + 1)) ≤ rowNameMost
 unfolding rowNames
-name-short = nowhere-above (λ (k : ℕ). length (rowName (k + 1))) (λ (k : ℕ). 9) rowCount refl
+name-short = nowhere-above (λ (k : ℕ). length (rowName (k + 1))) (λ (k : ℕ). rowNameMost) rowCount refl

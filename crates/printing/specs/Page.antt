@@ -4,11 +4,25 @@ use Prim.Native.Nat.{ℕ, _+_}
 use mathlib.Core.Path.{_≡_}
 use mathlib.Core.List.{List, _++_}
 use lib.ListN.{length, take}
+use Rattle.items.specs.Typed.{lineMost}
 use Rattle.printing.specs.declared.page.Page.{Page}
 
 -- the longest text of a page
 abbrev pub pageMost : ℕ
 pageMost = 2048
+
+-- the most that is added by a row's name, a number, the line of a row and the line of a filled item
+abbrev pub rowNameMost : ℕ
+rowNameMost = 9
+
+abbrev pub decimalMost : ℕ
+decimalMost = 20
+
+abbrev pub rowLineMost : ℕ
+rowLineMost = 7 + rowNameMost + decimalMost
+
+abbrev pub itemLineMost : ℕ
+itemLineMost = 23 + decimalMost + decimalMost + lineMost
 
 -- what is written on a page
 abbrev pub written : Page → List ℕ

@@ -12,6 +12,7 @@ use Rattle.state.specs.declared.sheet.Item.{Item}
 use Rattle.state.specs.declared.desk.Desk.{Desk}
 use Rattle.rows.specs.declared.Row.{Row}
 use Rattle.questions.specs.Report.{reportedOf}
+use Rattle.printing.specs.Page.{decimalMost}
 use Rattle.printing.specs.declared.Printed.{Printed}
 use Rattle.printing.specs.declared.Printed.the-variants.{Bytes, NoRoom}
 
@@ -30,7 +31,7 @@ lastDigits (suc most) n = cond (ltb n 10) [] (lastDigits most (n / 10)) ++ (digi
 
 -- a number in decimal; one of 64 bits has at most 20 digits
 abbrev pub decimalText : ℕ → List ℕ
-decimalText n = lastDigits 20 n
+decimalText n = lastDigits decimalMost n
 
 -- a line: some texts one after the other, ended by byte 10
 abbrev pub line : List (List ℕ) → List ℕ

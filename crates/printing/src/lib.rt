@@ -1,13 +1,14 @@
 // The printed report (document 01, "Measured examples"): the twelve rows, and the filled items with their benches and entry numbers.
 // page: a text under way.
 ghost use mathlib.Core.Path.{_≡_};
-ghost use Prim.Native.Nat.{_+_, _≤_, _<_};
+ghost use Prim.Native.Nat.{_+_, _*_, _≤_, _<_};
 ghost use lib.ListN.{length};
+ghost use Rattle.items.specs.Typed.{lineMost};
 ghost use Rattle.items.specs.Items.{itemCount};
 ghost use Rattle.state.specs.Sheets.{valueIn};
 ghost use Rattle.alerts.specs.Sheet.{rowCount};
 ghost use Rattle.copies.specs.Each.{linesFrom};
-ghost use Rattle.printing.specs.Page.{pageMost, written, Adds};
+ghost use Rattle.printing.specs.Page.{pageMost, rowNameMost, rowLineMost, itemLineMost, written, Adds};
 ghost use Rattle.printing.specs.Print.{rowName, levelLetter, rowLine, filledLine, itemLine, printedOf, printedIn, outAfter};
 
 mod page;
@@ -59,8 +60,8 @@ const NO_LETTER: u8 = b'?';
 
 // The page with the name of row k + 1 more.
 fn put_name(p: Page, k: usize) -> Page
-    requires { ⌜ (p .len + 9 ≤ pageMost) × (k < rowCount) ⌝ }
-    ensures { λ r. ⌜ Adds p (rowName (k + 1)) r × (r .len ≤ p .len + 9) ⌝ }
+    requires { ⌜ (p .len + rowNameMost ≤ pageMost) × (k < rowCount) ⌝ }
+    ensures { λ r. ⌜ Adds p (rowName (k + 1)) r × (r .len ≤ p .len + rowNameMost) ⌝ }
 {
     let from = STARTS[k];
     let to = STARTS[k + 1];
@@ -85,8 +86,8 @@ fn wide(x: u8) -> usize
 
 // The page with the line of row k + 1 more.
 fn put_row(p: Page, k: usize, row: Row) -> Page
-    requires { ⌜ (p .len + 36 ≤ pageMost) × (k < rowCount) ⌝ }
-    ensures { λ r. ⌜ Adds p (rowLine (k + 1) row) r × (r .len ≤ p .len + 36) ⌝ }
+    requires { ⌜ (p .len + rowLineMost ≤ pageMost) × (k < rowCount) ⌝ }
+    ensures { λ r. ⌜ Adds p (rowLine (k + 1) row) r × (r .len ≤ p .len + rowLineMost) ⌝ }
 {
     let p1 = put_two_digits(p, k + 1);
     let p2 = put(p1, b" ");
@@ -100,8 +101,8 @@ fn put_row(p: Page, k: usize, row: Row) -> Page
 
 // The page with all rows more.
 fn put_rows(p: Page, rows: Rows) -> Page
-    requires { ⌜ p .len + 432 ≤ pageMost ⌝ }
-    ensures { λ r. ⌜ Adds p (linesFrom rowLine 1 (rows .rows)) r × (r .len ≤ p .len + 432) ⌝ }
+    requires { ⌜ p .len + rowLineMost * rowCount ≤ pageMost ⌝ }
+    ensures { λ r. ⌜ Adds p (linesFrom rowLine 1 (rows .rows)) r × (r .len ≤ p .len + rowLineMost * rowCount) ⌝ }
 {
     let mut page = p;
     let mut i = 0;
@@ -116,8 +117,8 @@ fn put_rows(p: Page, rows: Rows) -> Page
 
 // The page with an item's value more.
 fn put_value(p: Page, item: Item) -> Page
-    requires { ⌜ p .len + 80 ≤ pageMost ⌝ }
-    ensures { λ r. ⌜ Adds p (valueIn item) r × (r .len ≤ p .len + 80) ⌝ }
+    requires { ⌜ p .len + lineMost ≤ pageMost ⌝ }
+    ensures { λ r. ⌜ Adds p (valueIn item) r × (r .len ≤ p .len + lineMost) ⌝ }
 {
     let n = value_length(item);
     let value = item.value;
@@ -126,8 +127,8 @@ fn put_value(p: Page, item: Item) -> Page
 
 // The page with the line of the filled item k + 1 more.
 fn put_filled(p: Page, k: usize, item: Item) -> Page
-    requires { ⌜ (p .len + 143 ≤ pageMost) × (k < itemCount) ⌝ }
-    ensures { λ r. ⌜ Adds p (filledLine (k + 1) item) r × (r .len ≤ p .len + 143) ⌝ }
+    requires { ⌜ (p .len + itemLineMost ≤ pageMost) × (k < itemCount) ⌝ }
+    ensures { λ r. ⌜ Adds p (filledLine (k + 1) item) r × (r .len ≤ p .len + itemLineMost) ⌝ }
 {
     let p1 = put(p, b"ITEM ");
     let p2 = put_two_digits(p1, k + 1);
@@ -142,8 +143,8 @@ fn put_filled(p: Page, k: usize, item: Item) -> Page
 
 // The page with the line of item k + 1 more, where the item is filled.
 fn put_item(p: Page, k: usize, item: Item) -> Page
-    requires { ⌜ (p .len + 143 ≤ pageMost) × (k < itemCount) ⌝ }
-    ensures { λ r. ⌜ Adds p (itemLine (k + 1) item) r × (r .len ≤ p .len + 143) ⌝ }
+    requires { ⌜ (p .len + itemLineMost ≤ pageMost) × (k < itemCount) ⌝ }
+    ensures { λ r. ⌜ Adds p (itemLine (k + 1) item) r × (r .len ≤ p .len + itemLineMost) ⌝ }
 {
     if item.len == 0 {
         return p;
@@ -153,8 +154,8 @@ fn put_item(p: Page, k: usize, item: Item) -> Page
 
 // The page with all filled items more.
 fn put_items(p: Page, sheet: Sheet) -> Page
-    requires { ⌜ p .len + 1430 ≤ pageMost ⌝ }
-    ensures { λ r. ⌜ Adds p (linesFrom itemLine 1 (sheet .items)) r × (r .len ≤ p .len + 1430) ⌝ }
+    requires { ⌜ p .len + itemLineMost * itemCount ≤ pageMost ⌝ }
+    ensures { λ r. ⌜ Adds p (linesFrom itemLine 1 (sheet .items)) r × (r .len ≤ p .len + itemLineMost * itemCount) ⌝ }
 {
     let mut page = p;
     let mut i = 0;

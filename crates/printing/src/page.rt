@@ -3,7 +3,7 @@ ghost use mathlib.Core.Path.{_≡_};
 ghost use mathlib.Core.List.{[], _∷_};
 ghost use Prim.Native.Nat.{_+_, _≤_, _<_};
 ghost use lib.ListN.{length};
-ghost use Rattle.printing.specs.Page.{pageMost, written, Adds};
+ghost use Rattle.printing.specs.Page.{pageMost, decimalMost, written, Adds};
 ghost use Rattle.printing.specs.Print.{twoDigits, decimalText};
 
 pub const PAGE_MOST: usize = 2048;
@@ -61,8 +61,8 @@ const DIGITS_MOST: usize = 20;
 
 // The page with a number more.
 pub(crate) fn put_decimal(p: Page, n: usize) -> Page
-    requires { ⌜ p .len + 20 ≤ pageMost ⌝ }
-    ensures { λ r. ⌜ Adds p (decimalText n) r × (r .len ≤ p .len + 20) ⌝ }
+    requires { ⌜ p .len + decimalMost ≤ pageMost ⌝ }
+    ensures { λ r. ⌜ Adds p (decimalText n) r × (r .len ≤ p .len + decimalMost) ⌝ }
 {
     let mut digits = [0u8; DIGITS_MOST];
     let mut rest = n;

@@ -16,12 +16,12 @@ use Rattle.text.proofs.Bools.{and-both, not-holds}
 use Rattle.text.proofs.Runs.{all-append, run-append, run-none}
 use Rattle.soundness.specs.Sound.{soundDesk}
 use Rattle.state.specs.declared.desk.Desk.{Desk}
-use Rattle.file_answers.specs.Block.{blockMost, isBlockByte, isBlockName}
+use Rattle.block_name.specs.Block.{blockMost, isBlockByte, isBlockName}
 use Rattle.cif_file.specs.File.{itemLine, fileOf}
 use Rattle.file_answers.specs.Number.{fileNumber}
 use Rattle.cif_file.specs.Answers.{After, refused, written, writtenIn, fileStep}
-use Rattle.file_answers.specs.declared.answer.FileAnswer.{FileAnswer}
-use Rattle.file_answers.specs.declared.answer.FileAnswer.the-variants.{Written, Unsound, BadBlockName, NoRoom}
+use Rattle.file_answers.specs.declared.FileAnswer.{FileAnswer}
+use Rattle.file_answers.specs.declared.FileAnswer.the-variants.{Written, Unsound, BadBlockName, NoRoom}
 use Rattle.round_trip.specs.RoundTrip.{itemLines, filedBytes}
 
 -- ---- the first line

@@ -3,13 +3,14 @@
 use mathlib.Core.Path.{_≡_, refl, sym, ap, _∙_, subst⁻¹}
 use mathlib.Core.Bool.{true}
 use mathlib.Core.List.{List, [], map}
-use Prim.Native.Nat.{ℕ, _+_, _-_, _≤_, _<_}
+use Prim.Native.Nat.{ℕ, _+_, _*_, _-_, _≤_, _<_}
 use native.Mathlib.Nat.{zero-add}
 use native.Mathlib.Omega.{arith}
 use lib.ListN.{length, getD, set, replicate, getD-replicate}
 use lib.Seq.{set-getD}
 use Rattle.copies.specs.Each.{linesFrom}
 use Rattle.text.proofs.Bools.{and-both}
+use Rattle.items.specs.Typed.{lineMost}
 use Rattle.items.specs.Items.{itemCount}
 use Rattle.state.specs.Sheets.{itemAt, valueIn}
 use Rattle.state.specs.Desks.{benchCount}
@@ -19,7 +20,7 @@ use Rattle.state.specs.declared.desk.Desk.{Desk}
 use Rattle.answers.specs.declared.Answer.the-variants.{Accepted}
 use Rattle.cif_file.specs.File.{itemLine}
 use Rattle.cif_file.specs.Answers.{fileStep}
-use Rattle.file_answers.specs.declared.answer.FileAnswer.the-variants.{Written}
+use Rattle.file_answers.specs.declared.FileAnswer.the-variants.{Written}
 use Rattle.sequence.specs.Calls.{Call, keyed}
 use Rattle.sequence.specs.Work.{Work, noWork, lastOf}
 use Rattle.sequence.proofs.Desk.{desk-sequences}
@@ -78,9 +79,9 @@ round-trip d name out bench log ten answer there small room =
       count = ap (λ (t : List ℕ). endOf log (typing bench t) .desk .sheet .count) e ∙ lines-count d bench log ten (w .sound) there small room;
     }
 
--- A log of 860 bytes has room for the records of every file that is written, so that each has its round trip.
+-- A log with room for a record of the longest line for each item (860 bytes) has room for the records of every file that is written, so that each has its round trip.
 pub round-trip-roomy : (d : Desk) (name out : List ℕ) (bench : ℕ) (log : List ℕ) → length (d .sheet .items) ≡ itemCount → fileStep d name out .answer ≡ Written
-    → bench < benchCount → 860 ≤ length log → length log ≤ logMost → RoundTrip d (filedBytes (fileStep d name out)) bench log
+    → bench < benchCount → (6 + lineMost) * itemCount ≤ length log → length log ≤ logMost → RoundTrip d (filedBytes (fileStep d name out)) bench log
 round-trip-roomy d name out bench log ten answer there long small =
     let most = room-most (d .sheet .count) 0 (d .sheet .items) (sound-items d (is-written d name out answer .sound)) in
     round-trip d name out bench log ten answer there small (omega arith)

@@ -7,7 +7,13 @@ use Rattle.kinds.proofs.is_category.Tie as tie
 
 returns : tie.Need-returns
 unfolding isCategory
-returns c = cc
+returns c =
+    let d = c .before .before in
+    let e = d .before .before in
+    let f = e .before .before in
+    let g = f .before .before in
+    let h = g .before .before in
+    rw (h .same .ensures, g .same2 .ensures, f .same3 .ensures, e .same4 .ensures, d .same5 .ensures, c .same6 .ensures)
 
 pub is-category-spec : {M : Type 1} → statement M
 is-category-spec =

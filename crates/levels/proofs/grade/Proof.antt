@@ -17,8 +17,8 @@ returns c =
     let z = j .judged in
     let s = j .before in
     c .level .ensures
-    ∙ cc
-    (back (b .result) (record { sfits = b .ok }), back (b2 .result) (record { sfits = b2 .ok }), back (b3 .result) (record { sfits = b3 .ok }), back (z .result) (record { sfits = z .ok }), back (s .args .v) (s .fits .v), z .ensures, b .ensures, b2 .ensures, b3 .ensures)
+    ∙ rw
+    (back (b .result) (record { sfits = b .ok }), back (b2 .result) (record { sfits = b2 .ok }), back (b3 .result) (record { sfits = b3 .ok }), back (z .result) (record { sfits = z .ok }), b .ensures, b2 .ensures, b3 .ensures, z .ensures, back (s .args .v) (s .fits .v))
 
 pub grade-spec : {M : Type 1} → statement M
 grade-spec =

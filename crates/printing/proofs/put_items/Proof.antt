@@ -7,13 +7,14 @@ use Prim.Native.Nat.{ℕ, _+_, _*_, _-_, _≤_}
 use lib.ListN.{length, length-map}
 use Rattle.items.specs.Items.{itemCount}
 use Rattle.state.specs.Sheets.{noItem}
+use Rattle.printing.specs.Page.{itemLineMost}
 use Rattle.printing.specs.Print.{itemLine}
 use Rattle.printing.proofs.Pages.{Listed, listed-none, listed-next, listed-all}
 use Rattle.printing.proofs.put_items.Statement.{statement}
 use Rattle.printing.proofs.put_items.Tie as tie
 
 abbrev Inv-loop : tie.InvT-loop
-Inv-loop sheet page₀ i₀ page i = (i ≤ itemCount) × (page .len ≤ page₀ .len + 143 * i) × Listed itemLine (sheet .items) page₀ page i
+Inv-loop sheet page₀ i₀ page i = (i ≤ itemCount) × (page .len ≤ page₀ .len + itemLineMost * i) × Listed itemLine (sheet .items) page₀ page i
 
 abbrev μ-loop : tie.MeasureT-loop
 μ-loop sheet page₀ i₀ page i = itemCount - i

@@ -6,13 +6,14 @@ use mathlib.Core.Path.{_≡_, sym, _∙_}
 use Prim.Native.Nat.{ℕ, _+_, _*_, _-_, _≤_}
 use lib.ListN.{length, length-map}
 use Rattle.alerts.specs.Sheet.{rowCount}
+use Rattle.printing.specs.Page.{rowLineMost}
 use Rattle.printing.specs.Print.{rowLine}
 use Rattle.printing.proofs.Pages.{Listed, listed-none, listed-next, listed-all}
 use Rattle.printing.proofs.put_rows.Statement.{statement}
 use Rattle.printing.proofs.put_rows.Tie as tie
 
 abbrev Inv-loop : tie.InvT-loop
-Inv-loop rows page₀ i₀ page i = (i ≤ rowCount) × (page .len ≤ page₀ .len + 36 * i) × Listed rowLine (rows .rows) page₀ page i
+Inv-loop rows page₀ i₀ page i = (i ≤ rowCount) × (page .len ≤ page₀ .len + rowLineMost * i) × Listed rowLine (rows .rows) page₀ page i
 
 abbrev μ-loop : tie.MeasureT-loop
 μ-loop rows page₀ i₀ page i = rowCount - i

@@ -7,7 +7,12 @@ use Rattle.values.proofs.is_reserved.Tie as tie
 
 returns : tie.Need-returns
 unfolding isReserved
-returns c = cc
+returns c =
+    let d = c .before .before in
+    let e = d .before .before in
+    let f = e .before .before in
+    let g = f .before .before in
+    rw (g .begins-folded .ensures, f .begins-folded2 .ensures, e .same-folded .ensures, d .same-folded2 .ensures, c .same-folded3 .ensures)
 
 pub is-reserved-spec : {M : Type 1} → statement M
 is-reserved-spec =

@@ -7,8 +7,8 @@ use mathlib.Core.Path.{_≡_, refl, sym, _∙_}
 use mathlib.Core.Bool.{true}
 use denote.Ref.{now}
 use Rattle.soundness.specs.Sound.{soundDesk}
-use Rattle.file_answers.specs.Block.{isBlockName}
-use Rattle.file_answers.proofs.Blocks.{block-short}
+use Rattle.block_name.specs.Block.{isBlockName}
+use Rattle.block_name.proofs.Blocks.{block-short}
 use Rattle.cif_file.specs.Answers.{fileStep}
 use Rattle.cif_file.proofs.Files.{file-length}
 use Rattle.cif_file.proofs.Steps.{step-unsound, step-bad-name, step-no-room, step-written}

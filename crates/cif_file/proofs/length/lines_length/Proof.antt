@@ -9,12 +9,12 @@ use lib.ListN.{length, getD, length-map, length-append}
 use Rattle.copies.proofs.Eachs.{firstLines, lines-none, lines-next, lines-all}
 use Rattle.items.specs.Items.{itemCount}
 use Rattle.state.specs.Sheets.{noItem}
-use Rattle.cif_file.specs.File.{itemLine}
+use Rattle.cif_file.specs.File.{itemLineMost, itemLine}
 use Rattle.cif_file.proofs.length.lines_length.Statement.{statement}
 use Rattle.cif_file.proofs.length.lines_length.Tie as tie
 
 abbrev Inv-loop : tie.InvT-loop
-Inv-loop sheet n₀ i₀ n i = (i ≤ itemCount) × (n ≤ 110 * i) × (n ≡ length (firstLines itemLine (sheet .items) i))
+Inv-loop sheet n₀ i₀ n i = (i ≤ itemCount) × (n ≤ itemLineMost * i) × (n ≡ length (firstLines itemLine (sheet .items) i))
 
 abbrev μ-loop : tie.MeasureT-loop
 μ-loop sheet n₀ i₀ n i = itemCount - i

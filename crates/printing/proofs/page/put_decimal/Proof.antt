@@ -6,6 +6,7 @@ use mathlib.Core.List.{List, _++_, append-nil}
 use Prim.Native.Nat.{ℕ, suc, _≤_, _<_, _-_, _%_}
 use lib.ListN.{length, take, drop, set, length-set, length-drop, length-take}
 use lib.Seq.{take-all}
+use Rattle.printing.specs.Page.{decimalMost}
 use Rattle.printing.specs.Print.{digit, lastDigits, decimalText}
 use Rattle.printing.proofs.Pages.{adds-as}
 use Rattle.printing.proofs.Digits.{first-digit, later-digit}
@@ -13,14 +14,14 @@ use Rattle.printing.proofs.page.put_decimal.Statement.{statement}
 use Rattle.printing.proofs.page.put_decimal.Tie as tie
 
 abbrev Inv-loop : tie.InvT-loop
-Inv-loop p n digits₀ rest₀ i₀ digits rest i = (i ≤ 20) × (length digits ≡ 20) × (decimalText n ≡ lastDigits i rest ++ drop i digits)
+Inv-loop p n digits₀ rest₀ i₀ digits rest i = (i ≤ decimalMost) × (length digits ≡ decimalMost) × (decimalText n ≡ lastDigits i rest ++ drop i digits)
 
 abbrev μ-loop : tie.MeasureT-loop
 μ-loop p n digits₀ rest₀ i₀ digits rest i = i
 
 -- what is lent of the digits from i on
-lent : (ds : List ℕ) (i : ℕ) → length ds ≡ 20 → take (20 - i) (drop i ds) ≡ drop i ds
-lent ds i h = take-all (20 - i) (drop i ds) (simp length-drop (omega arith))
+lent : (ds : List ℕ) (i : ℕ) → length ds ≡ decimalMost → take (decimalMost - i) (drop i ds) ≡ drop i ds
+lent ds i h = take-all (decimalMost - i) (drop i ds) (simp length-drop (omega arith))
 
 loop-holds : tie.Need-loop-holds Inv-loop μ-loop
 loop-holds c = (omega arith, omega arith, sym (append-nil (decimalText (c .args .n))))
@@ -37,10 +38,10 @@ returns c =
     let j = l .i - 1 in
     let ds = set (l .digits) j (digit (l .rest % 10)) in
     let one : l .i ≡ suc j = omega arith in
-    let long : length ds ≡ 20 = simp length-set (omega arith) in
+    let long : length ds ≡ decimalMost = simp length-set (omega arith) in
     let here : j < length (l .digits) = omega arith in
     let all = l .inv .2 ∙ ap (λ (k : ℕ). lastDigits k (l .rest) ++ drop k (l .digits)) one ∙ first-digit (l .digits) j (l .rest) here (omega arith) in
-    let few : length (drop j ds) ≤ 20 = simp length-drop (omega arith) in
+    let few : length (drop j ds) ≤ decimalMost = simp length-drop (omega arith) in
     let tail = adds-as (lent ds j long) (c .put .ensures) in
     (adds-as (sym all) tail, omega (arith, tail .size, few))
 

@@ -9,7 +9,7 @@ use lib.Dec.{leb}
 use lib.ListN.{length}
 use Rattle.text.specs.Run.{all}
 use Rattle.text.proofs.Bools.{and-both}
-use Rattle.file_answers.specs.Block.{blockMost, isBlockByte, isBlockName}
+use Rattle.block_name.specs.Block.{blockMost, isBlockByte, isBlockName}
 
 -- a name is short
 pub block-short : (name : List ℕ) → isBlockName name ≡ true → length name ≤ blockMost

@@ -1,10 +1,10 @@
--- `file_answers::block::is_block_byte` meets its contract: each return has the tests of `isBlockByte` on its way.
+-- `block_name::is_block_byte` meets its contract: each return has the tests of `isBlockByte` on its way.
 -- Assumes nothing.
 use mathlib.Core.Path.{sym, _∙_}
 use borrow.Author.Needs.{needs}
-use Rattle.file_answers.specs.Block.{isBlockByte}
-use Rattle.file_answers.proofs.block.is_block_byte.Statement.{statement}
-use Rattle.file_answers.proofs.block.is_block_byte.Tie as tie
+use Rattle.block_name.specs.Block.{isBlockByte}
+use Rattle.block_name.proofs.is_block_byte.Statement.{statement}
+use Rattle.block_name.proofs.is_block_byte.Tie as tie
 
 returns : tie.Need-returns
 unfolding isBlockByte

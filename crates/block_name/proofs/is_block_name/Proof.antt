@@ -1,4 +1,4 @@
--- `file_answers::block::is_block_name` meets its contract. The loop's invariant: the bytes passed can stand in a name.
+-- `block_name::is_block_name` meets its contract. The loop's invariant: the bytes passed can stand in a name.
 -- The measure is what is left of the name. Assumes nothing.
 use native.Mathlib.Omega.{arith}
 use mathlib.Core.Path.{_≡_, sym, _∙_}
@@ -10,9 +10,9 @@ use denote.Ref.{now}
 use lib.ListN.{length}
 use Rattle.text.specs.Run.{all, runOf}
 use Rattle.text.proofs.Runs.{Passed, start, more, stop, end, run-all}
-use Rattle.file_answers.specs.Block.{isBlockByte, isBlockName}
-use Rattle.file_answers.proofs.block.is_block_name.Statement.{statement}
-use Rattle.file_answers.proofs.block.is_block_name.Tie as tie
+use Rattle.block_name.specs.Block.{isBlockByte, isBlockName}
+use Rattle.block_name.proofs.is_block_name.Statement.{statement}
+use Rattle.block_name.proofs.is_block_name.Tie as tie
 
 abbrev Inv-loop : tie.InvT-loop
 Inv-loop name i₀ i = Passed isBlockByte name i

@@ -1,6 +1,6 @@
 // The name of a block: 1 to 32 letters, digits or `-`.
 ghost use mathlib.Core.Path.{_≡_};
-ghost use Rattle.file_answers.specs.Block.{isBlockByte, isBlockName};
+ghost use Rattle.block_name.specs.Block.{isBlockByte, isBlockName};
 
 // The longest name of a block.
 pub const BLOCK_MOST: usize = 32;

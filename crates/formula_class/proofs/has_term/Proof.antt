@@ -1,4 +1,4 @@
--- `formula_class::has_metal` meets its contract. The loop's invariant: no term passed is that of a metal, so the rest decides.
+-- `formula_class::has_term` meets its contract. The loop's invariant: no term passed is looked for, so the rest decides.
 -- The measure is what is left of the text. Assumes nothing.
 use borrow.Author.Needs.{needs}
 use mathlib.Core.Path.{_≡_, sym, ap, _∙_}
@@ -6,33 +6,33 @@ use mathlib.Core.Bool.{true, false}
 use Prim.Native.Nat.{_+_, _-_}
 use lib.ListN.{length}
 use Rattle.terms.specs.Terms.{some}
-use Rattle.formula_class.specs.Class.{isMetalTerm, hasMetal}
+use Rattle.formula_class.specs.Class.{isWanted, hasTerm}
 use Rattle.terms.proofs.Steps.{termsFrom, from-start, Stepped, step-next, step-end, falls, some-next, some-end}
-use Rattle.formula_class.proofs.has_metal.Statement.{statement}
-use Rattle.formula_class.proofs.has_metal.Tie as tie
+use Rattle.formula_class.proofs.has_term.Statement.{statement}
+use Rattle.formula_class.proofs.has_term.Tie as tie
 
 abbrev Inv-loop : tie.InvT-loop
-Inv-loop s from₀ from = hasMetal s ≡ some isMetalTerm (termsFrom s from)
+Inv-loop s w from₀ from = hasTerm w s ≡ some (isWanted w) (termsFrom s from)
 
 abbrev μ-loop : tie.MeasureT-loop
-μ-loop s from₀ from = length s + 1 - from
+μ-loop s w from₀ from = length s + 1 - from
 
 stepped : (c : tie.After-term Inv-loop μ-loop) → Stepped (c .before .before .before .before .before .args .s .now) (c .before .before .before .loop .from) (c .term .given .0 .0) (c .term .given .0 .1 .0)
 stepped c = step-next _ _ _ _ (sym (c .before .before .step-at .ensures) ∙ c .term .given .1)
 
 loop-holds : tie.Need-loop-holds Inv-loop μ-loop
-unfolding hasMetal
-loop-holds c = ap (some isMetalTerm) (from-start _)
+unfolding hasTerm
+loop-holds c = ap (some (isWanted _)) (from-start _)
 
 returns : tie.Need-returns Inv-loop μ-loop
 returns c =
     let f = c .before .before in
-    sym (f .before .loop .inv ∙ some-end isMetalTerm (step-end _ _ (sym (f .step-at .ensures) ∙ c .enum-told .given .1)))
+    sym (f .before .loop .inv ∙ some-end _ (step-end _ _ (sym (f .step-at .ensures) ∙ c .enum-told .given .1)))
 
 returns-2 : tie.Need-returns-2 Inv-loop μ-loop
 returns-2 c =
     let k = c .before .before .before in
-    sym (k .before .before .before .loop .inv ∙ some-next (stepped k) isMetalTerm true (sym (c .before .is-metal-term .ensures) ∙ c .if1 .taken))
+    sym (k .before .before .before .loop .inv ∙ some-next (stepped k) (isWanted _) true (sym (c .before .is-wanted .ensures) ∙ c .if1 .taken))
 
 loop-less : tie.Need-loop-less Inv-loop μ-loop
 loop-less c = falls (stepped (c .before .before .before))
@@ -40,10 +40,10 @@ loop-less c = falls (stepped (c .before .before .before))
 loop-again : tie.Need-loop-again Inv-loop μ-loop
 loop-again c =
     let k = c .before .before .before in
-    k .before .before .before .loop .inv ∙ some-next (stepped k) isMetalTerm false (sym (c .before .is-metal-term .ensures) ∙ c .if1 .left)
+    k .before .before .before .loop .inv ∙ some-next (stepped k) (isWanted _) false (sym (c .before .is-wanted .ensures) ∙ c .if1 .left)
 
-pub has-metal-spec : {M : Type 1} → statement M
-has-metal-spec =
+pub has-term-spec : {M : Type 1} → statement M
+has-term-spec =
     tie.close
     (tie.spec
     Inv-loop
