@@ -2,18 +2,13 @@
 -- Assumes nothing.
 use Prim.Native.Nat.{ℕ}
 use mathlib.Core.List.{List, [], _∷_}
-use lib.ListN.{replicate}
 use Rattle.state.specs.Sheets.{itemAt, valueIn}
 use Rattle.state.specs.declared.sheet.Sheet.{Sheet}
-use Rattle.rows.specs.Rows.{noAlert}
 use Rattle.formula_rows.specs.FormulaRows.{row1, row2, row3}
 use Rattle.weight_rows.specs.WeightRows.{row4, row5}
 use Rattle.graded_rows.specs.GradedRows.{gradedRow, oldNameRow}
 use Rattle.threshold.specs.Threshold.{row12}
 use Rattle.rows.specs.declared.Rows.{Rows}
-
-abbrev pub rowCount : ℕ
-rowCount = 12
 
 -- the value of an item of the sheet, as typed
 abbrev pub value : Sheet → ℕ → List ℕ
@@ -36,7 +31,3 @@ rowsOf s = record {
       oldNameRow (value s 9) ∷
       row12 (value s 10) ∷ [];
 }
-
--- "rows all level 0, reason 0"
-abbrev pub noRows : Rows
-noRows = record { rows = replicate rowCount noAlert }

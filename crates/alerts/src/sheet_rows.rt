@@ -2,14 +2,13 @@
 ghost use mathlib.Core.Path.{_≡_};
 ghost use Rattle.state.specs.Sheets.{valueIn};
 ghost use Rattle.threshold.specs.Threshold.{row12};
-ghost use Rattle.alerts.specs.Sheet.{rowsOf, noRows};
+ghost use Rattle.alerts.specs.Sheet.{rowsOf};
 ghost use Rattle.alerts.specs.Groups.{FormulaGroupOf, GradedPairOf};
 use formula_rows::class_row;
 use formula_rows::order_row;
 use formula_rows::recognised_row;
 use graded_rows::graded_row;
 use graded_rows::old_name_row;
-use rows::ROW_COUNT;
 use rows::Row;
 use rows::Rows;
 use state::sheet::Item;
@@ -120,18 +119,5 @@ pub fn sheet_rows(s: Sheet) -> Rows
     let a11 = h.general;
     Rows {
         rows: [a1, a2, a3, a4, a5, a6, a7, a8, a9, a10, a11, t],
-    }
-}
-
-// Rows with no alert.
-pub fn no_rows() -> Rows
-    ensures { λ r. ⌜ r ≡ noRows ⌝ }
-{
-    let none = Row {
-        level: 0,
-        reason: 0,
-    };
-    Rows {
-        rows: [none; ROW_COUNT],
     }
 }

@@ -1,8 +1,10 @@
--- The numbers of the answers of a key call (document 01, "Keys and their refusals").
+-- The numbers of the answers of a key call and of the two questions (document 01, "Keys and their refusals").
 -- Assumes nothing.
 use Prim.Native.Nat.{ℕ}
 use Rattle.answers.specs.declared.Answer.{Answer}
 use Rattle.answers.specs.declared.Answer.the-variants.{Accepted, NoBench, Unsound, NoKey, LineFull, BadForm, UnknownName, WrongKind, NoRoom}
+use Rattle.answers.specs.declared.Asked.{Asked}
+use Rattle.answers.specs.declared.Asked.the-variants as asked
 
 -- the numbers of "Keys and their refusals"
 abbrev pub answerNumber : Answer → ℕ
@@ -15,3 +17,9 @@ answerNumber BadForm = 5
 answerNumber UnknownName = 6
 answerNumber WrongKind = 7
 answerNumber NoRoom = 8
+
+-- the numbers of "Two questions": "2 if unsound, else 6 if not 1 to 10; else 0"
+abbrev pub askedNumber : Asked → ℕ
+askedNumber asked.Answered = 0
+askedNumber asked.Unsound = 2
+askedNumber asked.NoItem = 6

@@ -1,7 +1,8 @@
-// The answers of a key call, and their numbers (document 01, "Keys and their refusals").
+// The answers of a key call and of the two questions, and their numbers (document 01, "Keys and their refusals").
 ghost use mathlib.Core.Path.{_≡_};
-ghost use Rattle.answers.specs.Number.{answerNumber};
+ghost use Rattle.answers.specs.Number.{answerNumber, askedNumber};
 
+// The answers of a key call.
 pub enum Answer {
     Accepted,
     NoBench,
@@ -28,5 +29,23 @@ pub fn answer_number(a: Answer) -> u8
         Answer::UnknownName => 6,
         Answer::WrongKind => 7,
         Answer::NoRoom => 8,
+    }
+}
+
+// The answers of a question.
+pub enum Asked {
+    Answered,
+    Unsound,
+    NoItem,
+}
+
+// The number of a question's answer.
+pub fn asked_number(a: Asked) -> u8
+    ensures { λ r. ⌜ r ≡ askedNumber a ⌝ }
+{
+    match a {
+        Asked::Answered => 0,
+        Asked::Unsound => 2,
+        Asked::NoItem => 6,
     }
 }

@@ -6,7 +6,8 @@ use Prim.Native.Nat.{ℕ, _+_, _*_, _≤_}
 use native.Mathlib.Omega.{arith}
 use lib.ListN.{length, drop, length-append}
 use Rattle.copies.specs.Copy.{copied}
-use Rattle.alerts.specs.Sheet.{rowsOf, noRows}
+use Rattle.rows.specs.Rows.{noRows}
+use Rattle.alerts.specs.Sheet.{rowsOf}
 use Rattle.sequence.specs.Calls.{Call}
 use Rattle.sequence.specs.Sequences.{deskAnswers}
 use Rattle.one_call.specs.CallBytes.{callsIn}

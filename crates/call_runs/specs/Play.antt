@@ -5,7 +5,8 @@ use mathlib.Core.Bool.{cond}
 use mathlib.Core.List.{List, _++_}
 use lib.Dec.{leb, eqb}
 use lib.ListN.{length, drop}
-use Rattle.alerts.specs.Sheet.{rowsOf, noRows}
+use Rattle.rows.specs.Rows.{noRows}
+use Rattle.alerts.specs.Sheet.{rowsOf}
 use Rattle.sequence.specs.Sequences.{stateAfter}
 use Rattle.one_call.specs.CallBytes.{callLength, callsIn, kindsHold, callCount}
 use Rattle.call_runs.specs.Written.{writtenBytes, writtenLength}

@@ -6,7 +6,8 @@ use mathlib.Core.Path.{_≡_}
 use mathlib.Core.List.{List, _++_, flatMap}
 use lib.ListN.{length, drop}
 use Rattle.copies.specs.Copy.{copied}
-use Rattle.alerts.specs.Sheet.{rowsOf, noRows}
+use Rattle.rows.specs.Rows.{noRows}
+use Rattle.alerts.specs.Sheet.{rowsOf}
 use Rattle.rows.specs.declared.Rows.{Rows}
 use Rattle.sequence.specs.Calls.{Call, Reply, State}
 use Rattle.sequence.specs.Sequences.{deskAnswers, stateAfter}

@@ -18,7 +18,7 @@ use desk_bytes::desk_bytes;
 use one_call::CALL_BYTES;
 use one_call::LAST_KIND;
 use one_call::play_call;
-use replies::reply::REPLY_BYTES;
+use replies::REPLY_BYTES;
 
 // How many bytes were written; or that the calls end within a call, that a call has no such kind, that out is too short.
 pub enum Played {

@@ -9,7 +9,7 @@ ghost use Rattle.cif.specs.Line.{classOf};
 ghost use Rattle.items.specs.Items.{itemCount};
 ghost use Rattle.state.specs.Lines.{typed};
 ghost use Rattle.state.specs.Desks.{benchCount, lineAt};
-ghost use Rattle.calls.specs.Key.{after, withEntry, entered, stored, enteredAs, appendKey, keyStep, keyOf};
+ghost use Rattle.calls.specs.Key.{after, edited, withEntry, entered, stored, enteredAs, appendKey, keyStep, keyOf};
 ghost use Rattle.calls.specs.Ready.{Ready};
 use answers::Answer;
 use cif::line::Class;
@@ -119,18 +119,24 @@ fn enter_line(d: Desk, used: usize, log: &mut [u8], bench: usize, l: Line) -> Ke
     enter_typed(d, used, log, bench, &bytes[..n])
 }
 
+// An accepted key other than Enter: its bench has another line.
+fn edit_line(d: Desk, used: usize, bench: usize, l: Line) -> Keyed
+    ensures { λ r. ⌜ ((log : List ℕ) → after r log ≡ edited d used log bench l) ⌝ }
+{
+    let desk = state::desk::with_line(d, bench, l);
+    Keyed {
+        desk,
+        used,
+        answer: Answer::Accepted,
+    }
+}
+
 fn append_byte(d: Desk, used: usize, bench: usize, l: Line, byte: u8) -> Keyed
     requires { ⌜ l ≡ lineAt d bench ⌝ }
     ensures { λ r. ⌜ ((log : List ℕ) → after r log ≡ appendKey d used log bench byte) ⌝ }
 {
     if l.len < LINE_MOST {
-        let next = state::line::append(l, byte);
-        let desk = state::desk::with_line(d, bench, next);
-        Keyed {
-            desk,
-            used,
-            answer: Answer::Accepted,
-        }
+        edit_line(d, used, bench, state::line::append(l, byte))
     } else {
         Keyed {
             desk: d,
@@ -148,24 +154,8 @@ fn step(d: Desk, used: usize, log: &mut [u8], bench: usize, byte: u8) -> Keyed
     let l = d.lines[bench];
     match byte {
         32..=126 => append_byte(d, used, bench, l, byte),
-        8 => {
-            let next = state::line::erase(l);
-            let desk = state::desk::with_line(d, bench, next);
-            Keyed {
-                desk,
-                used,
-                answer: Answer::Accepted,
-            }
-        }
-        24 => {
-            let next = state::line::empty_line();
-            let desk = state::desk::with_line(d, bench, next);
-            Keyed {
-                desk,
-                used,
-                answer: Answer::Accepted,
-            }
-        }
+        8 => edit_line(d, used, bench, state::line::erase(l)),
+        24 => edit_line(d, used, bench, state::line::empty_line()),
         10 => enter_line(d, used, log, bench, l),
         _ => Keyed {
             desk: d,

@@ -8,7 +8,7 @@ use Rattle.state.specs.Desks.{benchCount}
 use Rattle.state.specs.declared.line.Line.{Line}
 use Rattle.state.specs.declared.sheet.Item.{Item}
 use Rattle.state.specs.declared.desk.Desk.{Desk}
-use Rattle.replies.specs.Number.{numberLength, numberBytes}
+use Rattle.little_endian.specs.Number.{numberLength, numberBytes}
 
 abbrev pub lineLength : ℕ
 lineLength = lineMost + numberLength

@@ -2,12 +2,12 @@
 // A client cites DeskBytes (deskBytes).
 ghost use mathlib.Core.Path.{_≡_};
 ghost use mathlib.Core.List.{_++_, flatMap};
-ghost use Rattle.replies.specs.Number.{numberBytes};
+ghost use Rattle.little_endian.specs.Number.{numberBytes};
 ghost use Rattle.desk_bytes.specs.DeskBytes.{lineBytes, itemBytes, deskBytes};
 use items::ITEM_COUNT;
 use items::LINE_MOST;
-use replies::number::NUMBER_BYTES;
-use replies::number::number_bytes;
+use little_endian::NUMBER_BYTES;
+use little_endian::number_bytes;
 use state::desk::BENCH_COUNT;
 use state::desk::Desk;
 use state::line::Line;

@@ -5,7 +5,7 @@ use mathlib.Core.List.{List, [], _∷_}
 use Prim.Native.Nat.{ℕ, _+_, _*_}
 use native.Mathlib.Omega.{arith}
 use lib.ListN.{getD, take, drop}
-use Rattle.replies.specs.Number.{numberLength, numberOf}
+use Rattle.little_endian.specs.Number.{numberLength, numberOf}
 
 -- from the byte k on
 abbrev pub eightFrom : ℕ → List ℕ → ℕ

@@ -6,7 +6,7 @@ use mathlib.Core.List.{List, [], _∷_}
 use lib.Dec.{leb, eqb}
 use lib.ListN.{length, getD, take, drop}
 use Rattle.sequence.specs.Calls.{Call, key, ask, report, who}
-use Rattle.replies.specs.Number.{numberLength, numberOf}
+use Rattle.little_endian.specs.Number.{numberLength, numberOf}
 
 -- the bytes of a call: its kind, a number in 8 bytes, a byte
 abbrev pub callLength : ℕ

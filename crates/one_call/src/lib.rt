@@ -11,10 +11,10 @@ mod number;
 
 use number::byte_at;
 use number::call_number;
-use replies::reply::REPLY_BYTES;
-use replies::reply::key_reply;
-use replies::reply::report_reply;
-use replies::reply::who_reply;
+use replies::REPLY_BYTES;
+use replies::key_reply;
+use replies::report_reply;
+use replies::who_reply;
 use state::desk::Desk;
 
 // The bytes of a call, and where its key stands in them.

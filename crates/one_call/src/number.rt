@@ -2,7 +2,7 @@
 ghost use mathlib.Core.Path.{_≡_};
 ghost use Prim.Native.Nat.{_<_};
 ghost use lib.ListN.{getD, take, drop};
-ghost use Rattle.replies.specs.Number.{numberLength, numberOf};
+ghost use Rattle.little_endian.specs.Number.{numberLength, numberOf};
 
 // The byte at a place, 0 where there is none.
 pub(crate) fn byte_at(s: &[u8], at: usize) -> u8

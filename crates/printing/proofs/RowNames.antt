@@ -5,7 +5,7 @@ use mathlib.Core.List.{List, [], _∷_, _++_}
 use Prim.Native.Nat.{ℕ, _+_, _-_, _≤_, _<_}
 use lib.ListN.{length, getD, take, drop}
 use Rattle.text.proofs.Tables.{agree, nowhere-above}
-use Rattle.alerts.specs.Sheet.{rowCount}
+use Rattle.rows.specs.Rows.{rowCount}
 use Rattle.printing.specs.Page.{rowNameMost}
 use Rattle.printing.specs.Print.{rowNames, rowName}
 

@@ -6,7 +6,7 @@ ghost use lib.ListN.{length};
 ghost use Rattle.items.specs.Typed.{lineMost};
 ghost use Rattle.items.specs.Items.{itemCount};
 ghost use Rattle.state.specs.Sheets.{valueIn};
-ghost use Rattle.alerts.specs.Sheet.{rowCount};
+ghost use Rattle.rows.specs.Rows.{rowCount};
 ghost use Rattle.copies.specs.Each.{linesFrom};
 ghost use Rattle.printing.specs.Page.{pageMost, rowNameMost, rowLineMost, itemLineMost, written, Adds};
 ghost use Rattle.printing.specs.Print.{rowName, levelLetter, rowLine, filledLine, itemLine, printedOf, printedIn, outAfter};

@@ -1,3 +1,2 @@
-pub mod Question
 pub mod Who
 pub mod Report

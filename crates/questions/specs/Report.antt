@@ -3,10 +3,11 @@
 use mathlib.Core.Bool.{cond}
 use Rattle.soundness.specs.Sound.{soundDesk}
 use Rattle.state.specs.declared.desk.Desk.{Desk}
-use Rattle.alerts.specs.Sheet.{rowsOf, noRows}
+use Rattle.rows.specs.Rows.{noRows}
+use Rattle.alerts.specs.Sheet.{rowsOf}
 use Rattle.rows.specs.declared.Rows.{Rows}
-use Rattle.questions.specs.declared.question.Asked.{Asked}
-use Rattle.questions.specs.declared.question.Asked.the-variants.{Answered, Unsound}
+use Rattle.answers.specs.declared.Asked.{Asked}
+use Rattle.answers.specs.declared.Asked.the-variants.{Answered, Unsound}
 use Rattle.questions.specs.declared.report.Reported.{Reported}
 
 -- an answer and rows

@@ -8,8 +8,8 @@ use Rattle.state.specs.Sheets.{itemAt}
 use Rattle.soundness.specs.Sound.{soundDesk}
 use Rattle.state.specs.declared.sheet.Item.{Item}
 use Rattle.state.specs.declared.desk.Desk.{Desk}
-use Rattle.questions.specs.declared.question.Asked.{Asked}
-use Rattle.questions.specs.declared.question.Asked.the-variants.{Answered, Unsound, NoItem}
+use Rattle.answers.specs.declared.Asked.{Asked}
+use Rattle.answers.specs.declared.Asked.the-variants.{Answered, Unsound, NoItem}
 use Rattle.questions.specs.declared.who.Told.{Told}
 
 -- "For an empty item, and with any refusal, bench is 255 and entry 0"

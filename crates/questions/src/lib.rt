@@ -1,4 +1,3 @@
-// The two questions to the desk. report: the twelve rows. who: who typed an item. question: the answers.
-pub mod question;
+// The two questions to the desk. report: the twelve rows. who: who typed an item.
 pub mod report;
 pub mod who;

@@ -1,7 +1,7 @@
 // The report: the twelve rows of the sheet.
 ghost use mathlib.Core.Path.{_≡_};
 ghost use Rattle.questions.specs.Report.{reportedOf};
-use crate::question::Asked;
+use answers::Asked;
 use rows::Rows;
 use state::desk::Desk;
 
@@ -16,7 +16,7 @@ pub fn report(d: Desk) -> Reported
     ensures { λ r. ⌜ r ≡ reportedOf d ⌝ }
 {
     if !soundness::is_sound(d) {
-        let none = alerts::sheet_rows::no_rows();
+        let none = rows::no_rows();
         return Reported {
             answer: Asked::Unsound,
             rows: none,

@@ -1,7 +1,7 @@
 // Who typed an item.
 ghost use mathlib.Core.Path.{_≡_};
 ghost use Rattle.questions.specs.Who.{nobody, toldOf, whoOf};
-use crate::question::Asked;
+use answers::Asked;
 use items::ITEM_COUNT;
 use state::desk::Desk;
 use state::sheet::Item;

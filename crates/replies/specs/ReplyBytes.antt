@@ -5,13 +5,13 @@ use mathlib.Core.List.{List, [], _∷_, _++_, flatMap}
 use lib.ListN.{replicate}
 use Rattle.answers.specs.Number.{answerNumber}
 use Rattle.answers.specs.declared.Answer.{Answer}
-use Rattle.alerts.specs.Sheet.{rowCount}
+use Rattle.rows.specs.Rows.{rowCount}
 use Rattle.rows.specs.declared.Row.{Row}
 use Rattle.rows.specs.declared.Rows.{Rows}
-use Rattle.questions.specs.Question.{askedNumber}
-use Rattle.questions.specs.declared.question.Asked.{Asked}
+use Rattle.answers.specs.Number.{askedNumber}
+use Rattle.answers.specs.declared.Asked.{Asked}
 use Rattle.questions.specs.declared.who.Told.{Told}
-use Rattle.replies.specs.Number.{numberLength, numberBytes}
+use Rattle.little_endian.specs.Number.{numberLength, numberBytes}
 
 -- the bytes of an answer: its number, and room for the twelve rows
 abbrev pub replyLength : ℕ

@@ -1,4 +1,52 @@
-// The whole answer of a call in bytes.
-// number: a number in bytes. reply: an answer in bytes.
-pub mod number;
-pub mod reply;
+// A call's whole answer in bytes.
+ghost use mathlib.Core.Path.{_≡_};
+ghost use Rattle.replies.specs.ReplyBytes.{keyBytes, reportBytes, whoBytes};
+use answers::Answer;
+use answers::answer_number;
+use answers::asked_number;
+use little_endian::number_bytes;
+use questions::report::Reported;
+use questions::who::Told;
+use rows::ROW_COUNT;
+
+pub const REPLY_BYTES: usize = 1 + 2 * ROW_COUNT;
+
+// The answer of a key call.
+pub fn key_reply(a: Answer) -> [u8; REPLY_BYTES]
+    ensures { λ r. ⌜ r ≡ keyBytes a ⌝ }
+{
+    let mut bytes = [0u8; REPLY_BYTES];
+    bytes[0] = answer_number(a);
+    bytes
+}
+
+// The answer of Report: its rows, each as level and reason.
+pub fn report_reply(p: Reported) -> [u8; REPLY_BYTES]
+    ensures { λ r. ⌜ r ≡ reportBytes (p .answer) (p .rows) ⌝ }
+{
+    let answer = p.answer;
+    let rows = p.rows;
+    let mut bytes = [0u8; REPLY_BYTES];
+    bytes[0] = asked_number(answer);
+    let mut i = 0;
+    while i < ROW_COUNT {
+        let row = rows.rows[i];
+        let pair = [row.level, row.reason];
+        copies::copy_in(&mut bytes, 1 + 2 * i, &pair);
+        i += 1;
+    }
+    bytes
+}
+
+// The answer of Who: the bench and the entry number.
+pub fn who_reply(t: Told) -> [u8; REPLY_BYTES]
+    ensures { λ r. ⌜ r ≡ whoBytes t ⌝ }
+{
+    let answer = t.answer;
+    let entry = number_bytes(t.entry as u64);
+    let mut bytes = [0u8; REPLY_BYTES];
+    bytes[0] = asked_number(answer);
+    bytes[1] = t.bench;
+    copies::copy_in(&mut bytes, 2, &entry);
+    bytes
+}

@@ -15,7 +15,8 @@ use Rattle.state.specs.declared.sheet.Item.{Item}
 use Rattle.state.specs.declared.desk.Desk.{Desk}
 use Rattle.answers.specs.declared.Answer.the-variants.{Accepted}
 use Rattle.log.specs.Record.{recordLength}
-use Rattle.alerts.specs.Sheet.{rowsOf, noRows}
+use Rattle.rows.specs.Rows.{noRows}
+use Rattle.alerts.specs.Sheet.{rowsOf}
 use Rattle.rows.specs.declared.Rows.{Rows}
 use Rattle.cif_file.specs.Answers.{After}
 use Rattle.sequence.specs.Calls.{Call, key, Reply, keyed, State}

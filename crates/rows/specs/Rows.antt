@@ -5,9 +5,13 @@ use Prim.Native.Nat.{ℕ}
 use mathlib.Core.Bool.{Bool, _||_}
 use mathlib.Core.List.{List}
 use lib.Dec.{eqb}
-use lib.ListN.{length}
+use lib.ListN.{length, replicate}
 use Rattle.values.specs.Value.{isUnassigned}
 use Rattle.rows.specs.declared.Row.{Row}
+use Rattle.rows.specs.declared.Rows.{Rows}
+
+abbrev pub rowCount : ℕ
+rowCount = 12
 
 -- a level and a reason: "Level 0 none, 1 General, 2 C, 3 B, 4 A. Reason 0 judged, 1 an item missing, 2 not judgeable."
 abbrev pub rowOf : ℕ → ℕ → Row
@@ -16,6 +20,10 @@ rowOf level reason = record { level = level; reason = reason }
 -- "judged", and no alert
 abbrev pub noAlert : Row
 noAlert = rowOf 0 0
+
+-- "rows all level 0, reason 0"
+abbrev pub noRows : Rows
+noRows = record { rows = replicate rowCount noAlert }
 
 -- ""Missing" is empty or unassigned"
 unfoldable pub missing : List ℕ → Bool

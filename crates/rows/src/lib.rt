@@ -1,6 +1,6 @@
 // A row of the report, and when the value of an item is missing (document 01, "The twelve rows").
 ghost use mathlib.Core.Path.{_≡_};
-ghost use Rattle.rows.specs.Rows.{rowOf, missing};
+ghost use Rattle.rows.specs.Rows.{rowOf, noRows, missing};
 
 pub const ROW_COUNT: usize = 12;
 
@@ -21,6 +21,19 @@ pub fn make_row(level: u8, reason: u8) -> Row
     ensures { λ r. ⌜ r ≡ rowOf level reason ⌝ }
 {
     Row { level, reason }
+}
+
+// Rows with no alert.
+pub fn no_rows() -> Rows
+    ensures { λ r. ⌜ r ≡ noRows ⌝ }
+{
+    let none = Row {
+        level: 0,
+        reason: 0,
+    };
+    Rows {
+        rows: [none; ROW_COUNT],
+    }
 }
 
 // Whether the value of an item is missing: empty or unassigned.

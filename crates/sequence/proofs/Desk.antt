@@ -6,10 +6,11 @@ use mathlib.Core.List.{List}
 use Prim.Native.Nat.{ℕ}
 use Rattle.soundness.specs.Sound.{soundDesk}
 use Rattle.state.specs.declared.desk.Desk.{Desk}
-use Rattle.alerts.specs.Sheet.{rowsOf, noRows}
+use Rattle.rows.specs.Rows.{noRows}
+use Rattle.alerts.specs.Sheet.{rowsOf}
 use Rattle.rows.specs.declared.Rows.{Rows}
 use Rattle.questions.specs.Report.{reportedAs, reportedOf}
-use Rattle.questions.specs.declared.question.Asked.the-variants.{Answered, Unsound}
+use Rattle.answers.specs.declared.Asked.the-variants.{Answered, Unsound}
 use Rattle.questions.specs.declared.report.Reported.{Reported}
 use Rattle.sequence.specs.Calls.{Call, Reply, reported, reportOf}
 use Rattle.sequence.specs.Sequences.{Sequences}

@@ -35,7 +35,7 @@ use Rattle.answers.specs.declared.Answer.the-variants as answer
 use Rattle.soundness.proofs.Everys.{every-each}
 use Rattle.calls.specs.Key.{After, refused, edited, entered, stored, enteredAs, keyStep, keyOf}
 use Rattle.questions.specs.Who.{nobody, toldOf, whoOf}
-use Rattle.questions.specs.declared.question.Asked.the-variants.{Answered, Unsound, NoItem}
+use Rattle.answers.specs.declared.Asked.the-variants.{Answered, Unsound, NoItem}
 use Rattle.questions.specs.declared.who.Told.{Told}
 use Rattle.sequence.specs.Calls.{report, who, Call, key, ask, keyed, reported, told, State, left, reportOf, step}
 use Rattle.sequence.specs.Work.{Entry, Work, typedBy, recordsOf, lastOf, itemsFrom, sheetOf, enterAnswer, tableAnswer, accepts, editedText, keyAnswer, keyWork, lastTold, whoLast, workStep}

@@ -11,8 +11,8 @@ use Rattle.state.specs.declared.desk.Desk.{Desk}
 use Rattle.answers.specs.declared.Answer.{Answer}
 use Rattle.calls.specs.Key.{After, keyOf}
 use Rattle.questions.specs.Who.{whoOf}
-use Rattle.questions.specs.declared.question.Asked.{Asked}
-use Rattle.questions.specs.declared.question.Asked.the-variants.{Answered, Unsound}
+use Rattle.answers.specs.declared.Asked.{Asked}
+use Rattle.answers.specs.declared.Asked.the-variants.{Answered, Unsound}
 use Rattle.questions.specs.declared.who.Told.{Told}
 
 -- "Two questions": Report, and Who with an item number

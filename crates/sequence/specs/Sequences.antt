@@ -26,7 +26,7 @@ use Rattle.soundness.specs.Sound.{soundDesk}
 use Rattle.sound_log.specs.SoundLog.{logMost, soundLog}
 use Rattle.state.specs.declared.sheet.Sheet.{Sheet}
 use Rattle.answers.specs.declared.Answer.the-variants.{Accepted}
-use Rattle.questions.specs.declared.question.Asked.the-variants.{Answered}
+use Rattle.answers.specs.declared.Asked.the-variants.{Answered}
 use Rattle.sequence.specs.Calls.{Call, key, ask, report, who, Reply, keyed, reported, told, State, freshState, step, answered, final}
 use Rattle.sequence.specs.Gather.{gather, gatherAnswered, Regrouped}
 use Rattle.sequence.specs.Work.{Entry, Work, noWork, typedBy, recordsOf, lastOf, sheetOf, accepts, whoLast, workStep}

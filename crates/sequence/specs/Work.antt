@@ -21,7 +21,7 @@ use Rattle.state.specs.declared.sheet.Sheet.{Sheet}
 use Rattle.answers.specs.declared.Answer.{Answer}
 use Rattle.answers.specs.declared.Answer.the-variants.{Accepted, NoBench, Unsound, NoKey, LineFull, BadForm, UnknownName, WrongKind, NoRoom}
 use Rattle.questions.specs.Who.{nobody}
-use Rattle.questions.specs.declared.question.Asked.the-variants.{Answered, NoItem}
+use Rattle.answers.specs.declared.Asked.the-variants.{Answered, NoItem}
 use Rattle.questions.specs.declared.who.Told.{Told}
 use Rattle.sequence.specs.Calls.{Call, key, ask, report, who, Reply, keyed, reported, told}
 

@@ -7,7 +7,8 @@ use native.Mathlib.Omega.{arith}
 use native.Mathlib.Numerals.{towards-suc}
 use lib.ListN.{length, getD, drop, length-drop}
 use lib.Seq.{drop-cons}
-use Rattle.alerts.specs.Sheet.{rowsOf, noRows}
+use Rattle.rows.specs.Rows.{noRows}
+use Rattle.alerts.specs.Sheet.{rowsOf}
 use Rattle.calls.specs.Key.{After, after, keyOf}
 use Rattle.calls.specs.declared.key.Keyed.{Keyed}
 use Rattle.sequence.specs.Calls.{Call, key, State, left, step, final, stateOf}

@@ -4,7 +4,8 @@ use Prim.Native.Nat.{ℕ, _-_}
 use mathlib.Core.Bool.{cond}
 use mathlib.Core.List.{List, [], _∷_}
 use Rattle.text.specs.Run.{between}
-use Rattle.alerts.specs.Sheet.{rowsOf, noRows}
+use Rattle.rows.specs.Rows.{noRows}
+use Rattle.alerts.specs.Sheet.{rowsOf}
 use Rattle.sequence.specs.Calls.{Call, key, State, stateOf, step, final}
 use Rattle.session.specs.declared.play.Played.{Played}
 

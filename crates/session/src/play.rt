@@ -14,7 +14,7 @@ pub struct Played {
 const NO_BENCH: u64 = 255;
 
 // The bench of a pair's first byte.
-pub fn bench_of(first: u8) -> u64
+fn bench_of(first: u8) -> u64
     ensures { λ r. ⌜ r ≡ benchOf first ⌝ }
 {
     if first < b'0' {

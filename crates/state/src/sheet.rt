@@ -23,7 +23,7 @@ pub struct Sheet {
 }
 
 // A sheet with nothing on it.
-pub fn empty_sheet() -> Sheet
+pub(crate) fn empty_sheet() -> Sheet
     ensures { λ r. ⌜ r ≡ emptySheet ⌝ }
 {
     let item = Item {

@@ -72,7 +72,7 @@ fn with_count(a: u8, b: u8, c: Count) -> Term
 }
 
 // The term that s is.
-pub fn read_term(s: &[u8]) -> Term
+pub(crate) fn read_term(s: &[u8]) -> Term
     ensures { λ r. ⌜ r ≡ termOf (now (s .entry)) ⌝ }
 {
     if !between_at(s, 0, b'A', b'Z') {

@@ -7,7 +7,7 @@ use Prim.Native.Nat.{ℕ, _+_, _-_}
 use lib.ListN.{length, length-append, drop, replicate, set}
 use lib.Seq.{set-at}
 use Rattle.items.specs.Typed.{lineMost}
-use Rattle.replies.specs.Number.{numberLength, numberBytes}
+use Rattle.little_endian.specs.Number.{numberLength, numberBytes}
 use Rattle.desk_bytes.specs.DeskBytes.{itemLength}
 use Rattle.copies.proofs.Copies.{copied-next, copied-start}
 use borrow.Author.Needs.{needs}

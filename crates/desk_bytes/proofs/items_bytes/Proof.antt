@@ -10,7 +10,7 @@ use Rattle.copies.specs.Copy.{copied}
 use Rattle.items.specs.Items.{itemCount}
 use Rattle.state.specs.Sheets.{noItem}
 use Rattle.desk_bytes.specs.DeskBytes.{itemLength, itemBytes}
-use Rattle.replies.proofs.Puts.{Put, put-none, put-next, put-all}
+use Rattle.copies.proofs.Puts.{Put, put-none, put-next, put-all}
 use Rattle.desk_bytes.proofs.Wholes.{copied-whole}
 use Rattle.desk_bytes.proofs.items_bytes.Statement.{statement}
 use Rattle.desk_bytes.proofs.items_bytes.Tie as tie

@@ -7,7 +7,7 @@ use Prim.Native.Nat.{ℕ, _+_, _*_}
 use lib.ListN.{length, length-append, replicate}
 use Rattle.items.specs.Items.{itemCount}
 use Rattle.state.specs.Desks.{benchCount}
-use Rattle.replies.specs.Number.{numberLength, numberBytes}
+use Rattle.little_endian.specs.Number.{numberLength, numberBytes}
 use Rattle.desk_bytes.specs.DeskBytes.{lineLength, itemLength, deskLength}
 use Rattle.copies.proofs.Copies.{copied-next}
 use Rattle.desk_bytes.proofs.Wholes.{copied-whole}

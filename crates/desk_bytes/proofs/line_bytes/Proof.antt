@@ -6,7 +6,7 @@ use mathlib.Core.List.{List}
 use Prim.Native.Nat.{ℕ}
 use lib.ListN.{length, length-append, replicate}
 use Rattle.items.specs.Typed.{lineMost}
-use Rattle.replies.specs.Number.{numberBytes}
+use Rattle.little_endian.specs.Number.{numberBytes}
 use Rattle.desk_bytes.specs.DeskBytes.{lineLength, lineBytes}
 use Rattle.copies.proofs.Copies.{copied-next}
 use Rattle.desk_bytes.proofs.Wholes.{copied-whole}

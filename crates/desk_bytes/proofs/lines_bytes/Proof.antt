@@ -9,7 +9,7 @@ use lib.ListN.{length, length-map, replicate}
 use Rattle.copies.specs.Copy.{copied}
 use Rattle.state.specs.Desks.{benchCount, noLine}
 use Rattle.desk_bytes.specs.DeskBytes.{lineLength, lineBytes}
-use Rattle.replies.proofs.Puts.{Put, put-none, put-next, put-all}
+use Rattle.copies.proofs.Puts.{Put, put-none, put-next, put-all}
 use Rattle.desk_bytes.proofs.Wholes.{copied-whole}
 use Rattle.desk_bytes.proofs.lines_bytes.Statement.{statement}
 use Rattle.desk_bytes.proofs.lines_bytes.Tie as tie

@@ -4,7 +4,8 @@ use mathlib.Core.Path.{_≡_, _∙_, ap, sym}
 use mathlib.Core.List.{List}
 use Prim.Native.Nat.{ℕ}
 use Rattle.state.specs.declared.desk.Desk.{Desk}
-use Rattle.alerts.specs.Sheet.{rowsOf, noRows}
+use Rattle.rows.specs.Rows.{noRows}
+use Rattle.alerts.specs.Sheet.{rowsOf}
 use Rattle.questions.specs.declared.report.Reported.{Reported}
 use Rattle.sequence.specs.Calls.{reported, reportOf, stateOf}
 use Rattle.sequence.proofs.Desk.{report-is}

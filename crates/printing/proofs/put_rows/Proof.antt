@@ -5,7 +5,7 @@ use native.Mathlib.Omega.{arith}
 use mathlib.Core.Path.{_≡_, sym, _∙_}
 use Prim.Native.Nat.{ℕ, _+_, _*_, _-_, _≤_}
 use lib.ListN.{length, length-map}
-use Rattle.alerts.specs.Sheet.{rowCount}
+use Rattle.rows.specs.Rows.{rowCount}
 use Rattle.printing.specs.Page.{rowLineMost}
 use Rattle.printing.specs.Print.{rowLine}
 use Rattle.printing.proofs.Pages.{Listed, listed-none, listed-next, listed-all}

@@ -1,5 +1,6 @@
 -- `calls::key::append_byte` meets its contract: the line is full or not.
 -- Assumes nothing.
+use mathlib.Core.Path.{_∙_}
 use borrow.Author.Tests.{lt-ltb, le-ltb}
 use borrow.Author.Needs.{needs}
 use Rattle.items.specs.Typed.{lineMost}
@@ -9,7 +10,7 @@ use Rattle.calls.proofs.key.append_byte.Tie as tie
 returns : tie.Need-returns
 returns c =
     let t = c .before .before in
-    λ log. simp (← t .before .before .pre, lt-ltb _ lineMost (t .if1 .taken), c .with-line .ensures, c .before .append .ensures)
+    λ log. c .edit-line .ensures log ∙ simp (← t .before .before .pre, lt-ltb _ lineMost (t .if1 .taken), c .before .append .ensures)
 
 returns-2 : tie.Need-returns-2
 returns-2 c = λ log. simp (← c .before .before .pre, le-ltb _ lineMost (c .if1 .left))

@@ -12,11 +12,11 @@ use Rattle.calls.proofs.key.step.Tie as tie
 
 returns : tie.Need-returns
 unfolding keyStep between
-returns c = simp (c .with-line .ensures, c .before .erase .ensures, c .before .before .match .keys1)
+returns c = c .edit-line .ensures _ ∙ simp (c .before .erase .ensures, c .before .before .match .keys1)
 
 returns-2 : tie.Need-returns-2
 unfolding keyStep between
-returns-2 c = simp (c .with-line2 .ensures, c .before .empty-line .ensures, c .before .before .match .keys2)
+returns-2 c = c .edit-line2 .ensures _ ∙ simp (c .before .empty-line .ensures, c .before .before .match .keys2)
 
 returns-3 : tie.Need-returns-3
 unfolding keyStep between

@@ -4,7 +4,7 @@ use mathlib.Core.Path.{sym, _∙_, ap}
 use borrow.Author.Tests.{not-true, not-false}
 use Rattle.rows.specs.declared.Rows.{Rows}
 use Rattle.questions.specs.Report.{reportedAs, reportedOf}
-use Rattle.questions.specs.declared.question.Asked.the-variants.{Answered, Unsound}
+use Rattle.answers.specs.declared.Asked.the-variants.{Answered, Unsound}
 use borrow.Author.Needs.{needs}
 use Rattle.questions.proofs.report.report.Statement.{statement}
 use Rattle.questions.proofs.report.report.Tie as tie

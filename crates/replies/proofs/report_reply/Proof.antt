@@ -1,17 +1,17 @@
--- `replies::reply::report_reply` meets its contract. The loop's invariant: the rows passed are written, one after the other.
+-- `replies::report_reply` meets its contract. The loop's invariant: the rows passed are written, one after the other.
 -- The measure is what is left of the rows. Assumes nothing.
 use native.Mathlib.Omega.{arith}
 use mathlib.Core.Path.{_≡_, refl, sym, ap, _∙_}
 use mathlib.Core.List.{List, _∷_, flatMap}
 use Prim.Native.Nat.{ℕ, _*_, _≤_, _-_}
 use lib.ListN.{length, replicate, length-map}
-use Rattle.alerts.specs.Sheet.{rowCount}
+use Rattle.rows.specs.Rows.{rowCount}
 use Rattle.rows.specs.Rows.{noAlert}
 use Rattle.replies.specs.ReplyBytes.{replyLength, rowBytes}
 use Rattle.copies.proofs.Copies.{copied-after}
-use Rattle.replies.proofs.Puts.{Put, put-none, put-next, put-all}
-use Rattle.replies.proofs.reply.report_reply.Statement.{statement}
-use Rattle.replies.proofs.reply.report_reply.Tie as tie
+use Rattle.copies.proofs.Puts.{Put, put-none, put-next, put-all}
+use Rattle.replies.proofs.report_reply.Statement.{statement}
+use Rattle.replies.proofs.report_reply.Tie as tie
 
 abbrev Inv-loop : tie.InvT-loop
 Inv-loop rows bytes₀ i₀ bytes i = (i ≤ rowCount) × (length bytes ≡ replyLength) × Put rowBytes 2 (rows .rows) bytes₀ 1 i bytes

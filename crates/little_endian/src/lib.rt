@@ -1,6 +1,6 @@
-// A number in eight bytes, little-endian.
+// A number in eight bytes, little-endian. No rule of document 01 is here.
 ghost use mathlib.Core.Path.{_≡_};
-ghost use Rattle.replies.specs.Number.{numberBytes};
+ghost use Rattle.little_endian.specs.Number.{numberBytes};
 
 pub const NUMBER_BYTES: usize = 8;
 

@@ -1,10 +1,10 @@
--- `replies::reply::who_reply` meets its contract: the entry number stands after the answer and the bench.
+-- `replies::who_reply` meets its contract: the entry number stands after the answer and the bench.
 -- Assumes nothing.
 use mathlib.Core.Path.{_≡_, _∙_}
 use Rattle.copies.specs.Copy.{copied}
 use borrow.Author.Needs.{needs}
-use Rattle.replies.proofs.reply.who_reply.Statement.{statement}
-use Rattle.replies.proofs.reply.who_reply.Tie as tie
+use Rattle.replies.proofs.who_reply.Statement.{statement}
+use Rattle.replies.proofs.who_reply.Tie as tie
 
 returns : tie.Need-returns
 unfolding copied
