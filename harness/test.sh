@@ -413,6 +413,42 @@ desk_sessions() {
     summary "desk: 300 generated inputs" "$harness" desk-runs "$desk" 14 300
 }
 
+# What the tools tell a person: the refused keys of a session, and wrong arguments.
+tools_tell() {
+    there desk || return
+    runs "tools/refusals: the sample session" 0 $'0 of 57 keys refused\n' '' tools/refusals
+    runs "tools/refusals: refused lines" 1 "$(cat <<'END'
+pair 1, bench 0, Enter after ``: 5, not a name, a space and a value
+pair 24, bench 0, Enter after `_refine_ls_R_factor_gt`: 5, not a name, a space and a value
+pair 31, bench 0, Enter after `_refine_ls_R_factor_gt 0.16 `: 5, not a name, a space and a value
+pair 57, bench 1, Enter after `_refine_ls_R_factor 0.2`: 6, no item has this name
+pair 88, bench 1, Enter after `_refine_ls_wR_factor_obs 0.2x`: 7, not a number, or no category, as this item wants
+pair 118, bench 2, Enter after `_publ_requested_category fo`: 7, not a number, or no category, as this item wants
+pair 150, bench 3, Enter after `refine_ls_shift/su_max 0.3`: 5, not a name, a space and a value
+bench 3 has not entered `refine_ls_shift/su_max 0.3`
+7 of 150 keys refused
+END
+)"$'\n' '' tools/refusals harness/desk-sessions/refused_lines.in
+    runs "tools/refusals: a full line" 1 "$(cat <<'END'
+pair 81, bench 3, key ': 4, the line is full
+pair 82, bench 3, Enter after `_reflns_threshold_expression 'yyyyyyyyyyyyyyyyyyyyyyyyyyyyyyyyyyyyyyyyyyyyyyyyyy`: 5, not a name, a space and a value
+pair 87, bench 3, Enter after ``: 5, not a name, a space and a value
+3 of 87 keys refused
+END
+)"$'\n' '' tools/refusals harness/desk-sessions/line_of_81.in
+    runs "tools/refusals: no pairs, from another folder" 1 \
+        $'pairs 1 to 3, no bench: 1, this bench is not there: a pair begins with 0, 1, 2 or 3\npair 4, bench 0, byte 7: 3, this key does nothing here\nthe last byte has no pair and is passed over\n4 of 4 keys refused\n' '' \
+        bash -c 'cd "$1" && exec "$2/tools/refusals" -' - "$work" "$PWD" < <(printf 'camp\r\n0\a\t')
+    runs "tools/refusals: nothing typed" 0 $'0 of 0 keys refused\n' '' tools/refusals - </dev/null
+    runs "tools/refusals: no such file" 2 '' $'tools/refusals: none: no file that can be read\n' tools/refusals none
+    runs "tools/refusals: two files" 2 '' $'usage: tools/refusals [FILE], - for standard input\n' tools/refusals a b
+    runs "tools/run: no such file" 2 '' $'tools/run: none: no file that can be read\n' tools/run none
+    runs "tools/run: a folder" 2 '' $'tools/run: .: no file that can be read\n' tools/run .
+    runs "tools/run: two files" 2 '' $'usage: tools/run [FILE], - for standard input\n' tools/run a b
+    runs "tools/run from another folder" 0 "$(cat harness/desk-sessions/overwritten.out)"$'\n' '' \
+        bash -c 'cd "$1" && cp "$2/harness/desk-sessions/overwritten.in" . && "$2/tools/run" overwritten.in 2>/dev/null' - "$work" "$PWD"
+}
+
 # cif_refuses NAME STATUS COMMAND..: the exit, nothing on standard output, and one line of sheet_cif's on standard error.
 cif_refuses() {
     local name=$1 status=$2
@@ -526,6 +562,7 @@ trace_keys
 trace_pauses
 trace_generated
 desk_sessions
+tools_tell
 sheet_cif_runs
 comparison
 finish
