@@ -440,10 +440,10 @@ END
         $'pairs 1 to 3, no bench: 1, this bench is not there: a pair begins with 0, 1, 2 or 3\npair 4, bench 0, byte 7: 3, this key does nothing here\nthe last byte has no pair and is passed over\n4 of 4 keys refused\n' '' \
         bash -c 'cd "$1" && exec "$2/tools/refusals" -' - "$work" "$PWD" < <(printf 'camp\r\n0\a\t')
     runs "tools/refusals: nothing typed" 0 $'0 of 0 keys refused\n' '' tools/refusals - </dev/null
-    runs "tools/refusals: no such file" 2 '' $'tools/refusals: none: no file that can be read\n' tools/refusals none
+    runs "tools/refusals: no such file" 2 '' $'none: no file that can be read\n' tools/refusals none
     runs "tools/refusals: two files" 2 '' $'usage: tools/refusals [FILE], - for standard input\n' tools/refusals a b
-    runs "tools/run: no such file" 2 '' $'tools/run: none: no file that can be read\n' tools/run none
-    runs "tools/run: a folder" 2 '' $'tools/run: .: no file that can be read\n' tools/run .
+    runs "tools/run: no such file" 2 '' $'none: no file that can be read\n' tools/run none
+    runs "tools/run: a folder" 2 '' $'.: no file that can be read\n' tools/run .
     runs "tools/run: two files" 2 '' $'usage: tools/run [FILE], - for standard input\n' tools/run a b
     runs "tools/run from another folder" 0 "$(cat harness/desk-sessions/overwritten.out)"$'\n' '' \
         bash -c 'cd "$1" && cp "$2/harness/desk-sessions/overwritten.in" . && "$2/tools/run" overwritten.in 2>/dev/null' - "$work" "$PWD"

@@ -57,3 +57,14 @@ build_sheet_cif() {
 build_desk() {
     if stale target/bin/desk; then rt check desk || return 1; fi
 }
+
+# from FOLDER NAME: standard input is from now on the file that a person named from that folder; - leaves it as it is. Fails where the file cannot be read.
+from() {
+    local path=$2
+    case $path in
+        -) return ;;
+        /*) ;;
+        *) path=$1/$path ;;
+    esac
+    [ -r "$path" ] && [ ! -d "$path" ] && exec <"$path" || { echo "$2: no file that can be read" >&2; return 1; }
+}
