@@ -160,7 +160,8 @@ fn desk_after(input: &[u8], log: &mut [u8]) -> Desk {
 
 // The sheet that holds these values.
 fn sheet_of(texts: &[u8], lens: &[u8]) -> Sheet {
-    let mut sheet = state::sheet::empty_sheet();
+    let fresh = state::desk::fresh_desk();
+    let mut sheet = fresh.sheet;
     let mut at = 0;
     let mut i = 0;
     while i < lens.len() {
