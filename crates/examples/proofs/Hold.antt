@@ -27,7 +27,8 @@ use Rattle.graded_rows.specs.GradedRows.{gradedRow, oldNameRow}
 use Rattle.threshold.specs.Threshold.{hasShape, multiplierOf, thresholdLevel, thresholdRow, row12}
 use Rattle.soundness.specs.Sound.{every, soundLine, soundEmpty, soundFilled, soundItem, soundLines, soundSheet, soundDesk}
 use Rattle.sound_log.specs.SoundLog.{soundLog}
-use Rattle.kinds.specs.Kinds.{isCategory, passes, fits}
+use Rattle.categories.specs.Categories.{isCategory}
+use Rattle.kinds.specs.Kinds.{passes, fits}
 use Rattle.calls.specs.Key.{stored, keyStep, keyOf}
 use Rattle.examples.specs.Table.{Example, sheetWith, answerOf, examples}
 

@@ -9,8 +9,8 @@ use Rattle.terms.specs.declared.term.Term.{Term}
 use Rattle.terms.specs.declared.term.Term.the-variants.{Well, Ill}
 use Rattle.formula_class.specs.declared.Wanted.{Wanted}
 use Rattle.formula_class.specs.declared.Wanted.the-variants.{Symbol, AnyMetal}
-use Rattle.formula_class.specs.declared.Class.{Class}
-use Rattle.formula_class.specs.declared.Class.the-variants.{Inorganic, MetalOrganic, Organic}
+use Rattle.categories.specs.declared.Class.{Class}
+use Rattle.categories.specs.declared.Class.the-variants.{Inorganic, MetalOrganic, Organic}
 
 -- a term is well formed and is one that is looked for
 abbrev pub isWanted : Wanted → Term → Bool

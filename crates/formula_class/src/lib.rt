@@ -1,15 +1,9 @@
 // The class of a formula by its elements (document 01, "The twelve rows": row 3).
 ghost use mathlib.Core.Path.{_≡_};
 ghost use Rattle.formula_class.specs.Class.{isWanted, hasTerm, classOf};
+use categories::Class;
 use terms::Step;
 use terms::term::Term;
-
-// The classes that row 3 tells apart.
-pub enum Class {
-    Inorganic,
-    MetalOrganic,
-    Organic,
-}
 
 // What is looked for among the terms of a formula: a symbol, or that of any metal.
 pub enum Wanted {

@@ -8,7 +8,8 @@ use Rattle.quotes.specs.Quoted.{textOf}
 use Rattle.formula.specs.Recognised.{allRecognised}
 use Rattle.formula_class.specs.Class.{classOf}
 use Rattle.rows.specs.Rows.{rowOf, noAlert, missing}
-use Rattle.formula_rows.specs.FormulaRows.{inClass, row3}
+use Rattle.formula_rows.specs.FormulaRows.{row3}
+use Rattle.categories.specs.Categories.{inClass}
 
 module _ (f c : List ℕ) where
   pub class-formula : missing f ≡ true → row3 f c ≡ rowOf 1 1

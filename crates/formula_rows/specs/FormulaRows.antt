@@ -3,14 +3,11 @@
 use Prim.Native.Nat.{ℕ}
 use mathlib.Core.Bool.{Bool, cond, _||_}
 use mathlib.Core.List.{List}
-use Rattle.text.specs.Quote.{bytes}
-use Rattle.equality.specs.Same.{exact, sameBy}
+use Rattle.categories.specs.Categories.{inClass}
 use Rattle.quotes.specs.Quoted.{textOf}
 use Rattle.formula.specs.Recognised.{allRecognised}
 use Rattle.formula_order.specs.Order.{inOrder}
 use Rattle.formula_class.specs.Class.{classOf}
-use Rattle.formula_class.specs.declared.Class.{Class}
-use Rattle.formula_class.specs.declared.Class.the-variants.{Inorganic, MetalOrganic, Organic}
 use Rattle.rows.specs.Rows.{rowOf, noAlert, missing}
 use Rattle.rows.specs.declared.Row.{Row}
 
@@ -21,12 +18,6 @@ row1 formula = cond (missing formula) (rowOf 2 1) (cond (allRecognised (textOf f
 -- "2. CHEMS_01o (000): over the symbols of well-formed terms, C first, then H, then the others in rising ASCII order, none twice; otherwise B. Missing: C, reason 1 (house)."
 unfoldable pub row2 : List ℕ → Row
 row2 formula = cond (missing formula) (rowOf 2 1) (cond (inOrder (textOf formula)) noAlert (rowOf 3 0))
-
--- "inorganic (FI, CI)", "metal-organic (FM, CM)", "organic (FO, CO)": the text of a category is one of a class
-abbrev pub inClass : Class → List ℕ → Bool
-inClass Inorganic t = sameBy exact t (bytes "FI") || sameBy exact t (bytes "CI")
-inClass MetalOrganic t = sameBy exact t (bytes "FM") || sameBy exact t (bytes "CM")
-inClass Organic t = sameBy exact t (bytes "FO") || sameBy exact t (bytes "CO")
 
 -- "3. CHEMS_02 (000): .. Mismatch: General. Formula or category missing: General, reason 1; else row 1 at A: General, reason 2."
 unfoldable pub row3 : List ℕ → List ℕ → Row

@@ -1,10 +1,8 @@
 // Rows 1 to 3: the formula by itself, and against the category (document 01, "The twelve rows").
 ghost use mathlib.Core.Path.{_≡_};
-ghost use mathlib.Core.Bool.{cond, _||_};
-ghost use Rattle.equality.specs.Same.{exact, sameBy};
+ghost use mathlib.Core.Bool.{cond};
 ghost use Rattle.rows.specs.Rows.{rowOf, noAlert, missing};
-ghost use Rattle.formula_rows.specs.FormulaRows.{row1, row2, inClass, row3};
-use formula_class::Class;
+ghost use Rattle.formula_rows.specs.FormulaRows.{row1, row2, row3};
 use rows::Row;
 use rows::is_missing;
 use rows::make_row;
@@ -39,26 +37,6 @@ pub fn order_row(formula: &[u8]) -> Row
     tested_row(formula, passed, 3)
 }
 
-// Whether the text of a category is one of a class.
-pub fn is_in_class(class: Class, t: &[u8]) -> bool
-    ensures { λ r. ⌜ r ≡ inClass class (now (t .entry)) ⌝ }
-{
-    match class {
-        Class::Inorganic => is_either(t, b"FI", b"CI"),
-        Class::MetalOrganic => is_either(t, b"FM", b"CM"),
-        Class::Organic => is_either(t, b"FO", b"CO"),
-    }
-}
-
-fn is_either(t: &[u8], a: &[u8], b: &[u8]) -> bool
-    ensures { λ r. ⌜ r ≡ (sameBy exact (now (t .entry)) (now (a .entry)) || sameBy exact (now (t .entry)) (now (b .entry))) ⌝ }
-{
-    if equality::same(t, a) {
-        return true;
-    }
-    equality::same(t, b)
-}
-
 // Row 3: the class of the formula against the category.
 pub fn class_row(formula: &[u8], category: &[u8]) -> Row
     ensures { λ r. ⌜ r ≡ row3 (now (formula .entry)) (now (category .entry)) ⌝ }
@@ -73,7 +51,7 @@ pub fn class_row(formula: &[u8], category: &[u8]) -> Row
     if !formula::recognised::all_recognised(t) {
         return make_row(1, 2);
     }
-    if is_in_class(formula_class::class_of(t), quotes::text_of(category)) {
+    if categories::is_in_class(formula_class::class_of(t), quotes::text_of(category)) {
         make_row(0, 0)
     } else {
         make_row(1, 0)

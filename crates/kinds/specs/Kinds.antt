@@ -5,22 +5,15 @@ use mathlib.Core.Bool.{Bool, true, _&&_, _||_}
 use mathlib.Core.List.{List}
 use lib.Dec.{leb}
 use lib.ListN.{length}
-use Rattle.text.specs.Quote.{bytes}
 use Rattle.text.specs.Run.{all}
-use Rattle.equality.specs.Same.{exact, sameBy}
 use Rattle.decimal.specs.Reading.{isNumber}
 use Rattle.quotes.specs.Quoted.{textOf}
+use Rattle.categories.specs.Categories.{isCategory}
 use Rattle.values.specs.Value.{isUnassigned, isValue}
 use Rattle.items.specs.Items.{itemCount, rowOf}
 use Rattle.items.specs.Typed.{lineMost, isTyped}
 use Rattle.items.specs.declared.Kind.{Kind}
 use Rattle.items.specs.declared.Kind.the-variants.{Text, Number, Category}
-
--- "A category is FI, CI, FM, CM, FO or CO, bare or quoted, capitals only"
-unfoldable pub isCategory : List ℕ → Bool
-isCategory t =
-    sameBy exact t (bytes "FI") || (sameBy exact t (bytes "CI") || (sameBy exact t (bytes "FM")
-    || (sameBy exact t (bytes "CM") || (sameBy exact t (bytes "FO") || sameBy exact t (bytes "CO")))))
 
 -- a value is of a kind
 abbrev pub ofKind : Kind → List ℕ → Bool

@@ -2,7 +2,7 @@
 ghost use mathlib.Core.Path.{_≡_};
 ghost use Prim.Native.Nat.{_<_, _+_};
 ghost use Rattle.items.specs.Items.{itemCount, rowOf};
-ghost use Rattle.kinds.specs.Kinds.{isCategory, ofKind, passes, fits};
+ghost use Rattle.kinds.specs.Kinds.{ofKind, passes, fits};
 use items::FIRST_TYPED;
 use items::ITEM_COUNT;
 use items::Kind;
@@ -25,24 +25,13 @@ fn kind_at(k: usize) -> Kind
     }
 }
 
-// Whether a text is one of the six categories.
-fn is_category(t: &[u8]) -> bool
-    ensures { λ r. ⌜ r ≡ isCategory (now (t .entry)) ⌝ }
-{
-    equality::same(t, b"FI")
-        | (equality::same(t, b"CI")
-            | (equality::same(t, b"FM")
-                | (equality::same(t, b"CM")
-                    | (equality::same(t, b"FO") | equality::same(t, b"CO")))))
-}
-
 fn is_of_kind(kind: Kind, v: &[u8]) -> bool
     ensures { λ r. ⌜ r ≡ ofKind kind (now (v .entry)) ⌝ }
 {
     match kind {
         Kind::Text => true,
         Kind::Number => decimal::is_number(v),
-        Kind::Category => is_category(quotes::text_of(v)),
+        Kind::Category => categories::is_category(quotes::text_of(v)),
     }
 }
 

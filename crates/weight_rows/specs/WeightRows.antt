@@ -12,13 +12,13 @@ use Rattle.decimal.specs.declared.Reading.the-variants.{Number, Nothing}
 use Rattle.quotes.specs.Quoted.{textOf}
 use Rattle.formula.specs.Recognised.{allRecognised}
 use Rattle.formula.specs.Sum.{sumOf}
-use Rattle.formula_class.specs.declared.Class.the-variants.{MetalOrganic, Organic}
+use Rattle.categories.specs.declared.Class.the-variants.{MetalOrganic, Organic}
 use Rattle.elements.specs.declared.Weight.{Weight}
 use Rattle.elements.specs.declared.Weight.the-variants.{Thousandths, NoWeight}
 use Rattle.levels.specs.Level.{levelOf}
 use Rattle.rows.specs.Rows.{rowOf, noAlert, missing}
 use Rattle.rows.specs.declared.Row.{Row}
-use Rattle.formula_rows.specs.FormulaRows.{inClass}
+use Rattle.categories.specs.Categories.{inClass}
 use Rattle.weight_rows.specs.declared.Weighed.{Weighed}
 use Rattle.weight_rows.specs.declared.Weighed.the-variants.{Both, NotBoth}
 

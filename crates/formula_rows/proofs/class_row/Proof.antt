@@ -9,8 +9,8 @@ use borrow.Author.Tests.{not-true, not-false}
 use Rattle.quotes.specs.Quoted.{textOf}
 use Rattle.formula.specs.Recognised.{allRecognised}
 use Rattle.formula_class.specs.Class.{classOf}
-use Rattle.formula_class.specs.declared.Class.{Class}
-use Rattle.formula_rows.specs.FormulaRows.{inClass}
+use Rattle.categories.specs.declared.Class.{Class}
+use Rattle.categories.specs.Categories.{inClass}
 use Rattle.formula_rows.proofs.ClassCases.{class-formula, class-category, class-unread, class-match, class-mismatch}
 use borrow.Author.Needs.{needs}
 use Rattle.formula_rows.proofs.class_row.Statement.{statement}

@@ -1,7 +1,8 @@
 -- `kinds::is_of_kind` meets its contract: each arm is a case of `ofKind`.
 -- Assumes nothing.
 use mathlib.Core.Path.{sym, _∙_, ap}
-use Rattle.kinds.specs.Kinds.{ofKind, isCategory}
+use Rattle.kinds.specs.Kinds.{ofKind}
+use Rattle.categories.specs.Categories.{isCategory}
 use Rattle.items.specs.declared.Kind.{Kind}
 use borrow.Author.Needs.{needs}
 use Rattle.kinds.proofs.is_of_kind.Statement.{statement}

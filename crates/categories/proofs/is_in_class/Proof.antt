@@ -1,12 +1,12 @@
--- `formula_rows::is_in_class` meets its contract: each arm is a case of `inClass`.
+-- `categories::is_in_class` meets its contract: each arm is a case of `inClass`.
 -- Assumes nothing.
 use mathlib.Core.Path.{sym, _∙_, ap}
 use denote.Ref.{now}
-use Rattle.formula_class.specs.declared.Class.{Class}
-use Rattle.formula_rows.specs.FormulaRows.{inClass}
+use Rattle.categories.specs.declared.Class.{Class}
+use Rattle.categories.specs.Categories.{inClass}
 use borrow.Author.Needs.{needs}
-use Rattle.formula_rows.proofs.is_in_class.Statement.{statement}
-use Rattle.formula_rows.proofs.is_in_class.Tie as tie
+use Rattle.categories.proofs.is_in_class.Statement.{statement}
+use Rattle.categories.proofs.is_in_class.Tie as tie
 
 returns : tie.Need-returns
 returns c =

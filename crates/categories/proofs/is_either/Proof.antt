@@ -1,9 +1,9 @@
--- `formula_rows::is_either` meets its contract: one text or the other.
+-- `categories::is_either` meets its contract: one text or the other.
 -- Assumes nothing.
 use mathlib.Core.Path.{sym, _∙_}
 use borrow.Author.Needs.{needs}
-use Rattle.formula_rows.proofs.is_either.Statement.{statement}
-use Rattle.formula_rows.proofs.is_either.Tie as tie
+use Rattle.categories.proofs.is_either.Statement.{statement}
+use Rattle.categories.proofs.is_either.Tie as tie
 
 returns : tie.Need-returns
 returns c = simp (sym (c .before .same .ensures) ∙ c .if1 .taken)

@@ -1,4 +1,4 @@
--- Worked examples as one table, under one statement that antt computes.
+-- Worked examples of formulas as one table, under one statement that antt computes: terms, order, class and sum.
 -- Assumes nothing.
 use mathlib.Core.Path.{_≡_, refl}
 use mathlib.Core.Bool.{Bool, true, false}
@@ -10,12 +10,12 @@ use Rattle.decimal.specs.Digits.{valueFrom}
 use Rattle.terms.specs.Term.{kindAt, isCount, countOf, termOf}
 use Rattle.terms.specs.Terms.{cut, every, some}
 use Rattle.elements.specs.Elements.{sameSymbol, placeOf, symbols, elementOf, isElement, notMetals, isMetal, weights, weightIn, weightOf}
 use Rattle.formula.specs.Recognised.{allRecognised}
 use Rattle.formula_order.specs.Order.{rank, key, rising, inOrder}
 use Rattle.formula_class.specs.Class.{hasTerm, classOf}
 use Rattle.formula.specs.Sum.{total, sumOf}
-use Rattle.formula_class.specs.declared.Class.{Class}
-use Rattle.formula_class.specs.declared.Class.the-variants.{Inorganic, MetalOrganic, Organic}
+use Rattle.categories.specs.declared.Class.{Class}
+use Rattle.categories.specs.declared.Class.the-variants.{Inorganic, MetalOrganic, Organic}
 use Rattle.elements.specs.declared.Weight.{Weight}
 use Rattle.elements.specs.declared.Weight.the-variants.{Thousandths, NoWeight}
 
@@ -59,6 +59,6 @@ abbrev answered : String → Answers
 answered f =
     record { recognised = allRecognised (bytes f); ordered = inOrder (bytes f); class = classOf (bytes f); sum = sumOf (bytes f) }
 
-pub examples-hold : map (λ (x : Example). answered (x .formula)) examples ≡ map (λ (x : Example). x .answers) examples
+pub formulas-hold : map (λ (x : Example). answered (x .formula)) examples ≡ map (λ (x : Example). x .answers) examples
 unfolding examples cut every some termOf kindAt isCount countOf all between valueFrom allRecognised isElement elementOf symbols placeOf sameSymbol inOrder rising key rank classOf hasTerm isMetal notMetals sumOf total weightOf weightIn weights
-examples-hold = refl
+formulas-hold = refl
