@@ -1,5 +1,4 @@
 pub mod Values
-pub mod Signs
 pub mod Digits
 pub mod Complete
 pub mod Sound

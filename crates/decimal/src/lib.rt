@@ -2,11 +2,10 @@
 // A client cites Reading (readingOf, isNumber). That this reading is the document's wording (Grammar) is the theorem `agree` of proofs/Agree.antt.
 ghost use mathlib.Core.Path.{_≡_};
 ghost use Prim.Native.Nat.{_-_, _≤_, _<_};
-ghost use lib.IntN.{natAbs};
 ghost use lib.ListN.{length};
 ghost use Rattle.text.specs.Run.{runOf};
 ghost use Rattle.decimal.specs.Digits.{mostDigits, mostPlaces, isDigit, valueOf, scaleOf};
-ghost use Rattle.decimal.specs.Reading.{Small, closes, isTail, sizeOf, pointedOf, unsignedOf, signedOf, readingOf, isNumber};
+ghost use Rattle.decimal.specs.Reading.{Small, closes, isTail, sizeOf, pointedOf, unsignedOf, signedOf, readingOf};
 
 // What reading a number finds: the number, in millionths, or that there is none.
 pub enum Reading {
@@ -167,25 +166,4 @@ pub fn read_number(s: &[u8]) -> Reading
         return with_sign(false, unsigned(&s[1..]));
     }
     with_sign(false, unsigned(s))
-}
-
-// Whether s is a number.
-pub fn is_number(s: &[u8]) -> bool
-    ensures { λ r. ⌜ r ≡ isNumber (now (s .entry)) ⌝ }
-{
-    let Reading::Number(_) = read_number(s) else {
-        return false;
-    };
-    true
-}
-
-// The absolute value of a number.
-pub fn magnitude(v: i64) -> u64
-    ensures { λ r. ⌜ r ≡ natAbs v ⌝ }
-{
-    if v < 0 {
-        let less = v + 1;
-        return (-less) as u64 + 1;
-    }
-    v as u64
 }

@@ -1,8 +1,10 @@
 // The values that an item takes, by its kind (document 01, "What the desk holds").
 ghost use mathlib.Core.Path.{_≡_};
 ghost use Prim.Native.Nat.{_<_, _+_};
+ghost use Rattle.decimal.specs.Reading.{isNumber};
 ghost use Rattle.items.specs.Items.{itemCount, rowOf};
 ghost use Rattle.kinds.specs.Kinds.{ofKind, passes, fits};
+use decimal::Reading;
 use items::FIRST_TYPED;
 use items::ITEM_COUNT;
 use items::Kind;
@@ -25,12 +27,22 @@ fn kind_at(k: usize) -> Kind
     }
 }
 
+// Whether s is a number.
+fn is_number(s: &[u8]) -> bool
+    ensures { λ r. ⌜ r ≡ isNumber (now (s .entry)) ⌝ }
+{
+    let Reading::Number(_) = decimal::read_number(s) else {
+        return false;
+    };
+    true
+}
+
 fn is_of_kind(kind: Kind, v: &[u8]) -> bool
     ensures { λ r. ⌜ r ≡ ofKind kind (now (v .entry)) ⌝ }
 {
     match kind {
         Kind::Text => true,
-        Kind::Number => decimal::is_number(v),
+        Kind::Number => is_number(v),
         Kind::Category => categories::is_category(quotes::text_of(v)),
     }
 }

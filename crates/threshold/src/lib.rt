@@ -61,7 +61,7 @@ fn read_multiplier(x: &[u8]) -> Multiplier
     if v < 0 {
         return Multiplier::NoMultiplier;
     }
-    Multiplier::Times(decimal::magnitude(v))
+    Multiplier::Times(signed::magnitude(v))
 }
 
 // The level of x, in millionths, for a step of 1 or 2.

@@ -58,7 +58,7 @@ fn ratio_level(given: i64, sum: u64) -> u8
     if given < 0 {
         return 4;
     }
-    let g = decimal::magnitude(given);
+    let g = signed::magnitude(given);
     levels::level(
         is_ratio_outside(90, 110, g, sum),
         is_ratio_outside(95, 105, g, sum),
@@ -85,7 +85,7 @@ fn is_far_apart(given: i64, sum: u64) -> bool
     requires { ⌜ (mag given < 10 ^ 15) × (sum < 10 ^ 16) ⌝ }
     ensures { λ r. ⌜ r ≡ farApart given sum ⌝ }
 {
-    let g = decimal::magnitude(given);
+    let g = signed::magnitude(given);
     if given < 0 {
         return 1000000 < g + sum;
     }

@@ -6,7 +6,7 @@ use Prim.Native.Nat.{_<_, _^_}
 use mir.Syntax.{w64}
 use mir.Facts.{toZ-pos}
 use Rattle.decimal.specs.Reading.{Small}
-use Rattle.decimal.proofs.Signs.{fits-pos, minus-fits, minus-back}
+use Rattle.signed.proofs.Signs.{fits-pos, minus-fits, minus-back}
 use borrow.Author.Needs.{needs}
 use Rattle.decimal.proofs.with_sign.Statement.{statement}
 use Rattle.decimal.proofs.with_sign.Tie as tie

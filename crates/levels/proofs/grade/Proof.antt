@@ -2,7 +2,7 @@
 -- Assumes nothing.
 use mathlib.Core.Path.{_≡_, sym, _∙_, ap}
 use Rattle.levels.specs.Bounds.{gradeOf}
-use Rattle.decimal.proofs.Signs.{back, small-fits}
+use Rattle.signed.proofs.Signs.{back, small-fits}
 use borrow.Author.Needs.{needs}
 use Rattle.levels.proofs.grade.Statement.{statement}
 use Rattle.levels.proofs.grade.Tie as tie

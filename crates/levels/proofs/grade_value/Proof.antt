@@ -14,7 +14,7 @@ use Rattle.levels.specs.Bounds.{placeOf, gradeOf, readGrade, placedGrade
 use Rattle.levels.specs.declared.Place.{Place}
 use Rattle.levels.specs.declared.Place.the-variants.{At}
 use Rattle.levels.specs.declared.Graded.the-variants.{Level}
-use Rattle.decimal.proofs.Signs.{back, small-fits}
+use Rattle.signed.proofs.Signs.{back, small-fits}
 use Rattle.levels.proofs.Levels.{place-small}
 use borrow.Author.Needs.{needs}
 use Rattle.levels.proofs.grade_value.Statement.{statement}

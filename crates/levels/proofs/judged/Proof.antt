@@ -4,7 +4,7 @@ use mathlib.Core.Path.{_∙_}
 use mathlib.Core.Bool.{false}
 use borrow.Author.Tests.{eq-eqb, ne-eqb}
 use Rattle.levels.specs.Bounds.{judgedOf}
-use Rattle.decimal.proofs.Signs.{back, below-test, negated-fits, negated-back, not-below}
+use Rattle.signed.proofs.Signs.{back, below-test, negated-fits, negated-back, not-below}
 use Rattle.levels.proofs.judged.Statement.{statement}
 use Rattle.levels.proofs.judged.Tie as tie
 

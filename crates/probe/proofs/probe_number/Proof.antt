@@ -9,7 +9,7 @@ use mir.Val.{toZ, ofZ}
 use Rattle.decimal.specs.Reading.{readingOf}
 use Rattle.decimal.specs.declared.Reading.the-variants.{Number}
 use Rattle.decimal.proofs.Small.{number-small}
-use Rattle.decimal.proofs.Signs.{back, small-fits}
+use Rattle.signed.proofs.Signs.{back, small-fits}
 use Rattle.probe.specs.Probe.{numberTold}
 use Rattle.probe.specs.declared.ProbeNumber.{ProbeNumber}
 use borrow.Author.Needs.{needs}

@@ -10,7 +10,7 @@ use mir.Syntax.{w64}
 use mir.Val.{SFits}
 use Rattle.decimal.specs.Reading.{readingOf}
 use Rattle.decimal.specs.declared.Reading.the-variants.{Number}
-use Rattle.decimal.proofs.Signs.{back, small-fits, above}
+use Rattle.signed.proofs.Signs.{back, small-fits, above}
 use Rattle.decimal.proofs.Small.{number-small}
 use Rattle.threshold.specs.Threshold.{unsignedReading, multiplierOf}
 use Rattle.threshold.specs.declared.Multiplier.the-variants.{Times}

@@ -7,7 +7,7 @@ use lib.IntN.{ℤ}
 use mir.Syntax.{w64}
 use mir.Val.{toZ, ofZ}
 use lib.Signed.{mag}
-use Rattle.decimal.proofs.Signs.{back, small-fits}
+use Rattle.signed.proofs.Signs.{back, small-fits}
 use mathlib.Core.Bool.{Bool, true, false}
 use denote.Ref.{now}
 use borrow.Author.Tests.{not-true, not-false}

@@ -7,7 +7,7 @@ use Prim.Native.Nat.{ℕ, _+_, _≤_, _^_}
 use borrow.Author.Tests.{lt-ltb, le-ltb}
 use lib.Dec.{ltb}
 use lib.IntN.{ℤ, pos, natAbs}
-use Rattle.decimal.proofs.Signs.{back, above}
+use Rattle.signed.proofs.Signs.{back, above}
 use Rattle.weight_rows.specs.WeightRows.{farApart}
 use Rattle.rows.proofs.Zero.{zero-test}
 use Rattle.weight_rows.proofs.Weights.{far-below-zero, abs-small}

@@ -5,7 +5,7 @@ use mathlib.Core.Path.{_≡_, sym, _∙_, ap}
 use mathlib.Core.Bool.{true, false}
 use Prim.Native.Nat.{ℕ, _≤_, _^_}
 use lib.IntN.{ℤ, pos, natAbs}
-use Rattle.decimal.proofs.Signs.{back, above}
+use Rattle.signed.proofs.Signs.{back, above}
 use Rattle.weight_rows.specs.WeightRows.{ratioLevel}
 use Rattle.rows.proofs.Zero.{zero-test}
 use Rattle.weight_rows.proofs.Weights.{ratio-below-zero, abs-small}

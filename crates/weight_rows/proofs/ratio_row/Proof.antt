@@ -7,7 +7,7 @@ use lib.IntN.{ℤ}
 use mir.Syntax.{w64}
 use mir.Val.{toZ, ofZ}
 use lib.Signed.{mag}
-use Rattle.decimal.proofs.Signs.{back, small-fits}
+use Rattle.signed.proofs.Signs.{back, small-fits}
 use Rattle.rows.specs.Rows.{rowOf}
 use Rattle.weight_rows.specs.WeightRows.{SmallWeighed, ratioLevel, ratioRow}
 use borrow.Author.Needs.{needs}

@@ -8,7 +8,7 @@ use lib.IntN.{ℤ}
 use lib.Signed.{mag}
 use Rattle.decimal.specs.Reading.{readingOf}
 use Rattle.decimal.specs.declared.Reading.the-variants.{Number}
-use Rattle.decimal.proofs.Signs.{back, small-fits}
+use Rattle.signed.proofs.Signs.{back, small-fits}
 use Rattle.decimal.proofs.Small.{number-small}
 use Rattle.formula.specs.Sum.{sumOf}
 use Rattle.formula.proofs.Small.{sum-small}

@@ -1,10 +1,10 @@
--- `decimal::is_number` meets its contract: a number was found or not.
+-- `kinds::is_number` meets its contract: a number was found or not.
 -- Assumes nothing.
 use mathlib.Core.Path.{_∙_, sym, ap}
 use Rattle.decimal.specs.Reading.{isFound, isNumber}
 use borrow.Author.Needs.{needs}
-use Rattle.decimal.proofs.is_number.Statement.{statement}
-use Rattle.decimal.proofs.is_number.Tie as tie
+use Rattle.kinds.proofs.is_number.Statement.{statement}
+use Rattle.kinds.proofs.is_number.Tie as tie
 
 returns : tie.Need-returns
 unfolding isNumber

@@ -1,4 +1,4 @@
--- `decimal::magnitude` meets its contract: below zero the number is raised by one and negated, so that nothing wraps.
+-- `signed::magnitude` meets its contract: below zero the number is raised by one and negated, so that nothing wraps.
 -- Assumes nothing.
 use native.Mathlib.Omega.{arith}
 use mathlib.Core.Path.{_≡_, sym, _∙_, ap, subst}
@@ -8,9 +8,9 @@ use lib.IntN.{ℤ, pos, natAbs}
 use lib.Signed.{nonNeg}
 use mir.Syntax.{w64}
 use mir.Val.{Fits, SFits, toZ, ofZ}
-use Rattle.decimal.proofs.Signs.{Turned, turn, above, back}
-use Rattle.decimal.proofs.magnitude.Statement.{statement}
-use Rattle.decimal.proofs.magnitude.Tie as tie
+use Rattle.signed.proofs.Signs.{Turned, turn, above, back}
+use Rattle.signed.proofs.magnitude.Statement.{statement}
+use Rattle.signed.proofs.magnitude.Tie as tie
 
 turned : (c : tie.Then1) → Turned (c .before .args .v)
 turned c = turn (c .before .args .v) (c .before .fits .v) (c .if1 .taken)
