@@ -14,8 +14,7 @@ use Rattle.state.specs.Sheets.{filled, emptySheet}
 use Rattle.state.specs.Desks.{freshDesk, withLine}
 use Rattle.state.specs.declared.sheet.Item.{Item}
 use Rattle.state.specs.declared.sheet.Sheet.{Sheet}
-use Rattle.rows.specs.Rows.{rowOf}
-use Rattle.rows.specs.Rows.{noRows}
+use Rattle.rows.specs.Rows.{rowOf, noRows}
 use Rattle.alerts.specs.Sheet.{rowsOf}
 use Rattle.rows.specs.declared.Row.{Row}
 use Rattle.calls.specs.Key.{After, keyStep}

@@ -15,7 +15,7 @@ use Rattle.items.specs.Typed.{lineMost, isTyped}
 use Rattle.items.specs.declared.Kind.{Kind}
 use Rattle.items.specs.declared.Kind.the-variants.{Text, Number, Category}
 
--- a value is of a kind
+-- a value is of a kind; a category stands "bare or quoted"
 abbrev pub ofKind : Kind → List ℕ → Bool
 ofKind Text v = true
 ofKind Number v = isNumber v

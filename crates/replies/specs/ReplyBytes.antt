@@ -3,12 +3,11 @@
 use Prim.Native.Nat.{ℕ, _+_, _*_, _-_}
 use mathlib.Core.List.{List, [], _∷_, _++_, flatMap}
 use lib.ListN.{replicate}
-use Rattle.answers.specs.Number.{answerNumber}
+use Rattle.answers.specs.Number.{answerNumber, askedNumber}
 use Rattle.answers.specs.declared.Answer.{Answer}
 use Rattle.rows.specs.Rows.{rowCount}
 use Rattle.rows.specs.declared.Row.{Row}
 use Rattle.rows.specs.declared.Rows.{Rows}
-use Rattle.answers.specs.Number.{askedNumber}
 use Rattle.answers.specs.declared.Asked.{Asked}
 use Rattle.questions.specs.declared.who.Told.{Told}
 use Rattle.little_endian.specs.Number.{numberLength, numberBytes}

@@ -1,4 +1,4 @@
-// A row of the report, and when the value of an item is missing (document 01, "The twelve rows").
+// A row of the report, rows without an alert, and when the value of an item is missing (document 01, "The twelve rows").
 ghost use mathlib.Core.Path.{_≡_};
 ghost use Rattle.rows.specs.Rows.{rowOf, noRows, missing};
 

@@ -5,8 +5,7 @@ use mathlib.Core.Path.{_≡_, refl, sym, ap, _∙_}
 use mathlib.Core.List.{List, _∷_, flatMap}
 use Prim.Native.Nat.{ℕ, _*_, _≤_, _-_}
 use lib.ListN.{length, replicate, length-map}
-use Rattle.rows.specs.Rows.{rowCount}
-use Rattle.rows.specs.Rows.{noAlert}
+use Rattle.rows.specs.Rows.{rowCount, noAlert}
 use Rattle.replies.specs.ReplyBytes.{replyLength, rowBytes}
 use Rattle.copies.proofs.Copies.{copied-after}
 use Rattle.copies.proofs.Puts.{Put, put-none, put-next, put-all}
