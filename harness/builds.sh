@@ -2,7 +2,7 @@
 # Runs other builds of the same source, since no proof covers the compiler: on the interpreter, compiled at -O0, at -O3 and with the compiler's
 # assumptions checked, as 'rt try' makes them; and holds all that they answer equal to the reference's.
 #   harness/builds.sh           a minute at most, as tools/test runs it
-#   harness/builds.sh --long    100,000 sequences, and the whole comparison with archives compiled at -O0
+#   harness/builds.sh --long    100,000 sequences by each compiled build, and the whole comparison with archives compiled at -O0
 # Needs the built harness and programs. Prints one line for each check and at the end 'N passed, M failed'.
 set -u
 case "$*" in
@@ -238,11 +238,31 @@ fn main() {
 END
 }
 
-# The calls of the library: the measured examples four ways, then the fixed lists and generated sequences, so many in each part, by the compiled builds.
+# generated FOLDER SEED NUMBER BUILD..: so many generated sequences, each with lines, values, sheets and files, by these of the kept builds.
+generated() {
+    local folder=$1 seed=$2 number=$3 build
+    shift 3
+    mkdir -p "$folder"
+    "$harness" frames "$seed" "$number" "$folder" || fail "frames" "seed $seed is not written"
+    for build; do
+        prints "library, ${build#* }: $number generated sequences, seed $seed" "$folder/stdout" "$folder/stdin" "$work/library/${build% *}"
+    done
+}
+
+# part SEED: 1000 sequences by every build, with a folder of its own, beside other parts.
+part() {
+    local library=$work/library
+    work=$work/part$1
+    mkdir "$work" && ln -s "$library" "$work/library"
+    generated "$work/frames" "$1" 1000 "${builds[@]}"
+    rm -rf "$work"
+}
+
+# The calls of the library: the measured examples four ways, then the fixed lists and generated sequences by the compiled builds.
 library_builds() {
-    local build part seed crates number at
-    local -A parts=([1]='400' [2]='2000' [3]='60')
-    mkdir -p "$work/caller/src" "$work/examples" "$work/lists" "$work/part"
+    local build seed crates at
+    local -A number=([1]=400 [2]=2000 [3]=60)
+    mkdir -p "$work/caller/src" "$work/examples" "$work/lists"
     write_caller >"$work/caller/src/main.rt"
     crates="io libc wall play probe_rows probe_file $(for at in play probe_rows probe_file; do used_by $at; done)"
     "$harness" example-frames "$work/examples" && "$harness" frames "$work/lists" || fail "frames" "not written"
@@ -252,20 +272,20 @@ library_builds() {
     done
     if [ -z "$long" ]; then
         for build in "${builds[@]}"; do
-            number=${parts[${build% *}]}
-            "$harness" frames 32 "$number" "$work/part"
-            prints "library, ${build#* }: $number generated sequences" "$work/part/stdout" "$work/part/stdin" "$work/library/${build% *}"
+            generated "$work/frames" 32 "${number[${build% *}]}" "$build"
         done
         return
     fi
-    # The slower builds take some of the parts; archive_builds has -O0 play them all.
-    local -A one_in=([1]=5 [2]=1 [3]=10)
+    # 100 parts, as many at once as there are processors.
     for seed in $(seq 100); do
-        "$harness" frames "$seed" 1000 "$work/part"
-        for build in "${builds[@]}"; do
-            [ $((seed % one_in[${build% *}])) -eq 0 ] || continue
-            prints "library, ${build#* }: 1000 generated sequences, seed $seed" "$work/part/stdout" "$work/part/stdin" "$work/library/${build% *}"
-        done
+        [ "$(jobs -rp | wc -l)" -lt "$(nproc)" ] || wait -n
+        (part "$seed") >"$work/$seed.told" 2>&1 &
+    done
+    wait
+    for seed in $(seq 100); do
+        cat "$work/$seed.told"
+        passed=$((passed + $(grep -c '^ok ' "$work/$seed.told")))
+        failed=$((failed + ${#builds[@]} - $(grep -c '^ok ' "$work/$seed.told")))
     done
 }
 

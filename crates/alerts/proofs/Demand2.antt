@@ -23,6 +23,7 @@ use Rattle.threshold.specs.Threshold.{thresholdLevel, thresholdRow, row12}
 use Rattle.alerts.specs.Judged as judged
 use Rattle.alerts.specs.Judged.{Judged}
 use Rattle.rows.specs.declared.Row.{Row}
+use Rattle.threshold.proofs.Wording.{threshold-taken}
 use Rattle.weight_rows.proofs.WeightCases.{ratio-judged, weighed-both}
 
 -- a row is judged at a level
@@ -51,4 +52,4 @@ highest-broken (judged.graded row place new old z p m e) =
     at-level (gradeOf place z)
     (graded-is row new old m ∙ ap gradeRow (ap (λ (x : Place). placedGrade x (judgedValue new old)) p ∙ ap (readGrade place) e))
     (grade-highest place z)
-highest-broken (judged.threshold t step x m e) = at-level (thresholdLevel step x) (threshold-is t m ∙ e) (level-highest _ _ _)
+highest-broken (judged.threshold t step x m e) = at-level (thresholdLevel step x) (threshold-is t m ∙ threshold-taken (textOf t) step x e) (level-highest _ _ _)

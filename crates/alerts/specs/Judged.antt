@@ -18,9 +18,9 @@ use Rattle.levels.specs.declared.Place.the-variants.{At}
 use Rattle.rows.specs.Rows.{missing}
 use Rattle.weight_rows.specs.WeightRows.{millionths, ratioOutside, row4}
 use Rattle.graded_rows.specs.GradedRows.{judgedValue, gradedRow}
-use Rattle.threshold.specs.Threshold.{multiplierRow, thresholdRow, row12}
+use Rattle.threshold.specs.Threshold.{row12}
+use Rattle.threshold.specs.Wording.{IsThreshold}
 use Rattle.rows.specs.declared.Row.{Row}
-use Rattle.threshold.specs.declared.Multiplier.the-variants.{Times}
 
 pub data Judged : Bool → Bool → Bool → Row → Type 0 where
   -- row 4: formula and weight are there, every term is recognised, and every symbol has a weight
@@ -30,6 +30,6 @@ pub data Judged : Bool → Bool → Bool → Row → Type 0 where
   -- rows 6, 8 and 10: the new name or the old one is assigned
   graded : (row place : ℕ) (new old : List ℕ) (z : ℤ) → placeOf row ≡ At place → (missing new && missing old) ≡ false → readingOf (judgedValue new old) ≡ Number z
       → Judged (above (3 * place) (judgedOf place z)) (above (3 * place + 1) (judgedOf place z)) (above (3 * place + 2) (judgedOf place z)) (gradedRow row new old)
-  -- row 12: the text has one of the shapes, x in millionths
-  threshold : (t : List ℕ) (step x : ℕ) → missing t ≡ false → thresholdRow (textOf t) ≡ multiplierRow step (Times x)
+  -- row 12: the text is one of the expressions, x in millionths
+  threshold : (t : List ℕ) (step x : ℕ) → missing t ≡ false → IsThreshold (textOf t) step x
       → Judged (leb (6 * step * 1000000) x) (leb (5 * step * 1000000) x) (leb (4 * step * 1000000) x) (row12 t)

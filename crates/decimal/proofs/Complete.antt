@@ -70,7 +70,7 @@ module _ {t : List ℕ} {m : ℕ} (h : IsSize t m) where
       ∙ simp (le-leb _ _ (h .some), le-leb _ _ (h .places), le-leb _ _ (h .few), uncertainty-taken (h .is-uncertainty)))
 
   -- a byte below the digits, as a sign is, does not begin a size
-  first-is-digit : (b : ℕ) → b < 48 → hasAt t 0 b ≡ false
+  pub first-is-digit : (b : ℕ) → b < 48 → hasAt t 0 b ≡ false
   first-is-digit b l = rw (h .text) (not-holds _ (digit-first (h .before) (h .pointed ++ h .tail) b (h .before-digits) (h .some) l))
 
 number-by : {negative : Bool} {sign r : List ℕ} {m : ℕ} → SignText negative sign → IsSize r m

@@ -8,7 +8,7 @@ use Rattle.text.specs.Quote.{bytes}
 use Rattle.text.specs.Run.{between, all}
 use Rattle.decimal.specs.Digits.{valueFrom}
 use Rattle.terms.specs.Term.{kindAt, isCount, countOf, termOf}
-use Rattle.terms.specs.Terms.{cut, every, some}
+use Rattle.terms.specs.Terms.{cut, some}
 use Rattle.elements.specs.Elements.{sameSymbol, placeOf, symbols, elementOf, isElement, notMetals, isMetal, weights, weightIn, weightOf}
 use Rattle.formula.specs.Recognised.{allRecognised}
 use Rattle.formula_order.specs.Order.{rank, key, rising, inOrder}
@@ -60,5 +60,5 @@ answered f =
     record { recognised = allRecognised (bytes f); ordered = inOrder (bytes f); class = classOf (bytes f); sum = sumOf (bytes f) }
 
 pub formulas-hold : map (λ (x : Example). answered (x .formula)) examples ≡ map (λ (x : Example). x .answers) examples
-unfolding examples cut every some termOf kindAt isCount countOf all between valueFrom allRecognised isElement elementOf symbols placeOf sameSymbol inOrder rising key rank classOf hasTerm isMetal notMetals sumOf total weightOf weightIn weights
+unfolding examples cut some termOf kindAt isCount countOf all between valueFrom allRecognised isElement elementOf symbols placeOf sameSymbol inOrder rising key rank classOf hasTerm isMetal notMetals sumOf total weightOf weightIn weights
 formulas-hold = refl

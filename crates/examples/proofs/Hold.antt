@@ -12,7 +12,7 @@ use Rattle.values.specs.Value.{mayBegin, isReserved, isBare, isValue, isUnassig
 use Rattle.items.specs.Items.{items, findFrom}
 use Rattle.cif.specs.Line.{splitOf, classOf}
 use Rattle.terms.specs.Term.{kindAt, isCount, countOf, termOf}
-use Rattle.terms.specs.Terms.{cut, every as everyTerm, some}
+use Rattle.terms.specs.Terms.{cut, some}
 use Rattle.elements.specs.Elements.{sameSymbol, placeOf, symbols, elementOf, isElement, notMetals, isMetal, weights, weightIn, weightOf}
 use Rattle.formula.specs.Recognised.{allRecognised}
 use Rattle.formula_order.specs.Order.{rank, key, rising, inOrder}
@@ -33,5 +33,5 @@ use Rattle.calls.specs.Key.{stored, keyStep, keyOf}
 use Rattle.examples.specs.Table.{Example, sheetWith, answerOf, examples}
 
 pub examples-hold : map (λ (e : Example). answerOf (e .asked)) examples ≡ map (λ (e : Example). e .answer) examples
-unfolding sheetWith answerOf examples between other runOf all hasAt lower sameBy beginsFolded valueFrom closes isTail sizeOf pointedOf unsignedOf readingOf isNumber mayBegin isReserved isBare isQuotedBy isQuoted isValue isUnassigned textOf items findFrom isCategory passes splitOf classOf kindAt isCount countOf termOf cut everyTerm some sameSymbol placeOf symbols elementOf isElement notMetals isMetal weights weightIn weightOf allRecognised rank key rising inOrder hasTerm formulaClass total sumOf bounds judgedOf gradeOf gradedOf appended erased missing row1 row2 row3 weighedOf ratioLevel row4 farApart isWeighedCategory row5 gradedRow oldNameRow hasShape multiplierOf thresholdLevel thresholdRow row12 every soundLine soundEmpty soundFilled soundItem soundLines soundSheet soundDesk soundLog fits stored keyStep keyOf
+unfolding sheetWith answerOf examples between other runOf all hasAt lower sameBy beginsFolded valueFrom closes isTail sizeOf pointedOf unsignedOf readingOf isNumber mayBegin isReserved isBare isQuotedBy isQuoted isValue isUnassigned textOf items findFrom isCategory passes splitOf classOf kindAt isCount countOf termOf cut some sameSymbol placeOf symbols elementOf isElement notMetals isMetal weights weightIn weightOf allRecognised rank key rising inOrder hasTerm formulaClass total sumOf bounds judgedOf gradeOf gradedOf appended erased missing row1 row2 row3 weighedOf ratioLevel row4 farApart isWeighedCategory row5 gradedRow oldNameRow hasShape multiplierOf thresholdLevel thresholdRow row12 every soundLine soundEmpty soundFilled soundItem soundLines soundSheet soundDesk soundLog fits stored keyStep keyOf
 examples-hold = refl

@@ -13,7 +13,7 @@ use Rattle.text.specs.Run.{all}
 use Rattle.text.proofs.Bools.{and-both, cond-first}
 use Rattle.decimal.specs.Digits.{isDigit, valueOf}
 use Rattle.terms.specs.Term.{mostCount, isCapital, isSmall, kindAt, isCount, countOf, counted, termOf}
-use Rattle.terms.specs.Terms.{termsOf, every}
+use Rattle.terms.specs.Terms.{termsOf}
 use Rattle.elements.specs.Elements.{isElement, weightOf, heaviest}
 use Rattle.elements.proofs.Weights.{weight-known}
 use Rattle.formula.specs.Recognised.{isRecognised, allRecognised}
@@ -110,13 +110,13 @@ weighed-term (Well a b n) w e = weighed-symbol a b n w (weightOf a b) refl e
 weighed-term Ill w e = let z : _≡_ {A = ℕ} 0 1 = cc in absurd (omega arith)
 
 weighed-by : (t : Term) (ts : List Term) (w : ℕ) (u v : Weight) → termWeight t ≡ u → total ts ≡ v → plus u v ≡ Thousandths w
-    → ((x : ℕ) → total ts ≡ Thousandths x → every isRecognised ts ≡ true) → (isRecognised t && every isRecognised ts) ≡ true
+    → ((x : ℕ) → total ts ≡ Thousandths x → all isRecognised ts ≡ true) → (isRecognised t && all isRecognised ts) ≡ true
 weighed-by t ts w (Thousandths x) (Thousandths y) e f g rest = rw (weighed-term t x e) (rest y f)
 weighed-by t ts w (Thousandths x) NoWeight e f g rest = let z : _≡_ {A = ℕ} 0 1 = cc in absurd (omega arith)
 weighed-by t ts w NoWeight v e f g rest = let z : _≡_ {A = ℕ} 0 1 = cc in absurd (omega arith)
 
-weighed-terms : (ts : List Term) (w : ℕ) → total ts ≡ Thousandths w → every isRecognised ts ≡ true
-unfolding total every
+weighed-terms : (ts : List Term) (w : ℕ) → total ts ≡ Thousandths w → all isRecognised ts ≡ true
+unfolding total all
 weighed-terms [] w e = refl
 weighed-terms (t ∷ ts) w e = weighed-by t ts w (termWeight t) (total ts) refl refl e (weighed-terms ts)
 

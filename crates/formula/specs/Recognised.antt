@@ -3,7 +3,8 @@
 use Prim.Native.Nat.{ℕ}
 use mathlib.Core.Bool.{Bool, false}
 use mathlib.Core.List.{List}
-use Rattle.terms.specs.Terms.{termsOf, every}
+use Rattle.text.specs.Run.{all}
+use Rattle.terms.specs.Terms.{termsOf}
 use Rattle.elements.specs.Elements.{isElement}
 use Rattle.terms.specs.declared.term.Term.{Term}
 use Rattle.terms.specs.declared.term.Term.the-variants.{Well, Ill}
@@ -15,4 +16,4 @@ isRecognised Ill = false
 
 -- every term of a text is well formed and recognised
 unfoldable pub allRecognised : List ℕ → Bool
-allRecognised s = every isRecognised (termsOf s)
+allRecognised s = all isRecognised (termsOf s)

@@ -13,7 +13,7 @@ use Rattle.text.specs.Quote.{bytes}
 use Rattle.text.specs.Run.{all, between, other, runOf}
 use Rattle.copies.specs.Each.{linesFrom}
 use Rattle.text.proofs.Bools.{and-both, not-holds}
-use Rattle.text.proofs.Runs.{all-append, run-append, run-none}
+use Rattle.text.proofs.Runs.{all-append, all-weaker, run-append, run-none}
 use Rattle.soundness.specs.Sound.{soundDesk}
 use Rattle.state.specs.declared.desk.Desk.{Desk}
 use Rattle.block_name.specs.Block.{blockMost, isBlockByte, isBlockName}
@@ -25,12 +25,6 @@ use Rattle.file_answers.specs.declared.FileAnswer.the-variants.{Written, Unsoun
 use Rattle.round_trip.specs.RoundTrip.{itemLines, filedBytes}
 
 -- ---- the first line
-
--- a weaker test of every byte
-all-weaker : (p q : ℕ → Bool) → ((b : ℕ) → p b ≡ true → q b ≡ true) → (s : List ℕ) → all p s ≡ true → all q s ≡ true
-unfolding all
-all-weaker p q f [] h = refl
-all-weaker p q f (b ∷ bs) h = let k = and-both (p b) (all p bs) h in rw (f b (k .0)) (all-weaker p q f bs (k .1))
 
 -- no byte of a block name ends a line
 block-byte : (b : ℕ) → isBlockByte b ≡ true → other 10 b ≡ true

@@ -9,11 +9,11 @@ use borrow.Author.Tests.{leb-true, le-leb, lt-leb, ltb-true, ltb-false}
 use lib.Dec.{leb, ltb, eqb, leb·zero}
 use lib.ListN.{length, take, drop, length-drop}
 use lib.Seq.{take-all, drop-drop}
-use Rattle.text.specs.Run.{runOf, other}
+use Rattle.text.specs.Run.{all, runOf, other}
 use Rattle.text.proofs.Bools.{cond-first}
 use Rattle.text.proofs.Runs.{run-short}
 use Rattle.terms.specs.Term.{termOf}
-use Rattle.terms.specs.Terms.{attach, cut, termsOf, every, some, stepOf}
+use Rattle.terms.specs.Terms.{attach, cut, termsOf, some, stepOf}
 use Rattle.terms.specs.declared.term.Term.{Term}
 use Rattle.terms.specs.declared.Step.the-variants.{Next, End}
 
@@ -119,18 +119,18 @@ module _ {s : List ℕ} {from : ℕ} {t : Term} {n : ℕ} (h : Stepped s from t 
   falls = omega arith
 
   module _ (p : Term → Bool) (x : Bool) (e : p t ≡ x) where
-    pub every-next : every p (termsFrom s from) ≡ (x && every p (termsFrom s n))
-    unfolding every
-    every-next = ap (every p) (h .here) ∙ ap (λ (y : Bool). y && every p (termsFrom s n)) e
+    pub all-next : all p (termsFrom s from) ≡ (x && all p (termsFrom s n))
+    unfolding all
+    all-next = ap (all p) (h .here) ∙ ap (λ (y : Bool). y && all p (termsFrom s n)) e
 
     pub some-next : some p (termsFrom s from) ≡ (x || some p (termsFrom s n))
     unfolding some
     some-next = ap (some p) (h .here) ∙ ap (λ (y : Bool). y || some p (termsFrom s n)) e
 
 module _ (p : Term → Bool) {ts : List Term} (h : ts ≡ []) where
-  pub every-end : every p ts ≡ true
-  unfolding every
-  every-end = ap (every p) h
+  pub all-end : all p ts ≡ true
+  unfolding all
+  all-end = ap (all p) h
 
   pub some-end : some p ts ≡ false
   unfolding some

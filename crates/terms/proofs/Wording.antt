@@ -177,17 +177,17 @@ cut-joins (b ∷ bs) = joins-by b (cut bs) (eqb b 32) refl (cut-some bs) ∙ ap 
 
 -- no term of a text has a space
 attach-spaceless : (b : ℕ) (ts : List (List ℕ)) → eqb b 32 ≡ false → spaceless ts ≡ true → spaceless (attach b ts) ≡ true
-unfolding spaceless all other
+unfolding all other
 attach-spaceless b [] e h = rw e
 attach-spaceless b (t ∷ ts) e h = rw e h
 
 spaceless-by : (b : ℕ) (ts : List (List ℕ)) (t : Bool) → eqb b 32 ≡ t → spaceless ts ≡ true → spaceless (cond t ([] ∷ ts) (attach b ts)) ≡ true
-unfolding spaceless all
+unfolding all
 spaceless-by b ts true e h = h
 spaceless-by b ts false e h = attach-spaceless b ts e h
 
 pub cut-spaceless : (s : List ℕ) → spaceless (cut s) ≡ true
-unfolding cut spaceless all
+unfolding cut all
 cut-spaceless [] = refl
 cut-spaceless (b ∷ bs) = spaceless-by b (cut bs) (eqb b 32) refl (cut-spaceless bs)
 
@@ -204,7 +204,7 @@ cut-one : (t : List ℕ) → all (other 32) t ≡ true → cut t ≡ t ∷ []
 cut-one t h = cut-last t (eqb-true _ _ (run-all (other 32) t ∙ h))
 
 pub cut-joined : (t : List ℕ) (ts : List (List ℕ)) → spaceless (t ∷ ts) ≡ true → cut (joined (t ∷ ts)) ≡ t ∷ ts
-unfolding joined spaceless
+unfolding joined all
 cut-joined t [] h = cut-one t (and-both (all (other 32) t) _ h .0)
 cut-joined t (u ∷ ts) h =
     let k = and-both (all (other 32) t) (spaceless (u ∷ ts)) h in

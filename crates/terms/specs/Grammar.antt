@@ -2,7 +2,7 @@
 -- `termOf` and `cut` are it. Assumes nothing.
 use Prim.Native.Nat.{ℕ, _≤_}
 use mathlib.Core.Path.{_≡_}
-use mathlib.Core.Bool.{Bool, true, _&&_}
+use mathlib.Core.Bool.{Bool, true}
 use mathlib.Core.List.{List, [], _∷_, _++_}
 use lib.ListN.{getD}
 use Rattle.text.specs.Run.{all, other}
@@ -34,6 +34,5 @@ joined (t ∷ []) = t
 joined (t ∷ (u ∷ ts)) = t ++ (32 ∷ joined (u ∷ ts))
 
 -- none of some texts has a space
-unfoldable pub spaceless : List (List ℕ) → Bool
-spaceless [] = true
-spaceless (t ∷ ts) = all (other 32) t && spaceless ts
+abbrev pub spaceless : List (List ℕ) → Bool
+spaceless ts = all (all (other 32)) ts

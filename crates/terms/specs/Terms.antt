@@ -1,7 +1,7 @@
 -- The terms of a formula's text (document 01, "The twelve rows").
 -- Assumes nothing.
 use Prim.Native.Nat.{ℕ, _+_}
-use mathlib.Core.Bool.{Bool, true, false, cond, _&&_, _||_}
+use mathlib.Core.Bool.{Bool, false, cond, _||_}
 use mathlib.Core.List.{List, [], _∷_, map}
 use lib.Dec.{leb, eqb}
 use lib.ListN.{length, take, drop}
@@ -24,11 +24,6 @@ cut (b ∷ bs) = cond (eqb b 32) ([] ∷ cut bs) (attach b (cut bs))
 -- the terms of a text, in order
 abbrev pub termsOf : List ℕ → List Term
 termsOf s = map termOf (cut s)
-
--- every term is of the kind p
-unfoldable pub every : (Term → Bool) → List Term → Bool
-every p [] = true
-every p (t ∷ ts) = p t && every p ts
 
 -- some term is of the kind p
 unfoldable pub some : (Term → Bool) → List Term → Bool

@@ -4,14 +4,15 @@ use mathlib.Core.Path.{_≡_, refl, sym, ap, _∙_}
 use mathlib.Core.Bool.{Bool, true, false, cond, _&&_, false≢true, and-true, and-assoc}
 use mathlib.Core.List.{List, [], _∷_, _++_}
 use Prim.Native.Nat.{ℕ, zero, suc, _+_, _≤_, _<_}
+use native.Mathlib.Nat.{not-suc-le-zero, le-of-suc-le-suc}
 use native.Mathlib.Numerals.{add-one}
 use native.Mathlib.Omega.{arith}
 use borrow.Author.Tests.{lt-ltb, ltb-true, eq-eqb, ne-eqb, eqb-true}
 use lib.Dec.{ltb, eqb, eqb·suc-suc, eqb·zero-suc}
 use lib.ListN.{length, getD, take, drop, replicate, drop-of-length-le, length-append, take-append-drop}
 use lib.Seq.{drop-cons, length-take-le, getD-append-seam, take-suc, take-all}
-use Rattle.text.specs.Run.{runOf, all, hasAt}
-use Rattle.text.proofs.Bools.{and-both}
+use Rattle.text.specs.Run.{runOf, all, other, hasAt}
+use Rattle.text.proofs.Bools.{and-both, not-holds}
 
 pub record Passed (p : ℕ → Bool) (s : List ℕ) (i : ℕ) : Type 0 where
   pub within : i ≤ length s
@@ -117,6 +118,23 @@ all-take p n s h = all-both p (take n s) (drop n s) (rw take-append-drop h) .0
 
 pub all-drop : (p : ℕ → Bool) (n : ℕ) (s : List ℕ) → all p s ≡ true → all p (drop n s) ≡ true
 all-drop p n s h = all-both p (take n s) (drop n s) (rw take-append-drop h) .1
+
+pub all-weaker : (p q : ℕ → Bool) → ((b : ℕ) → p b ≡ true → q b ≡ true) → (s : List ℕ) → all p s ≡ true → all q s ≡ true
+unfolding all
+all-weaker p q f [] h = refl
+all-weaker p q f (b ∷ bs) h = let k = and-both (p b) (all p bs) h in rw (f b (k .0)) (all-weaker p q f bs (k .1))
+
+pub all-each : (p : ℕ → Bool) (s : List ℕ) (i : ℕ) → all p s ≡ true → i < length s → p (getD s i 0) ≡ true
+unfolding all
+all-each p [] i a h = absurd (not-suc-le-zero h)
+all-each p (b ∷ bs) zero a h = and-both (p b) (all p bs) a .0
+all-each p (b ∷ bs) (suc i) a h = all-each p bs i (and-both (p b) (all p bs) a .1) (le-of-suc-le-suc h)
+
+-- a text that lacks a byte has it nowhere
+pub lacks-nowhere : (x : ℕ) (s : List ℕ) (at : ℕ) → all (other x) s ≡ true → hasAt s at x ≡ false
+unfolding other
+lacks-nowhere x s at a =
+    not-holds (hasAt s at x) (λ h. let e = all-each (other x) s at a (has-within s at x h) in false≢true (rw (eq-eqb (getD s at 0) x (has-byte s at x h)) at e))
 
 pub all-replicate : (p : ℕ → Bool) (n b : ℕ) → p b ≡ true → all p (replicate n b) ≡ true
 unfolding all

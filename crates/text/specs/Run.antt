@@ -19,10 +19,10 @@ unfoldable pub runOf : (ℕ → Bool) → List ℕ → ℕ
 runOf p [] = 0
 runOf p (b ∷ bs) = cond (p b) (suc (runOf p bs)) 0
 
--- every byte of a text is of the kind p
-unfoldable pub all : (ℕ → Bool) → List ℕ → Bool
+-- every element of a list, as every byte of a text, is of the kind p
+unfoldable pub all : {A : Type 0} → (A → Bool) → List A → Bool
 all p [] = true
-all p (b ∷ bs) = p b && all p bs
+all p (x ∷ xs) = p x && all p xs
 
 -- the byte b stands in a text at that place
 unfoldable pub hasAt : List ℕ → ℕ → ℕ → Bool
