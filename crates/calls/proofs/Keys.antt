@@ -15,7 +15,7 @@ use Rattle.copies.specs.Copy.{copied}
 use Rattle.text.proofs.Bools.{and-both}
 use Rattle.copies.proofs.Copies.{copied-fits}
 use Rattle.items.specs.Typed.{lineMost}
-use Rattle.log.specs.Record.{recordLength, recordOf, hasRoom, writtenOf, freeAfter}
+use Rattle.log.specs.Record.{recordLength, recordMost, recordOf, hasRoom, writtenOf, freeAfter}
 use Rattle.log.specs.declared.Written.the-variants.{Bytes, NoRoom}
 use Rattle.log.proofs.Records.{tail-back, tail-lent, wrote-none, wrote-bytes, room-left}
 use Rattle.state.specs.Lines.{padded}
@@ -48,7 +48,7 @@ module _ (d : Desk) (used : ℕ) (log : List ℕ) (bench item : ℕ) (v last : L
     (back : last ≡ freeAfter (midOf used (length log - used) log) bench item v) where
   room : (t : Bool) → hasRoom (midOf used (length log - used) log) v ≡ t → leb (recordLength v) (length log - used) ≡ t
   room t e =
-      let small : recordLength v ≤ 65535 = omega arith in
+      let small : recordLength v ≤ recordMost = omega arith in
       sym (room-left used log v small) ∙ ap (λ (f : List ℕ). hasRoom f v) (sym (tail-lent used log)) ∙ e
 
   -- it had no room, and nothing changed

@@ -5,10 +5,11 @@ use mathlib.Core.List.{List}
 use lib.ListN.{length}
 use Rattle.items.specs.Typed.{lineMost}
 use Rattle.state.specs.Desks.{benchCount, lineAt}
+use Rattle.sound_log.specs.SoundLog.{logMost}
 use Rattle.state.specs.declared.desk.Desk.{Desk}
 
 pub record Ready (d : Desk) (used : ℕ) (log : List ℕ) (bench : ℕ) : Type 0 where
   pub bench-in : bench < benchCount
   pub short : lineAt d bench .len ≤ lineMost
-  pub few : d .sheet .count < 65536
+  pub few : d .sheet .count < logMost
   pub room : used ≤ length log

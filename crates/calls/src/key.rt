@@ -9,6 +9,7 @@ ghost use Rattle.cif.specs.Line.{classOf};
 ghost use Rattle.items.specs.Items.{itemCount};
 ghost use Rattle.state.specs.Lines.{typed};
 ghost use Rattle.state.specs.Desks.{benchCount, lineAt};
+ghost use Rattle.sound_log.specs.SoundLog.{logMost};
 ghost use Rattle.calls.specs.Key.{after, edited, withEntry, entered, stored, enteredAs, appendKey, keyStep, keyOf};
 ghost use Rattle.calls.specs.Ready.{Ready};
 use answers::Answer;
@@ -30,7 +31,7 @@ pub struct Keyed {
 
 // The sheet with one entry more.
 fn with_entry(s: Sheet, bench: usize, item: usize, value: &[u8]) -> Sheet
-    requires { ⌜ (bench < benchCount) × (1 ≤ item) × (item ≤ itemCount) × (length (now value) ≤ lineMost) × (s .count < 65536) ⌝ }
+    requires { ⌜ (bench < benchCount) × (1 ≤ item) × (item ≤ itemCount) × (length (now value) ≤ lineMost) × (s .count < logMost) ⌝ }
     ensures { λ r. ⌜ r ≡ withEntry s bench item (now (value .entry)) ⌝ }
 {
     let len = value.len();
@@ -51,7 +52,7 @@ fn with_entry(s: Sheet, bench: usize, item: usize, value: &[u8]) -> Sheet
 
 // The desk after an accepted Enter.
 fn entered_desk(d: Desk, bench: usize, item: usize, value: &[u8]) -> Desk
-    requires { ⌜ (bench < benchCount) × (1 ≤ item) × (item ≤ itemCount) × (length (now value) ≤ lineMost) × (d .sheet .count < 65536) ⌝ }
+    requires { ⌜ (bench < benchCount) × (1 ≤ item) × (item ≤ itemCount) × (length (now value) ≤ lineMost) × (d .sheet .count < logMost) ⌝ }
     ensures { λ r. ⌜ r ≡ entered d bench item (now (value .entry)) ⌝ }
 {
     let old = d.sheet;
@@ -65,7 +66,7 @@ fn entered_desk(d: Desk, bench: usize, item: usize, value: &[u8]) -> Desk
 
 // The value is stored and its record written, if the log has room.
 fn store(d: Desk, used: usize, log: &mut [u8], bench: usize, item: usize, value: &[u8]) -> Keyed
-    requires { ⌜ (bench < benchCount) × (1 ≤ item) × (item ≤ itemCount) × (length (now value) ≤ lineMost) × (d .sheet .count < 65536) × (used ≤ length (now log)) ⌝ }
+    requires { ⌜ (bench < benchCount) × (1 ≤ item) × (item ≤ itemCount) × (length (now value) ≤ lineMost) × (d .sheet .count < logMost) × (used ≤ length (now log)) ⌝ }
     ensures { λ r. ⌜ after r (now (log .exit)) ≡ stored d used (now (log .entry)) bench item (now (value .entry)) ⌝ }
 {
     let Written::Bytes(n) = log::write_record(&mut log[used..], bench as u8, item as u8, value)
@@ -86,7 +87,7 @@ fn store(d: Desk, used: usize, log: &mut [u8], bench: usize, item: usize, value:
 
 // Enter, with what is typed on the bench's line.
 fn enter_typed(d: Desk, used: usize, log: &mut [u8], bench: usize, t: &[u8]) -> Keyed
-    requires { ⌜ (bench < benchCount) × (length (now t) ≤ lineMost) × (d .sheet .count < 65536) × (used ≤ length (now log)) ⌝ }
+    requires { ⌜ (bench < benchCount) × (length (now t) ≤ lineMost) × (d .sheet .count < logMost) × (used ≤ length (now log)) ⌝ }
     ensures { λ r. ⌜ after r (now (log .exit)) ≡ enteredAs (classOf (now (t .entry))) d used (now (log .entry)) bench (now (t .entry)) ⌝ }
 {
     let class = cif::line::classify(t);
@@ -111,7 +112,7 @@ fn enter_typed(d: Desk, used: usize, log: &mut [u8], bench: usize, t: &[u8]) -> 
 }
 
 fn enter_line(d: Desk, used: usize, log: &mut [u8], bench: usize, l: Line) -> Keyed
-    requires { ⌜ (bench < benchCount) × (l .len ≤ lineMost) × (d .sheet .count < 65536) × (used ≤ length (now log)) ⌝ }
+    requires { ⌜ (bench < benchCount) × (l .len ≤ lineMost) × (d .sheet .count < logMost) × (used ≤ length (now log)) ⌝ }
     ensures { λ r. ⌜ after r (now (log .exit)) ≡ enteredAs (classOf (typed l)) d used (now (log .entry)) bench (typed l) ⌝ }
 {
     let n = l.len;

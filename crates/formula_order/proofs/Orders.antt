@@ -1,7 +1,7 @@
 -- Laws of the order of symbols: a step over a term, that rising keys are none twice, and that the keys rise as document 01 has it.
 -- Assumes nothing.
 use mathlib.Core.Path.{_≡_, refl, sym, ap, _∙_}
-use mathlib.Core.Bool.{Bool, true, false, cond, _&&_}
+use mathlib.Core.Bool.{Bool, true, false, _&&_}
 use mathlib.Core.List.{List, [], _∷_}
 use Prim.Native.Nat.{ℕ, zero, suc, _+_, _*_, _≤_, _<_}
 use native.Mathlib.Omega.{arith}
@@ -50,15 +50,6 @@ rising-pairs low [] i j e l h = absurd (omega arith)
 rising-pairs low (k ∷ ks) i zero e l h = absurd (omega arith)
 rising-pairs low (k ∷ ks) zero (suc j) e l h = above k ks j (and-both (ltb low k) (rising k ks) e .1) (omega arith)
 rising-pairs low (k ∷ ks) (suc i) (suc j) e l h = rising-pairs k ks i j (and-both (ltb low k) (rising k ks) e .1) (omega arith) (omega arith)
-
-rank-by : (x y : Bool) → cond x 0 (cond y 1 2) ≤ 2
-rank-by true y = omega arith
-rank-by false true = omega arith
-rank-by false false = omega arith
-
-rank-most : (a b : ℕ) → rank a b ≤ 2
-unfolding rank
-rank-most a b = rank-by (sameSymbol a b 67 32) (sameSymbol a b 72 32)
 
 same-key : (r q a b c d : ℕ) → a < 256 → b < 256 → c < 256 → d < 256 → (r * 256 + a) * 256 + b ≡ (q * 256 + c) * 256 + d → (a ≡ c) × (b ≡ d)
 same-key r q a b c d ha hb hc hd e = (omega arith, omega arith)

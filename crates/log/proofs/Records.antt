@@ -13,32 +13,27 @@ use lib.Seq.{take-all, drop-append-add, drop-drop}
 use Rattle.copies.specs.Copy.{copied}
 use Rattle.text.proofs.Bools.{not-holds, cond-first}
 use Rattle.copies.proofs.Copies.{copied-fits}
-use Rattle.text.specs.Little.{little}
-use Rattle.log.specs.Record.{recordLength, recordOf, hasRoom, writtenOf}
+use Rattle.log.specs.Record.{headLength, recordLength, recordMost, headOf, recordOf, hasRoom, writtenOf}
 use Rattle.log.specs.declared.Written.the-variants.{Bytes, NoRoom}
-
--- the six bytes before a value of n bytes
-abbrev pub headOf : ℕ → ℕ → ℕ → List ℕ
-headOf n bench item = little 2 (6 + n) ++ (little 2 1 ++ (bench ∷ item ∷ []))
 
 pub record-length : (bench item : ℕ) (v : List ℕ) → length (recordOf bench item v) ≡ recordLength v
 record-length bench item v = omega arith
 
 -- a record written in two steps
 pub record-written : (bench item : ℕ) (v f : List ℕ) → recordLength v ≤ length f
-    → copied (headOf (length v) bench item ++ drop 6 f) 6 v ≡ recordOf bench item v ++ drop (recordLength v) f
+    → copied (headOf (length v) bench item ++ drop headLength f) headLength v ≡ recordOf bench item v ++ drop (recordLength v) f
 record-written bench item v f h =
     let head = headOf (length v) bench item in
-    let l : 6 + length v ≤ length (head ++ drop 6 f) = simp length-drop (omega arith) in
-    copied-fits (head ++ drop 6 f) 6 v l ∙ rw (drop-append-add head (drop 6 f) (length v), drop-drop)
+    let l : headLength + length v ≤ length (head ++ drop headLength f) = simp length-drop (omega arith) in
+    copied-fits (head ++ drop headLength f) headLength v l ∙ rw (drop-append-add head (drop headLength f) (length v), drop-drop)
 
-pub has-room : (free v : List ℕ) → recordLength v ≤ length free → recordLength v ≤ 65535 → hasRoom free v ≡ true
+pub has-room : (free v : List ℕ) → recordLength v ≤ length free → recordLength v ≤ recordMost → hasRoom free v ≡ true
 unfolding hasRoom
 has-room free v h s = simp (le-leb _ _ h, le-leb _ _ s)
 
-pub too-long : (free v : List ℕ) → 65535 < recordLength v → hasRoom free v ≡ false
+pub too-long : (free v : List ℕ) → recordMost < recordLength v → hasRoom free v ≡ false
 unfolding hasRoom
-too-long free v h = rw (lt-leb (recordLength v) 65535 h) (and-false (leb (recordLength v) (length free)))
+too-long free v h = rw (lt-leb (recordLength v) recordMost h) (and-false (leb (recordLength v) (length free)))
 
 pub too-little : (free v : List ℕ) → length free < recordLength v → hasRoom free v ≡ false
 unfolding hasRoom
@@ -72,6 +67,6 @@ wrote-bytes free v n e =
     (h .0, l)
 
 -- the room for a short value, by the unused part of the log
-pub room-left : (used : ℕ) (log v : List ℕ) → recordLength v ≤ 65535 → hasRoom (drop used log) v ≡ leb (recordLength v) (length log - used)
+pub room-left : (used : ℕ) (log v : List ℕ) → recordLength v ≤ recordMost → hasRoom (drop used log) v ≡ leb (recordLength v) (length log - used)
 unfolding hasRoom
 room-left used log v s = simp (le-leb _ _ s, length-drop) (and-true (leb (recordLength v) (length log - used)))

@@ -9,17 +9,29 @@ use Rattle.text.specs.Little.{little}
 use Rattle.log.specs.declared.Written.{Written}
 use Rattle.log.specs.declared.Written.the-variants.{Bytes, NoRoom}
 
+-- the bytes of a record before its value
+abbrev pub headLength : ℕ
+headLength = 6
+
 -- "Length is 6 plus the value's"
 abbrev pub recordLength : List ℕ → ℕ
-recordLength value = 6 + length value
+recordLength value = headLength + length value
 
--- "length of the whole record (two bytes), kind 1 (two bytes), bench, item, the value as typed"; numbers are "little-endian"
+-- the longest record whose length has two bytes
+abbrev pub recordMost : ℕ
+recordMost = 65535
+
+-- "length of the whole record (two bytes), kind 1 (two bytes), bench, item", for a value of n bytes; numbers are "little-endian"
+abbrev pub headOf : ℕ → ℕ → ℕ → List ℕ
+headOf n bench item = little 2 (headLength + n) ++ (little 2 1 ++ (bench ∷ item ∷ []))
+
+-- the head, and "the value as typed"
 abbrev pub recordOf : ℕ → ℕ → List ℕ → List ℕ
-recordOf bench item value = little 2 (recordLength value) ++ (little 2 1 ++ (bench ∷ item ∷ value))
+recordOf bench item value = headOf (length value) bench item ++ value
 
--- the record is not longer than the free part, and its length has two bytes
+-- the record is not longer than the free part, nor than the longest
 unfoldable pub hasRoom : List ℕ → List ℕ → Bool
-hasRoom free value = leb (recordLength value) (length free) && leb (recordLength value) 65535
+hasRoom free value = leb (recordLength value) (length free) && leb (recordLength value) recordMost
 
 -- what the writer answers: how many bytes it wrote, or that it had no room
 unfoldable pub writtenOf : List ℕ → List ℕ → Written

@@ -1,10 +1,9 @@
 // The record of an accepted entry, and its writer.
 ghost use mathlib.Core.Path.{_≡_};
-ghost use mathlib.Core.List.{[], _∷_, _++_};
+ghost use mathlib.Core.List.{_++_};
 ghost use Prim.Native.Nat.{_+_, _≤_};
-ghost use lib.ListN.{length, drop, take};
-ghost use Rattle.text.specs.Little.{little};
-ghost use Rattle.log.specs.Record.{recordOf, writtenOf, freeAfter};
+ghost use lib.ListN.{length, drop};
+ghost use Rattle.log.specs.Record.{headLength, recordMost, headOf, writtenOf, freeAfter};
 
 // How many bytes a record took, or that there was no room for it. Document 01 refuses an entry without room with 8.
 pub enum Written {
@@ -19,8 +18,8 @@ const RECORD_MOST: usize = 65535;
 
 // The six bytes before a value of n bytes.
 fn put_head(free: &mut [u8], n: usize, bench: u8, item: u8)
-    requires { ⌜ (n + 6 ≤ 65535) × (6 ≤ length (now free)) ⌝ }
-    ensures { λ _. ⌜ now (free .exit) ≡ (little 2 (6 + n) ++ (little 2 1 ++ (bench ∷ item ∷ []))) ++ drop 6 (now (free .entry)) ⌝ }
+    requires { ⌜ (headLength + n ≤ recordMost) × (headLength ≤ length (now free)) ⌝ }
+    ensures { λ _. ⌜ now (free .exit) ≡ headOf n bench item ++ drop headLength (now (free .entry)) ⌝ }
 {
     let all = HEAD + n;
     free[0] = (all % 256) as u8;

@@ -4,7 +4,7 @@ use native.Mathlib.Omega.{arith}
 use lib.ListN.{length-set}
 use lib.Seq.{sets-eq}
 use denote.Ref.{now}
-use Rattle.log.proofs.Records.{headOf}
+use Rattle.log.specs.Record.{headOf}
 use borrow.Author.Needs.{needs}
 use Rattle.log.proofs.put_head.Statement.{statement}
 use Rattle.log.proofs.put_head.Tie as tie

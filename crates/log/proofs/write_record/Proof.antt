@@ -8,7 +8,7 @@ use Prim.Native.Nat.{ℕ, _+_}
 use denote.Ref.{now}
 use lib.ListN.{length}
 use Rattle.copies.specs.Copy.{copied}
-use Rattle.log.specs.Record.{hasRoom, writtenOf, freeAfter}
+use Rattle.log.specs.Record.{headLength, hasRoom, writtenOf, freeAfter}
 use Rattle.log.proofs.Records.{record-written, has-room, too-long, too-little}
 use borrow.Author.Needs.{needs}
 use Rattle.log.proofs.write_record.Statement.{statement}
@@ -36,7 +36,7 @@ returns-3 c =
     let a = h .before .before .before .before .before .before .args in
     let yes = has-room (now (a .free)) (now (a .value)) (omega arith) (omega arith) in (
       simp yes,
-      p .copy-in .ensures ∙ ap (λ (l : List ℕ). copied l 6 (now (a .value))) (h .put-head .ensures)
+      p .copy-in .ensures ∙ ap (λ (l : List ℕ). copied l headLength (now (a .value))) (h .put-head .ensures)
           ∙ record-written (a .bench) (a .item) (now (a .value)) (now (a .free)) (omega arith) ∙ simp yes,
     )
 
