@@ -114,14 +114,32 @@ pub fn compare<'a>(
     run
 }
 
+/// The names of a check from the fixed seed and from the new one.
+macro_rules! from_seeds {
+    ($name:literal) => {
+        [concat!($name, ", fixed seed"), concat!($name, ", new seed")]
+    };
+}
+use from_seeds;
+
 impl Comparison<'_> {
+    /// A check of inputs from both seeds, one for each so many lines.
+    fn seeded(
+        &mut self,
+        plan: &Plan,
+        names: [&'static str; 2],
+        one_in: u64,
+        check: fn(&mut Self, &'static str, u64, u64),
+    ) {
+        for (name, seed) in names.into_iter().zip([plan.fixed_seed, plan.new_seed]) {
+            check(self, name, seed, plan.half(one_in));
+        }
+    }
+
     /// The readers of a line.
     fn readers(&mut self, plan: &Plan) {
-        let half = plan.half(1);
-        self.generated_lines("lines, fixed seed", plan.fixed_seed, half);
-        self.generated_lines("lines, new seed", plan.new_seed, half);
-        self.generated_values("values, fixed seed", plan.fixed_seed, half);
-        self.generated_values("values, new seed", plan.new_seed, half);
+        self.seeded(plan, from_seeds!("lines"), 1, Self::generated_lines);
+        self.seeded(plan, from_seeds!("values"), 1, Self::generated_values);
         self.values("single bytes", lists::single_bytes());
         self.lines("line lengths", lists::line_lengths());
         if !plan.lists {

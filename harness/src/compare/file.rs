@@ -1,6 +1,6 @@
 //! The comparison of the sheet written as a CIF file, and its lines typed back.
 
-use super::{hex, Comparison, Plan};
+use super::{from_seeds, hex, Comparison, Plan};
 use crate::boundary::{Desk, Filed};
 use crate::broken::{each_broken, WAYS};
 use crate::desks::State;
@@ -39,16 +39,10 @@ impl Written {
 
 impl Comparison<'_> {
     pub(super) fn all_files(&mut self, plan: &Plan) {
-        let sheets = plan.half(FILES_ONE_IN);
-        self.generated_files("files, fixed seed", plan.fixed_seed, sheets);
-        self.generated_files("files, new seed", plan.new_seed, sheets);
+        self.seeded(plan, from_seeds!("files"), FILES_ONE_IN, Self::generated_files);
         self.every_room("every room for a file", plan.new_seed, 2 * plan.half(ROOMS_ONE_IN));
-        let broken = plan.half(BROKEN_ONE_IN);
-        self.files_of_broken_desks("no file, fixed seed", plan.fixed_seed, broken);
-        self.files_of_broken_desks("no file, new seed", plan.new_seed, broken);
-        let typed = plan.half(TYPED_ONE_IN);
-        self.files_typed_back("typed back, fixed seed", plan.fixed_seed, typed);
-        self.files_typed_back("typed back, new seed", plan.new_seed, typed);
+        self.seeded(plan, from_seeds!("no file"), BROKEN_ONE_IN, Self::files_of_broken_desks);
+        self.seeded(plan, from_seeds!("typed back"), TYPED_ONE_IN, Self::files_typed_back);
         self.names("block names, every length", files::names_by_length());
         if plan.lists {
             self.names("block names, every byte", files::names_by_byte());

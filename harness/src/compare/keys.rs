@@ -1,6 +1,6 @@
 //! The comparison of key calls.
 
-use super::{hex, Comparison, Plan};
+use super::{from_seeds, hex, Comparison, Plan};
 use crate::boundary::{Desk, ItemState, KeyResult, TextLine};
 use crate::broken::{each_broken, WAYS};
 use crate::desks::{text_line, Desks, State};
@@ -36,18 +36,10 @@ impl Both {
 
 impl Comparison<'_> {
     pub(super) fn all_keys(&mut self, plan: &Plan) {
-        let sessions = plan.half(SESSIONS_ONE_IN);
-        self.sessions("sessions, fixed seed", plan.fixed_seed, sessions);
-        self.sessions("sessions, new seed", plan.new_seed, sessions);
-        let calls = plan.half(CALLS_ONE_IN);
-        self.single_calls("single calls, fixed seed", plan.fixed_seed, calls);
-        self.single_calls("single calls, new seed", plan.new_seed, calls);
-        let broken = plan.half(BROKEN_ONE_IN);
-        self.broken_desks("broken desks, fixed seed", plan.fixed_seed, broken);
-        self.broken_desks("broken desks, new seed", plan.new_seed, broken);
-        let random = plan.half(RANDOM_ONE_IN);
-        self.random_desks("random desks, fixed seed", plan.fixed_seed, random);
-        self.random_desks("random desks, new seed", plan.new_seed, random);
+        self.seeded(plan, from_seeds!("sessions"), SESSIONS_ONE_IN, Self::sessions);
+        self.seeded(plan, from_seeds!("single calls"), CALLS_ONE_IN, Self::single_calls);
+        self.seeded(plan, from_seeds!("broken desks"), BROKEN_ONE_IN, Self::broken_desks);
+        self.seeded(plan, from_seeds!("random desks"), RANDOM_ONE_IN, Self::random_desks);
         self.room("room in the log");
         if plan.lists {
             self.every_byte("every byte", plan.fixed_seed);

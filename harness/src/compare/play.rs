@@ -1,6 +1,6 @@
 //! The comparison of whole sequences, each played as it is and gathered.
 
-use super::{hex, Comparison, Plan};
+use super::{from_seeds, hex, Comparison, Plan};
 use crate::boundary::PlayResult;
 use crate::program::Program;
 use crate::random::Random;
@@ -46,12 +46,8 @@ impl Play {
 
 impl Comparison<'_> {
     pub(super) fn all_sequences(&mut self, plan: &Plan) {
-        let half = plan.half(SEQUENCES_ONE_IN);
-        self.generated_sequences("sequences, fixed seed", plan.fixed_seed, half);
-        self.generated_sequences("sequences, new seed", plan.new_seed, half);
-        let damaged = plan.half(DAMAGED_ONE_IN);
-        self.damaged_sequences("damaged, fixed seed", plan.fixed_seed, damaged);
-        self.damaged_sequences("damaged, new seed", plan.new_seed, damaged);
+        self.seeded(plan, from_seeds!("sequences"), SEQUENCES_ONE_IN, Self::generated_sequences);
+        self.seeded(plan, from_seeds!("damaged"), DAMAGED_ONE_IN, Self::damaged_sequences);
         self.sequences("measured examples typed", measured_examples());
         self.sequences("lengths of the log", log_lengths());
         if plan.lists {

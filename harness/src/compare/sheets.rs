@@ -1,6 +1,6 @@
 //! The comparison of the twelve rows.
 
-use super::{hex, Comparison, Plan};
+use super::{from_seeds, hex, Comparison, Plan};
 use crate::boundary::{Row, RowsResult};
 use crate::program::Values;
 use crate::sheet_lists;
@@ -12,9 +12,7 @@ const ONE_IN: u64 = 2;
 
 impl Comparison<'_> {
     pub(super) fn all_sheets(&mut self, plan: &Plan) {
-        let half = plan.half(ONE_IN);
-        self.generated_sheets("sheets, fixed seed", plan.fixed_seed, half);
-        self.generated_sheets("sheets, new seed", plan.new_seed, half);
+        self.seeded(plan, from_seeds!("sheets"), ONE_IN, Self::generated_sheets);
         self.sheets("measured examples", sheet_lists::measured_examples());
         if !plan.lists {
             return;
