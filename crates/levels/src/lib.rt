@@ -6,7 +6,7 @@ ghost use lib.IntN.{pos};
 ghost use lib.ListN.{getD};
 ghost use lib.Signed.{mag};
 ghost use Rattle.levels.specs.Level.{levelOf};
-ghost use Rattle.levels.specs.Bounds.{bounds, placeOf, judgedOf, gradeOf, readGrade, gradedOf, gradedNumber, gradedLevel};
+ghost use Rattle.levels.specs.Bounds.{bounds, placeOf, judgedOf, gradeOf, gradedOf};
 use decimal::Reading;
 
 // Where the three bounds of a row stand in the table, counted by threes.

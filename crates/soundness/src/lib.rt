@@ -1,8 +1,6 @@
 // The test of soundness (document 01, "What the desk holds"); its part on the log is in sound_log.
 ghost use mathlib.Core.Path.{_≡_};
-ghost use Prim.Native.Nat.{_<_, _≤_};
-ghost use lib.ListN.{length};
-ghost use Rattle.items.specs.Typed.{lineMost};
+ghost use Prim.Native.Nat.{_<_};
 ghost use Rattle.items.specs.Items.{itemCount};
 ghost use Rattle.soundness.specs.Sound.{soundLine, soundEmpty, soundFilled, soundItem, soundLines, soundSheet, soundDesk};
 use items::FIRST_TYPED;

@@ -1,10 +1,9 @@
 // Row 12: the threshold expression (document 01, "The twelve rows").
 ghost use mathlib.Core.Path.{_≡_};
-ghost use mathlib.Core.Bool.{true};
-ghost use Prim.Native.Nat.{_+_, _-_, _≤_, _<_, _^_};
+ghost use Prim.Native.Nat.{_+_, _-_, _≤_};
 ghost use lib.ListN.{length, take, drop};
 ghost use Rattle.text.specs.Run.{hasAt};
-ghost use Rattle.threshold.specs.Threshold.{hasShape, insideOf, multiplierOf, thresholdLevel, multiplierRow, thresholdRow, row12};
+ghost use Rattle.threshold.specs.Threshold.{hasShape, multiplierOf, thresholdLevel, multiplierRow, thresholdRow, row12};
 use decimal::Reading;
 use rows::Row;
 use rows::is_missing;
