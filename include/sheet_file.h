@@ -28,9 +28,10 @@ typedef struct {
 
 /*
  * Plays the input's pairs, a bench digit and a key byte each, on a fresh desk, as the program desk
- * does, and writes the sheet that they leave at the start of out. The log, of at most 65,536 bytes
- * and any content, then holds the records of the accepted entries. The answer is the first that
- * applies:
+ * does, and writes the sheet that they leave at the start of out. Refused keys are passed over. The
+ * log, of any content, then holds the records of the accepted entries from its first byte on; with
+ * more than 65,536 bytes every key is refused, and the file is its first line alone. The answer is
+ * the first that applies:
  *   2   the desk is not sound (never, from a fresh desk)
  *   11  the block name is not 1 to 32 letters, digits or -
  *   10  the file is longer than out (848 bytes are always enough)
