@@ -13,7 +13,7 @@ use Rattle.quotes.specs.Quoted.{textOf}
 use Rattle.formula.specs.Recognised.{allRecognised}
 use Rattle.formula.specs.Sum.{sumOf}
 use Rattle.elements.specs.declared.Weight.the-variants.{Thousandths}
-use Rattle.levels.specs.Bounds.{placeOf, judgedOf, above}
+use Rattle.levels.specs.Bounds.{boundsPlace, judgedOf, above}
 use Rattle.levels.specs.declared.Place.the-variants.{At}
 use Rattle.rows.specs.Rows.{missing}
 use Rattle.weight_rows.specs.WeightRows.{millionths, ratioOutside, row4}
@@ -28,7 +28,7 @@ pub data Judged : Bool → Bool → Bool → Row → Type 0 where
       → readingOf w ≡ Number given → sumOf (textOf f) ≡ Thousandths s
       → Judged (ratioOutside 90 110 given (millionths s)) (ratioOutside 95 105 given (millionths s)) (ratioOutside 99 101 given (millionths s)) (row4 f w)
   -- rows 6, 8 and 10: the new name or the old one is assigned
-  graded : (row place : ℕ) (new old : List ℕ) (z : ℤ) → placeOf row ≡ At place → (missing new && missing old) ≡ false → readingOf (judgedValue new old) ≡ Number z
+  graded : (row place : ℕ) (new old : List ℕ) (z : ℤ) → boundsPlace row ≡ At place → (missing new && missing old) ≡ false → readingOf (judgedValue new old) ≡ Number z
       → Judged (above (3 * place) (judgedOf place z)) (above (3 * place + 1) (judgedOf place z)) (above (3 * place + 2) (judgedOf place z)) (gradedRow row new old)
   -- row 12: the text is one of the expressions, x in millionths
   threshold : (t : List ℕ) (step x : ℕ) → missing t ≡ false → IsThreshold (textOf t) step x

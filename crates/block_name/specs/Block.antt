@@ -5,7 +5,7 @@ use mathlib.Core.Bool.{Bool, _&&_, _||_}
 use mathlib.Core.List.{List}
 use lib.Dec.{leb, eqb}
 use lib.ListN.{length}
-use Rattle.text.specs.Run.{all, between}
+use Rattle.text.specs.Run.{all, isDigit, isCapital, isSmall}
 
 -- the longest name
 abbrev pub blockMost : ℕ
@@ -13,7 +13,7 @@ blockMost = 32
 
 -- "letters, digits or -"
 unfoldable pub isBlockByte : ℕ → Bool
-isBlockByte b = between 65 90 b || (between 97 122 b || (between 48 57 b || eqb b 45))
+isBlockByte b = isCapital b || (isSmall b || (isDigit b || eqb b 45))
 
 -- "a block name (1 to 32 letters, digits or -)"
 unfoldable pub isBlockName : List ℕ → Bool

@@ -13,7 +13,7 @@ use Rattle.equality.specs.Same.{lower}
 use Rattle.text.proofs.Bools.{and-both, cond-first}
 use Rattle.text.proofs.Runs.{run-length, all-append, all-drop}
 use Rattle.values.specs.Value.{isValue}
-use Rattle.items.specs.Items.{itemCount, rowOf, itemOf, IsName}
+use Rattle.items.specs.Items.{itemCount, itemRow, itemOf, IsName}
 use Rattle.kinds.specs.Kinds.{passes}
 use Rattle.items.specs.Typed.{lineMost, isTyped}
 use Rattle.cif.specs.Line.{nameEnd, splitOf, namedClass, splitClass, classOf}
@@ -36,14 +36,14 @@ pub record IsEntry (t : List ℕ) (k v : ℕ) : Type 0 where
   pub known : k ≤ itemCount
   pub name : IsName (take (nameEnd t) t) k
   pub within : v ≤ length t
-  pub room : length (rowOf k .name) + 1 + length (drop v t) ≤ lineMost
+  pub room : length (itemRow k .name) + 1 + length (drop v t) ≤ lineMost
   pub value : isValue (drop v t) ≡ true
   pub passes : passes k (drop v t) ≡ true
   pub value-typed : all isTyped (drop v t) ≡ true
 
 -- a name is as long as its item's
-name-length : {s : List ℕ} {k : ℕ} → IsName s k → length s ≡ length (rowOf k .name)
-name-length {s} {k} h = sym (length-map s lower) ∙ ap length (h .same) ∙ length-map (rowOf k .name) lower
+name-length : {s : List ℕ} {k : ℕ} → IsName s k → length s ≡ length (itemRow k .name)
+name-length {s} {k} h = sym (length-map s lower) ∙ ap length (h .same) ∙ length-map (itemRow k .name) lower
 
 no-bad-form : (k v : ℕ) → BadForm ≡ Entry k v → ⊥
 no-bad-form k v e = let z : _≡_ {A = ℕ} 0 1 = cc in omega arith
@@ -59,7 +59,7 @@ module _ (t : List ℕ) (k v : ℕ) (short : length t ≤ lineMost) (typed : all
       let name : IsName (take (nameEnd t) t) k = rw e at (name-found (take n t) k i) in
       let value : isValue (drop v t) ≡ true = rw (h .value-start) (h .value) in
       let inside : v ≤ length t = omega (arith, start-within t) in
-      let long : nameEnd t ≡ length (rowOf k .name) = sym (run-length (other 32) t) ∙ name-length name in
+      let long : nameEnd t ≡ length (itemRow k .name) = sym (run-length (other 32) t) ∙ name-length name in
       let left = length-drop v t in
       record {
         short = short;
@@ -103,7 +103,7 @@ unfolding all between
 one-typed value h = h
 
 -- an item's name, one space and a value are a line
-unfoldable pub one-space : (k : ℕ) (value : List ℕ) → 1 ≤ k → k ≤ itemCount → isValue value ≡ true → IsLine (rowOf k .name ++ (32 ∷ value)) (rowOf k .name) value
+unfoldable pub one-space : (k : ℕ) (value : List ℕ) → 1 ≤ k → k ≤ itemCount → isValue value ≡ true → IsLine (itemRow k .name ++ (32 ∷ value)) (itemRow k .name) value
 one-space k value some known v =
     record {
       spaces = 1;
@@ -116,11 +116,11 @@ one-space k value some known v =
 
 -- and where the value is of the item's kind, it is accepted
 pub entry-taken : (k : ℕ) (value : List ℕ) → 1 ≤ k → k ≤ itemCount → isValue value ≡ true → passes k value ≡ true → all isTyped value ≡ true
-    → length (rowOf k .name) + 1 + length value ≤ lineMost
-    → classOf (rowOf k .name ++ (32 ∷ value)) ≡ Entry k (length (rowOf k .name) + 1)
+    → length (itemRow k .name) + 1 + length value ≤ lineMost
+    → classOf (itemRow k .name ++ (32 ∷ value)) ≡ Entry k (length (itemRow k .name) + 1)
 unfolding classOf one-space
 entry-taken k value some known v p typed room =
-    let name = rowOf k .name in
+    let name = itemRow k .name in
     let t : List ℕ = name ++ (32 ∷ value) in
     let line : IsLine t name value = one-space k value some known v in
     let short : length t ≤ lineMost = omega (arith, length-append name (32 ∷ value)) in

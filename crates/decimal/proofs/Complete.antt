@@ -11,10 +11,10 @@ use lib.Dec.{eqb·suc-zero}
 use lib.ListN.{length, length-append}
 use lib.Seq.{take-append-seam, drop-append-seam, drop-append-add, getD-append-seam}
 use lib.IntN.{ℤ, pos, negℤ}
-use Rattle.text.specs.Run.{between, runOf, all, hasAt}
+use Rattle.text.specs.Run.{between, runOf, all, hasAt, isDigit}
 use Rattle.text.proofs.Bools.{not-holds}
 use Rattle.text.proofs.Runs.{run-append, run-none, has-here, has-within, has-byte}
-use Rattle.decimal.specs.Digits.{mostUncertain, isDigit}
+use Rattle.decimal.specs.Digits.{mostUncertain}
 use Rattle.decimal.specs.Reading.{closes, isTail, sizeOf, pointedOf, unsignedOf, readingOf}
 use Rattle.decimal.specs.Grammar.{SignText, PointText, UncertaintyText, IsSize, IsNumber}
 use Rattle.decimal.specs.declared.Reading.the-variants.{Number}

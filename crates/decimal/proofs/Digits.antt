@@ -6,9 +6,8 @@ use mathlib.Core.List.{List, _∷_}
 use Prim.Native.Nat.{ℕ, _≤_}
 use borrow.Author.Tests.{leb-true}
 use lib.Dec.{leb}
-use Rattle.text.specs.Run.{between, all}
+use Rattle.text.specs.Run.{between, all, isDigit}
 use Rattle.text.proofs.Bools.{and-both}
-use Rattle.decimal.specs.Digits.{isDigit}
 
 pub first-digit : (d : ℕ) (ds : List ℕ) → all isDigit (d ∷ ds) ≡ true → (48 ≤ d) × (d ≤ 57) × (all isDigit ds ≡ true)
 unfolding all between

@@ -11,8 +11,8 @@ use lib.ListN.{length}
 use lib.Pow.{pow-add}
 use lib.IntN.{ℤ, pos, negℤ}
 use lib.Signed.{mag}
-use Rattle.text.specs.Run.{all}
-use Rattle.decimal.specs.Digits.{mostDigits, mostPlaces, isDigit, valueFrom, valueOf, scaleOf}
+use Rattle.text.specs.Run.{all, isDigit}
+use Rattle.decimal.specs.Digits.{mostDigits, mostPlaces, valueFrom, valueOf, scaleOf}
 use Rattle.decimal.specs.Reading.{readingOf}
 use Rattle.decimal.specs.Grammar.{IsSize}
 use Rattle.decimal.specs.declared.Reading.the-variants.{Number}

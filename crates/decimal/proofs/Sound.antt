@@ -11,10 +11,10 @@ use lib.Dec.{leb, eqb, eqb·suc-zero}
 use lib.ListN.{length, getD, take, drop, take-append-drop, drop-of-length-le}
 use lib.Seq.{drop-cons, split-at}
 use lib.IntN.{ℤ, pos, negℤ}
-use Rattle.text.specs.Run.{runOf, all, hasAt}
+use Rattle.text.specs.Run.{runOf, all, hasAt, isDigit}
 use Rattle.text.proofs.Bools.{and-both}
 use Rattle.text.proofs.Runs.{run-taken, run-length, has-within, has-byte}
-use Rattle.decimal.specs.Digits.{mostDigits, mostPlaces, mostUncertain, isDigit}
+use Rattle.decimal.specs.Digits.{mostDigits, mostPlaces, mostUncertain}
 use Rattle.decimal.specs.Reading.{closes, isTail, sizeOf, pointedOf, unsignedOf, signedOf, readingOf}
 use Rattle.decimal.specs.Grammar.{SignText, PointText, UncertaintyText, IsSize, IsNumber}
 use Rattle.decimal.specs.declared.Reading.the-variants.{Number}

@@ -11,16 +11,16 @@ use Rattle.decimal.specs.Reading.{closes, isTail, sizeOf, pointedOf, uns
 use Rattle.decimal.specs.declared.Reading.{Reading}
 use Rattle.decimal.specs.declared.Reading.the-variants.{Number, Nothing}
 
-pub record Example : Type 0 where
+pub record Vector : Type 0 where
   pub typed : String
   pub read : Reading
 
 infixr 4 _reads_
-abbrev _reads_ : String → Reading → Example
+abbrev _reads_ : String → Reading → Vector
 _reads_ t r = record { typed = t; read = r }
 
-unfoldable pub examples : List Example
-examples =
+unfoldable pub vectors : List Vector
+vectors =
     ("0.16" reads Number (pos 160000)) ∷
     ("0.200001" reads Number (pos 200001)) ∷
     ("-0.05" reads Number (negsuc 49999)) ∷
@@ -42,6 +42,6 @@ examples =
     ("?" reads Nothing) ∷
     ("" reads Nothing) ∷ []
 
-pub examples-hold : map (λ (x : Example). readingOf (bytes (x .typed))) examples ≡ map (λ (x : Example). x .read) examples
-unfolding examples readingOf unsignedOf pointedOf sizeOf isTail closes runOf hasAt between valueFrom
-examples-hold = refl
+pub vectors-hold : map (λ (x : Vector). readingOf (bytes (x .typed))) vectors ≡ map (λ (x : Vector). x .read) vectors
+unfolding vectors readingOf unsignedOf pointedOf sizeOf isTail closes runOf hasAt between valueFrom
+vectors-hold = refl

@@ -1,9 +1,7 @@
 -- Digits, what they write, and the limits of a number (document 01, "A line, a number").
 -- Assumes nothing.
 use Prim.Native.Nat.{ℕ, _+_, _-_, _*_, _^_}
-use mathlib.Core.Bool.{Bool}
 use mathlib.Core.List.{List, [], _∷_}
-use Rattle.text.specs.Run.{between}
 
 -- "1 to 9 digits before any bracket": nine in all, on both sides of the point together
 abbrev pub mostDigits : ℕ
@@ -16,10 +14,6 @@ mostPlaces = 6
 -- "1 to 4 digits of uncertainty"
 abbrev pub mostUncertain : ℕ
 mostUncertain = 4
-
--- 0 to 9, in ASCII
-abbrev pub isDigit : ℕ → Bool
-isDigit = between 48 57
 
 -- the number that acc and then the digits write, in base ten
 unfoldable pub valueFrom : ℕ → List ℕ → ℕ

@@ -7,8 +7,8 @@ use mathlib.Core.Bool.{Bool, true, false, cond}
 use mathlib.Core.List.{List, [], _∷_, _++_}
 use lib.ListN.{length}
 use lib.IntN.{ℤ, pos, negℤ}
-use Rattle.text.specs.Run.{all}
-use Rattle.decimal.specs.Digits.{mostDigits, mostPlaces, mostUncertain, isDigit, valueOf, scaleOf}
+use Rattle.text.specs.Run.{all, isDigit}
+use Rattle.decimal.specs.Digits.{mostDigits, mostPlaces, mostUncertain, valueOf, scaleOf}
 use Rattle.decimal.specs.declared.Reading.{Reading}
 use Rattle.decimal.specs.declared.Reading.the-variants.{Number, Nothing}
 

@@ -5,9 +5,9 @@ use mathlib.Core.Bool.{Bool, true, false, cond, _&&_, _||_}
 use mathlib.Core.List.{List, []}
 use lib.Dec.{leb, eqb}
 use lib.ListN.{length, getD, take, drop}
-use lib.IntN.{ℤ, pos, negℤ}
-use Rattle.text.specs.Run.{runOf, hasAt}
-use Rattle.decimal.specs.Digits.{mostDigits, mostPlaces, mostUncertain, isDigit, valueOf, scaleOf}
+use lib.IntN.{pos, negℤ}
+use Rattle.text.specs.Run.{runOf, hasAt, isDigit}
+use Rattle.decimal.specs.Digits.{mostDigits, mostPlaces, mostUncertain, valueOf, scaleOf}
 use Rattle.decimal.specs.declared.Reading.{Reading}
 use Rattle.decimal.specs.declared.Reading.the-variants.{Number, Nothing}
 use Rattle.decimal.specs.declared.Size.{Size}

@@ -3,8 +3,8 @@
 ghost use mathlib.Core.Path.{_≡_};
 ghost use Prim.Native.Nat.{_-_, _≤_, _<_};
 ghost use lib.ListN.{length};
-ghost use Rattle.text.specs.Run.{runOf};
-ghost use Rattle.decimal.specs.Digits.{mostDigits, mostPlaces, isDigit, valueOf, scaleOf};
+ghost use Rattle.text.specs.Run.{runOf, isDigit};
+ghost use Rattle.decimal.specs.Digits.{mostDigits, mostPlaces, valueOf, scaleOf};
 ghost use Rattle.decimal.specs.Reading.{Small, closes, isTail, sizeOf, pointedOf, unsignedOf, signedOf, readingOf};
 
 // What reading a number finds: the number, in millionths, or that there is none.

@@ -3,12 +3,13 @@
 use Prim.Native.Nat.{ℕ, _+_}
 use mathlib.Core.Bool.{Bool, true, false, cond, _&&_}
 use mathlib.Core.List.{List, [], _∷_}
-use lib.Dec.{leb, eqb}
+use lib.Dec.{eqb}
 use lib.ListN.{length, take}
+use Rattle.text.specs.Run.{isCapital}
 
 -- the small letter of a capital of A to Z; any other byte is itself
 unfoldable pub lower : ℕ → ℕ
-lower b = cond (leb 65 b && leb b 90) (b + 32) b
+lower b = cond (isCapital b) (b + 32) b
 
 -- a byte as it is
 abbrev pub exact : ℕ → ℕ

@@ -1,8 +1,7 @@
 -- The examples of document 01 marked with [P] hold: antt computes each from the definitions.
 -- Assumes nothing.
 use mathlib.Core.Path.{_≡_, refl}
-use mathlib.Core.List.{List, map}
-use Prim.Native.Nat.{ℕ}
+use mathlib.Core.List.{map}
 use Rattle.text.specs.Run.{between, other, runOf, all, hasAt}
 use Rattle.equality.specs.Same.{lower, sameBy, beginsFolded}
 use Rattle.decimal.specs.Digits.{valueFrom}
@@ -16,7 +15,7 @@ use Rattle.terms.specs.Terms.{cut, some}
 use Rattle.elements.specs.Elements.{sameSymbol, placeOf, symbols, elementOf, isElement, notMetals, isMetal, weights, weightIn, weightOf}
 use Rattle.formula.specs.Recognised.{allRecognised}
 use Rattle.formula_order.specs.Order.{rank, key, rising, inOrder}
-use Rattle.formula_class.specs.Class.{hasTerm, classOf as formulaClass}
+use Rattle.formula_class.specs.Class.{hasTerm, formulaClass}
 use Rattle.formula.specs.Sum.{total, sumOf}
 use Rattle.levels.specs.Bounds.{bounds, judgedOf, gradeOf, gradedOf}
 use Rattle.state.specs.Lines.{appended, erased}

@@ -3,22 +3,18 @@
 -- Assumes nothing.
 use Prim.Native.Nat.{ℕ, _-_}
 use Prim.Native.String.{String}
-use mathlib.Core.List.{List, [], _∷_, _++_, map}
+use mathlib.Core.List.{List, [], _∷_, _++_}
 use lib.ListN.{getD, set, take, replicate}
 use Rattle.text.specs.Quote.{bytes}
 use Rattle.formula.specs.Sum.{sumOf}
 use Rattle.elements.specs.declared.Weight.{Weight}
 use Rattle.elements.specs.declared.Weight.the-variants.{Thousandths, NoWeight}
-use Rattle.state.specs.Lines.{lineOf}
 use Rattle.state.specs.Sheets.{filled, emptySheet}
-use Rattle.state.specs.Desks.{freshDesk, withLine}
 use Rattle.state.specs.declared.sheet.Item.{Item}
-use Rattle.state.specs.declared.sheet.Sheet.{Sheet}
 use Rattle.rows.specs.Rows.{rowOf, noRows}
 use Rattle.alerts.specs.Sheet.{rowsOf}
 use Rattle.rows.specs.declared.Row.{Row}
-use Rattle.calls.specs.Key.{After, keyStep}
-use Rattle.sequence.specs.Calls.{Call, key, State, freshState}
+use Rattle.sequence.specs.Calls.{Call, key, typing, State}
 use Rattle.sequence.specs.Sequences.{stateAfter}
 
 -- a value typed for an item
@@ -32,8 +28,6 @@ pub data Asked : Type 0 where
   sum : String → Asked
   -- a row of the report on a sheet that holds these values
   row : ℕ → List Typed → Asked
-  -- the log after a bench, on a fresh desk, has typed a line and pressed Enter
-  logged : ℕ → String → Asked
   -- the log after a sequence of calls, from a fresh desk
   played : List Call → Asked
 
@@ -49,18 +43,14 @@ summed NoWeight = []
 abbrev pub told : Row → List ℕ
 told r = r .level ∷ r .reason ∷ []
 
-abbrev pub used : After → List ℕ
-used a = take (a .used) (a .log)
-
-abbrev pub usedAfter : State → List ℕ
-usedAfter s = take (s .used) (s .log)
+abbrev pub used : State → List ℕ
+used s = take (s .used) (s .log)
 
 -- what the desk's definitions answer: the sum, the level and reason of a row, the used bytes of a log of 64
 unfoldable pub answerOf : Asked → List ℕ
 answerOf (sum formula) = summed (sumOf (bytes formula))
 answerOf (row n values) = told (getD (rowsOf (record { items = sheetWith values; count = 1 }) .rows) (n - 1) (rowOf 9 9))
-answerOf (logged bench line) = used (keyStep (withLine freshDesk bench (lineOf (bytes line))) 0 (replicate 64 0) bench 10)
-answerOf (played cs) = usedAfter (stateAfter rowsOf noRows (replicate 64 0) cs)
+answerOf (played cs) = used (stateAfter rowsOf noRows (replicate 64 0) cs)
 
 pub record Example : Type 0 where
   pub asked : Asked
@@ -72,13 +62,13 @@ typed item value = record { item = item; value = value }
 abbrev example : Asked → List ℕ → Example
 example asked answer = record { asked = asked; answer = answer }
 
--- 'C10 H20' with a weight, and a category or none
+-- 'C10 H20' with a weight
 abbrev weighed : String → List Typed
 weighed weight = typed 1 "'C10 H20'" ∷ typed 2 weight ∷ []
 
--- the keys of a text
-abbrev keysOf : ℕ → String → List Call
-keysOf bench text = map (key bench) (bytes text)
+-- a text typed at bench 0, and Enter
+abbrev entering : String → List Call
+entering text = typing 0 (bytes text) ++ (key 0 10 ∷ [])
 
 -- the table: a level is 0 none, 2 C, 3 B, 4 A, and each of these rows is judged, reason 0
 unfoldable pub examples : List Example
@@ -101,10 +91,10 @@ examples =
     example (row 12 (typed 10 "'F^2^ > 6\\s(F^2^)'" ∷ [])) (4 ∷ 0 ∷ []) ∷
     -- "'H Br' row 2 none .. 'C10H20' row 1 A"
     example (row 2 (typed 1 "'H Br'" ∷ [])) (0 ∷ 0 ∷ []) ∷
-    example (row 1 (typed 1 "C10H20" ∷ [])) (4 ∷ 0 ∷ []) ∷
+    example (row 1 (typed 1 "'C10H20'" ∷ [])) (4 ∷ 0 ∷ []) ∷
     -- "_refine_ls_R_factor_gt 0.16 from bench 0 logs 0A 00 01 00 00 04 30 2E 31 36 (hexadecimal)"
-    example (logged 0 "_refine_ls_R_factor_gt 0.16") (10 ∷ 0 ∷ 1 ∷ 0 ∷ 0 ∷ 4 ∷ 48 ∷ 46 ∷ 49 ∷ 54 ∷ []) ∷
+    example (played (entering "_refine_ls_R_factor_gt 0.16")) (10 ∷ 0 ∷ 1 ∷ 0 ∷ 0 ∷ 4 ∷ 48 ∷ 46 ∷ 49 ∷ 54 ∷ []) ∷
     -- "Taking the bench from the first key after a refused Enter of another": bench 0's Enter is refused, bench 1 is the first to type after it, and the
     -- entry that bench 0 then corrects is bench 0's
-    example (played (keysOf 0 "_refine_ls_R_factor_gt" ++ (key 0 10 ∷ key 1 56 ∷ keysOf 0 " 0.16" ++ (key 0 10 ∷ []))))
+    example (played (entering "_refine_ls_R_factor_gt" ++ (key 1 56 ∷ entering " 0.16")))
     (10 ∷ 0 ∷ 1 ∷ 0 ∷ 0 ∷ 4 ∷ 48 ∷ 46 ∷ 49 ∷ 54 ∷ []) ∷ []

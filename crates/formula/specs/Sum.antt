@@ -38,7 +38,7 @@ unfoldable pub total : List Term → Weight
 total [] = Thousandths 0
 total (t ∷ ts) = plus (termWeight t) (total ts)
 
--- the sum of a text of at most 4096 bytes; no line is longer
+-- the sum of a text that is not too long; no line is
 unfoldable pub sumOf : List ℕ → Weight
 sumOf s = cond (leb (length s) mostSummed) (total (termsOf s)) NoWeight
 

@@ -23,5 +23,5 @@ unfoldable pub hasTerm : Wanted → List ℕ → Bool
 hasTerm w s = some (isWanted w) (termsOf s)
 
 -- "no C, or C without H, is inorganic ..; C, H and a metal is metal-organic ..; C, H and no metal is organic"
-unfoldable pub classOf : List ℕ → Class
-classOf s = cond (hasTerm (Symbol 67 32) s && hasTerm (Symbol 72 32) s) (cond (hasTerm AnyMetal s) MetalOrganic Organic) Inorganic
+unfoldable pub formulaClass : List ℕ → Class
+formulaClass s = cond (hasTerm (Symbol 67 32) s && hasTerm (Symbol 72 32) s) (cond (hasTerm AnyMetal s) MetalOrganic Organic) Inorganic

@@ -1,6 +1,6 @@
 // The class of a formula by its elements (document 01, "The twelve rows": row 3).
 ghost use mathlib.Core.Path.{_≡_};
-ghost use Rattle.formula_class.specs.Class.{isWanted, hasTerm, classOf};
+ghost use Rattle.formula_class.specs.Class.{isWanted, hasTerm, formulaClass};
 use categories::Class;
 use terms::Step;
 use terms::term::Term;
@@ -42,7 +42,7 @@ fn has_term(s: &[u8], w: Wanted) -> bool
 
 // The class of a formula.
 pub fn class_of(s: &[u8]) -> Class
-    ensures { λ r. ⌜ r ≡ classOf (now (s .entry)) ⌝ }
+    ensures { λ r. ⌜ r ≡ formulaClass (now (s .entry)) ⌝ }
 {
     if !has_term(s, Wanted::Symbol(b'C', b' ')) {
         return Class::Inorganic;

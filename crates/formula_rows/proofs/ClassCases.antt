@@ -6,7 +6,7 @@ use mathlib.Core.List.{List}
 use Prim.Native.Nat.{ℕ}
 use Rattle.quotes.specs.Quoted.{textOf}
 use Rattle.formula.specs.Recognised.{allRecognised}
-use Rattle.formula_class.specs.Class.{classOf}
+use Rattle.formula_class.specs.Class.{formulaClass}
 use Rattle.rows.specs.Rows.{rowOf, noAlert, missing}
 use Rattle.formula_rows.specs.FormulaRows.{row3}
 use Rattle.categories.specs.Categories.{inClass}
@@ -26,10 +26,10 @@ module _ (f c : List ℕ) where
       unfolding row3
       class-unread r = simp (p, q, r)
 
-      pub class-match : allRecognised (textOf f) ≡ true → inClass (classOf (textOf f)) (textOf c) ≡ true → row3 f c ≡ noAlert
+      pub class-match : allRecognised (textOf f) ≡ true → inClass (formulaClass (textOf f)) (textOf c) ≡ true → row3 f c ≡ noAlert
       unfolding row3
       class-match r s = simp (p, q, r, s)
 
-      pub class-mismatch : allRecognised (textOf f) ≡ true → inClass (classOf (textOf f)) (textOf c) ≡ false → row3 f c ≡ rowOf 1 0
+      pub class-mismatch : allRecognised (textOf f) ≡ true → inClass (formulaClass (textOf f)) (textOf c) ≡ false → row3 f c ≡ rowOf 1 0
       unfolding row3
       class-mismatch r s = simp (p, q, r, s)

@@ -1,13 +1,13 @@
 -- Rows 1 to 3, of formula and category (document 01, "The twelve rows").
 -- Assumes nothing.
 use Prim.Native.Nat.{ℕ}
-use mathlib.Core.Bool.{Bool, cond, _||_}
+use mathlib.Core.Bool.{cond, _||_}
 use mathlib.Core.List.{List}
 use Rattle.categories.specs.Categories.{inClass}
 use Rattle.quotes.specs.Quoted.{textOf}
 use Rattle.formula.specs.Recognised.{allRecognised}
 use Rattle.formula_order.specs.Order.{inOrder}
-use Rattle.formula_class.specs.Class.{classOf}
+use Rattle.formula_class.specs.Class.{formulaClass}
 use Rattle.rows.specs.Rows.{rowOf, noAlert, missing}
 use Rattle.rows.specs.declared.Row.{Row}
 
@@ -23,4 +23,4 @@ row2 formula = cond (missing formula) (rowOf 2 1) (cond (inOrder (textOf formula
 unfoldable pub row3 : List ℕ → List ℕ → Row
 row3 formula category =
     cond (missing formula || missing category) (rowOf 1 1)
-    (cond (allRecognised (textOf formula)) (cond (inClass (classOf (textOf formula)) (textOf category)) noAlert (rowOf 1 0)) (rowOf 1 2))
+    (cond (allRecognised (textOf formula)) (cond (inClass (formulaClass (textOf formula)) (textOf category)) noAlert (rowOf 1 0)) (rowOf 1 2))

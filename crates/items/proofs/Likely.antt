@@ -2,17 +2,17 @@
 -- So the item at the mark is the only one that the text can name.
 -- Assumes nothing.
 use mathlib.Core.Path.{_≡_, refl, sym, ap, _∙_}
-use mathlib.Core.Bool.{Bool, true, false, cond, _&&_, false≢true}
+use mathlib.Core.Bool.{Bool, true, false, cond, false≢true}
 use mathlib.Core.List.{List, map}
 use Prim.Native.Nat.{ℕ, _+_, _-_, _*_, _%_, _≤_, _<_}
 use native.Mathlib.Omega.{arith}
-use lib.Dec.{leb}
 use lib.ListN.{length, getD, length-map, List·getD-map}
 use Rattle.text.specs.Quote.{bytes}
+use Rattle.text.specs.Run.{between, isCapital}
 use Rattle.text.proofs.Tables.{agree, nowhere-above}
 use Rattle.equality.specs.Same.{lower, sameFolded}
 use Rattle.equality.proofs.Sames.{same→map, map→same}
-use Rattle.items.specs.Items.{items, itemCount, rowOf, nameOf, itemOf, IsName}
+use Rattle.items.specs.Items.{items, itemCount, nameOf, itemOf, IsName}
 use Rattle.items.specs.declared.Named.{Named}
 use Rattle.items.specs.declared.Named.the-variants.{Item, Unknown}
 use Rattle.items.proofs.NameTable.{name-of}
@@ -30,22 +30,22 @@ folded a b true = omega arith
 folded a b false = refl
 
 mark-lower : (s : List ℕ) → markOf (map lower s) ≡ markOf s
-unfolding lower
+unfolding lower between
 mark-lower s =
     let n = length s in
     let b = getD s (n - 2) 0 in
-    rw (length-map s lower, List·getD-map lower s (n - 2) 0) (folded (2 * (n % 16)) b (leb 65 b && leb b 90))
+    rw (length-map s lower, List·getD-map lower s (n - 2) 0) (folded (2 * (n % 16)) b (isCapital b))
 
 own-mark : (k : ℕ) → k ≤ itemCount → getD letters (markOf (nameOf k)) 0 - 64 ≡ k
 unfolding letters nameOf items
 own-mark k h = agree (λ (k : ℕ). getD letters (markOf (nameOf k)) 0 - 64) (λ (k : ℕ). k) 0 (itemCount + 1) refl k (omega arith)
 
--- the letters of the table are @ to J
-pub letter-range : (m : ℕ) → m < 32 → (64 ≤ getD letters m 0) × (getD letters m 0 ≤ 74)
+-- the letters of the table are @ and those of the items
+pub letter-range : (m : ℕ) → m < 32 → (64 ≤ getD letters m 0) × (getD letters m 0 ≤ 64 + itemCount)
 unfolding letters
 letter-range m h =
     let letter : ℕ → ℕ = λ m. getD letters m 0 in
-    (nowhere-above (λ (m : ℕ). 64) letter 32 refl m h, nowhere-above letter (λ (m : ℕ). 74) 32 refl m h)
+    (nowhere-above (λ (m : ℕ). 64) letter 32 refl m h, nowhere-above letter (λ (m : ℕ). 64 + itemCount) 32 refl m h)
 
 module _ (s : List ℕ) where
   pub only-item : (k : ℕ) → IsName s k → getD letters (markOf s) 0 - 64 ≡ k

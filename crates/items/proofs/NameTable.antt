@@ -7,7 +7,7 @@ use native.Mathlib.Omega.{arith}
 use borrow.Author.Tests.{le-leb, lt-leb}
 use lib.ListN.{length, getD, take, drop, replicate}
 use Rattle.text.proofs.Tables.{agree, nowhere-above}
-use Rattle.items.specs.Items.{ItemRow, items, itemCount, nameMost, noRow, rowOf, nameOf}
+use Rattle.items.specs.Items.{ItemRow, items, itemCount, nameMost, noRow, itemRow, nameOf}
 
 -- the names, each filled up with points
 filled : List ItemRow → List ℕ
@@ -40,7 +40,7 @@ module _ (item : ℕ) (known : item ≤ itemCount) where
       let size : 32 * item + n - 32 * item ≡ length (nameOf item) = omega arith in
       ap (λ (m : ℕ). take m (drop (32 * item) flat)) size ∙ agree (λ (k : ℕ). take (length (nameOf k)) (drop (32 * k) flat)) nameOf [] (itemCount + 1) refl item below
 
-pub name-of : (item : ℕ) → 1 ≤ item → item ≤ itemCount → nameOf item ≡ rowOf item .name
+pub name-of : (item : ℕ) → 1 ≤ item → item ≤ itemCount → nameOf item ≡ itemRow item .name
 unfolding nameOf
 name-of item some known = simp (le-leb 1 item some, le-leb item itemCount known)
 

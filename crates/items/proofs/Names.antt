@@ -12,9 +12,8 @@ use Rattle.text.specs.Run.{all, between, other, hasAt}
 use Rattle.equality.specs.Same.{lower, sameBy, sameFolded}
 use Rattle.equality.proofs.Sames.{same→map, same-cong}
 use Rattle.text.proofs.Tables.{agree}
-use Rattle.items.specs.Items.{ItemRow, items, itemCount, noRow, rowOf, findFrom, itemOf, IsName}
+use Rattle.items.specs.Items.{ItemRow, items, itemCount, noRow, itemRow, findFrom, itemOf, IsName}
 use Rattle.items.specs.Typed.{isTyped}
-use Rattle.items.specs.declared.Named.{Named}
 use Rattle.items.specs.declared.Named.the-variants.{Item, Unknown}
 
 items-length : length items ≡ itemCount
@@ -49,7 +48,7 @@ found (r ∷ rs) n s k q = found-by (sameFolded s (r .name)) r rs n s k refl (fo
 pub name-found : (s : List ℕ) (k : ℕ) → itemOf s ≡ Item k → IsName s k
 name-found s k q =
     let h = found items 1 s k q in
-    record { first = h .from; last = omega (arith, items-length); same = same→map lower s (rowOf k .name) (h .same) }
+    record { first = h .from; last = omega (arith, items-length); same = same→map lower s (itemRow k .name) (h .same) }
 
 -- the search sees a text only through its folding
 find-cong : (rs : List ItemRow) (n : ℕ) (s t : List ℕ) → map lower s ≡ map lower t → findFrom n rs s ≡ findFrom n rs t
@@ -59,14 +58,14 @@ find-cong (r ∷ rs) n s t e = rw (same-cong lower s t (r .name) e, find-cong rs
 
 -- each name is found as itself: one test that antt computes
 own-found : (j : ℕ) → j < itemCount → itemOf (getD items j noRow .name) ≡ Item (suc j)
-unfolding items findFrom sameBy lower
+unfolding items findFrom sameBy lower between
 own-found = agree (λ (j : ℕ). itemOf (getD items j noRow .name)) (λ (j : ℕ). Item (suc j)) Unknown itemCount refl
 
 -- the name of item k is found as item k
 pub found-name : (s : List ℕ) (k : ℕ) → IsName s k → itemOf s ≡ Item k
 found-name s k h =
     let at : suc (k - 1) ≡ k = omega arith in
-    find-cong items 1 s (rowOf k .name) (h .same) ∙ own-found (k - 1) (omega arith) ∙ ap Item at
+    find-cong items 1 s (itemRow k .name) (h .same) ∙ own-found (k - 1) (omega arith) ∙ ap Item at
 
 -- a text is never the name of two items
 pub never-two : (s : List ℕ) (j k : ℕ) → IsName s j → IsName s k → j ≡ k
@@ -77,25 +76,25 @@ pub unknown-name : (s : List ℕ) → itemOf s ≡ Unknown → (k : ℕ) → IsN
 unknown-name s e k h = let q = found-name s k h in let z : _≡_ {A = ℕ} 0 1 = cc in omega arith
 
 -- a test that holds in each row of the table holds at each item
-holds-at : (f : ItemRow → Bool) → map f items ≡ replicate itemCount true → (k : ℕ) → 1 ≤ k → k ≤ itemCount → f (rowOf k) ≡ true
+holds-at : (f : ItemRow → Bool) → map f items ≡ replicate itemCount true → (k : ℕ) → 1 ≤ k → k ≤ itemCount → f (itemRow k) ≡ true
 holds-at f e k some known =
     let within : k - 1 < itemCount = omega arith in
     sym (List·getD-map f items (k - 1) noRow) ∙ ap (λ (l : List Bool). getD l (k - 1) (f noRow)) e ∙ getD-replicate itemCount (k - 1) true (f noRow) within
 
 -- the items' names are bytes that can be typed, `_` first, no spaces, two bytes at least
 module _ (k : ℕ) (some : 1 ≤ k) (known : k ≤ itemCount) where
-  pub name-typed : all isTyped (rowOf k .name) ≡ true
+  pub name-typed : all isTyped (itemRow k .name) ≡ true
   unfolding items all between
   name-typed = holds-at (λ (r : ItemRow). all isTyped (r .name)) refl k some known
 
-  pub name-first : hasAt (rowOf k .name) 0 95 ≡ true
+  pub name-first : hasAt (itemRow k .name) 0 95 ≡ true
   unfolding items hasAt
   name-first = holds-at (λ (r : ItemRow). hasAt (r .name) 0 95) refl k some known
 
-  pub name-unspaced : all (other 32) (rowOf k .name) ≡ true
+  pub name-unspaced : all (other 32) (itemRow k .name) ≡ true
   unfolding items all other
   name-unspaced = holds-at (λ (r : ItemRow). all (other 32) (r .name)) refl k some known
 
-  pub name-long : 2 ≤ length (rowOf k .name)
+  pub name-long : 2 ≤ length (itemRow k .name)
   unfolding items
   name-long = leb-true _ _ (holds-at (λ (r : ItemRow). leb 2 (length (r .name))) refl k some known)

@@ -6,7 +6,7 @@ use mathlib.Core.Path.{_≡_}
 use mathlib.Core.Bool.{Bool, cond, _&&_}
 use mathlib.Core.List.{List, [], _∷_, map}
 use lib.Dec.{leb}
-use lib.ListN.{length, getD}
+use lib.ListN.{getD}
 use Rattle.text.specs.Quote.{bytes}
 use Rattle.equality.specs.Same.{lower, sameFolded}
 use Rattle.items.specs.declared.Kind.{Kind}
@@ -49,12 +49,16 @@ abbrev pub noRow : ItemRow
 noRow = record { name = []; kind = Text }
 
 -- the row of an item
-abbrev pub rowOf : ℕ → ItemRow
-rowOf item = getD items (item - 1) noRow
+abbrev pub itemRow : ℕ → ItemRow
+itemRow item = getD items (item - 1) noRow
+
+-- there is an item of that number
+abbrev pub isItem : ℕ → Bool
+isItem item = leb 1 item && leb item itemCount
 
 -- the name of an item; none for an item that is not there
 unfoldable pub nameOf : ℕ → List ℕ
-nameOf item = cond (leb 1 item && leb item itemCount) (rowOf item .name) []
+nameOf item = cond (isItem item) (itemRow item .name) []
 
 -- "Names are compared without regard to the case of A to Z": the first row of the table with that name, counted from n
 unfoldable pub findFrom : ℕ → List ItemRow → List ℕ → Named
@@ -69,4 +73,4 @@ itemOf s = findFrom 1 items s
 pub record IsName (s : List ℕ) (k : ℕ) : Type 0 where
   pub first : 1 ≤ k
   pub last : k ≤ itemCount
-  pub same : map lower s ≡ map lower (rowOf k .name)
+  pub same : map lower s ≡ map lower (itemRow k .name)

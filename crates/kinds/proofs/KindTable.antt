@@ -1,13 +1,13 @@
 -- The code's table of kinds: a letter for each item. That it is the table of items is a test that antt computes.
 -- Assumes nothing.
-use mathlib.Core.Path.{_≡_, refl, sym, _∙_}
+use mathlib.Core.Path.{_≡_, refl}
 use mathlib.Core.List.{List}
 use Prim.Native.Nat.{ℕ, _+_, _<_}
 use native.Mathlib.Omega.{arith}
 use lib.ListN.{getD}
 use Rattle.text.specs.Quote.{bytes}
 use Rattle.text.proofs.Tables.{entry}
-use Rattle.items.specs.Items.{items, itemCount, rowOf}
+use Rattle.items.specs.Items.{items, itemCount, itemRow}
 use Rattle.items.specs.declared.Kind.{Kind}
 use Rattle.items.specs.declared.Kind.the-variants.{Text, Number, Category}
 
@@ -21,9 +21,9 @@ unfoldable pub letters : List ℕ
 letters = bytes "tncnnnnnnt"
 
 letter : ℕ → ℕ
-letter k = letterOf (rowOf (k + 1) .kind)
+letter k = letterOf (itemRow (k + 1) .kind)
 
-pub letter-at : (k : ℕ) → k < itemCount → getD letters k 0 ≡ letterOf (rowOf (k + 1) .kind)
+pub letter-at : (k : ℕ) → k < itemCount → getD letters k 0 ≡ letterOf (itemRow (k + 1) .kind)
 unfolding letter letters items
 letter-at k h = entry letter 0 itemCount k h
 

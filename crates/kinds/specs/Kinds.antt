@@ -10,7 +10,7 @@ use Rattle.decimal.specs.Reading.{isNumber}
 use Rattle.quotes.specs.Quoted.{textOf}
 use Rattle.categories.specs.Categories.{isCategory}
 use Rattle.values.specs.Value.{isUnassigned, isValue}
-use Rattle.items.specs.Items.{itemCount, rowOf}
+use Rattle.items.specs.Items.{isItem, itemRow}
 use Rattle.items.specs.Typed.{lineMost, isTyped}
 use Rattle.items.specs.declared.Kind.{Kind}
 use Rattle.items.specs.declared.Kind.the-variants.{Text, Number, Category}
@@ -23,8 +23,8 @@ ofKind Category v = isCategory (textOf v)
 
 -- a value passes an item's kind; unassigned "passes every kind". No value passes that of an item that is not there.
 unfoldable pub passes : ℕ → List ℕ → Bool
-passes item v = leb 1 item && (leb item itemCount && (isUnassigned v || ofKind (rowOf item .kind) v))
+passes item v = isItem item && (isUnassigned v || ofKind (itemRow item .kind) v)
 
 -- "a value of the form below, bytes 32 to 126, that passes its kind and makes, after its name and one space, a line of at most 80 bytes"
 unfoldable pub fits : ℕ → List ℕ → Bool
-fits item v = passes item v && (isValue v && (all isTyped v && leb (length (rowOf item .name) + 1 + length v) lineMost))
+fits item v = passes item v && (isValue v && (all isTyped v && leb (length (itemRow item .name) + 1 + length v) lineMost))

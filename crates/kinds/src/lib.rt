@@ -2,7 +2,7 @@
 ghost use mathlib.Core.Path.{_≡_};
 ghost use Prim.Native.Nat.{_<_, _+_};
 ghost use Rattle.decimal.specs.Reading.{isNumber};
-ghost use Rattle.items.specs.Items.{itemCount, rowOf};
+ghost use Rattle.items.specs.Items.{itemCount, itemRow};
 ghost use Rattle.kinds.specs.Kinds.{ofKind, passes, fits};
 use decimal::Reading;
 use items::FIRST_TYPED;
@@ -17,7 +17,7 @@ const KINDS: [u8; 10] = *b"tncnnnnnnt";
 // The kind of item k + 1.
 fn kind_at(k: usize) -> Kind
     requires { ⌜ k < itemCount ⌝ }
-    ensures { λ r. ⌜ r ≡ rowOf (k + 1) .kind ⌝ }
+    ensures { λ r. ⌜ r ≡ itemRow (k + 1) .kind ⌝ }
 {
     let letter = KINDS[k];
     match letter {

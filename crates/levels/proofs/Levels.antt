@@ -1,6 +1,6 @@
 -- Grading by three bounds, shown once for all bounds and all tests: the level given is the highest whose bound is broken, and 0 where none is.
 -- Assumes nothing.
-use mathlib.Core.Path.{_≡_, refl, sym, ap, _∙_}
+use mathlib.Core.Path.{_≡_, refl}
 use mathlib.Core.Bool.{Bool, true, false, cond, false≢true}
 use mathlib.Core.Logic.{_⊎_, inl, inr}
 use Prim.Native.Nat.{ℕ, _+_, _*_, _≤_, _<_}
@@ -9,7 +9,7 @@ use borrow.Author.Tests.{eqb-true}
 use lib.Dec.{eqb}
 use lib.IntN.{ℤ}
 use Rattle.levels.specs.Level.{levelOf, brokenAt, Highest}
-use Rattle.levels.specs.Bounds.{placeOf, judgedOf, above, gradeOf}
+use Rattle.levels.specs.Bounds.{boundsPlace, judgedOf, above, gradeOf}
 use Rattle.levels.specs.declared.Place.the-variants.{At, Nowhere}
 
 -- the bound of a level is broken only where it has one: it is a test that holds
@@ -50,5 +50,5 @@ place-by false true c place e = let h : 1 ≡ place = cc in omega arith
 place-by false false true place e = let h : 2 ≡ place = cc in omega arith
 place-by false false false place e = let z : _≡_ {A = ℕ} 0 1 = cc in absurd (omega arith)
 
-pub place-small : (row place : ℕ) → placeOf row ≡ At place → place < 3
+pub place-small : (row place : ℕ) → boundsPlace row ≡ At place → place < 3
 place-small row place e = place-by (eqb row 6) (eqb row 8) (eqb row 10) place e

@@ -16,7 +16,7 @@ use Rattle.levels.specs.declared.Graded.the-variants.{Level, NoRow, NoNu
 use Rattle.levels.specs.declared.Place.{Place}
 use Rattle.levels.specs.declared.Place.the-variants.{At, Nowhere}
 
--- the bounds of A, B and C for each row that has them, in millionths
+-- the bounds of A, B and C of rows 6, 8 and 10, in millionths
 unfoldable pub bounds : List ℤ
 bounds =
     -- 6. RFACG_01: "above 0.20 A, 0.15 B, 0.10 C"
@@ -27,8 +27,8 @@ bounds =
     pos 200000 ∷ pos 100000 ∷ pos 50000 ∷ []
 
 -- where the bounds of a row stand in the table, counted by threes; other rows have none
-abbrev pub placeOf : ℕ → Place
-placeOf row = cond (eqb row 6) (At 0) (cond (eqb row 8) (At 1) (cond (eqb row 10) (At 2) Nowhere))
+abbrev pub boundsPlace : ℕ → Place
+boundsPlace row = cond (eqb row 6) (At 0) (cond (eqb row 8) (At 1) (cond (eqb row 10) (At 2) Nowhere))
 
 -- what is judged of a number: in row 10 its absolute value, "negated where below zero"
 unfoldable pub judgedOf : ℕ → ℤ → ℤ
@@ -54,7 +54,7 @@ placedGrade Nowhere t = NoRow
 
 -- the wall screen's question, "for row 6, 8 or 10 and one typed value"
 unfoldable pub gradedOf : ℕ → List ℕ → Graded
-gradedOf row t = placedGrade (placeOf row) t
+gradedOf row t = placedGrade (boundsPlace row) t
 
 -- document 01's number: "the answer 0 with the level it earns, or 6 for another row, then 7 for a value that is not a number"
 abbrev pub gradedNumber : Graded → ℕ

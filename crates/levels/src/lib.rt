@@ -6,7 +6,7 @@ ghost use lib.IntN.{pos};
 ghost use lib.ListN.{getD};
 ghost use lib.Signed.{mag};
 ghost use Rattle.levels.specs.Level.{levelOf};
-ghost use Rattle.levels.specs.Bounds.{bounds, placeOf, judgedOf, gradeOf, gradedOf};
+ghost use Rattle.levels.specs.Bounds.{bounds, boundsPlace, judgedOf, gradeOf, gradedOf};
 use decimal::Reading;
 
 // Where the three bounds of a row stand in the table, counted by threes.
@@ -47,7 +47,7 @@ fn bound(n: usize) -> i64
 
 // The place of a row's bounds.
 fn place_of(row: u64) -> Place
-    ensures { λ r. ⌜ r ≡ placeOf row ⌝ }
+    ensures { λ r. ⌜ r ≡ boundsPlace row ⌝ }
 {
     match row {
         6 => Place::At(0),

@@ -1,6 +1,6 @@
--- A sequence of calls in bytes: ten for each call.
+-- A sequence of calls in bytes, `callLength` for each call.
 -- Assumes nothing.
-use Prim.Native.Nat.{ℕ, zero, suc, _/_}
+use Prim.Native.Nat.{ℕ, zero, suc, _+_, _/_}
 use mathlib.Core.Bool.{Bool, true, cond, _&&_}
 use mathlib.Core.List.{List, [], _∷_}
 use lib.Dec.{leb, eqb}
@@ -10,7 +10,7 @@ use Rattle.little_endian.specs.Number.{numberLength, numberOf}
 
 -- the bytes of a call: its kind, a number in 8 bytes, a byte
 abbrev pub callLength : ℕ
-callLength = 10
+callLength = 1 + numberLength + 1
 
 -- kind 0 is a key (the number is its bench), 1 Report, 2 Who (the number is its item); `kindsHold` says that there is no other
 abbrev pub callOf : ℕ → ℕ → ℕ → Call
@@ -18,7 +18,7 @@ callOf kind number byte = cond (eqb kind 0) (key number byte) (cond (eqb kind 1)
 
 -- the call that bytes begin with
 abbrev pub callIn : List ℕ → Call
-callIn s = callOf (getD s 0 0) (numberOf (take numberLength (drop 1 s))) (getD s 9 0)
+callIn s = callOf (getD s 0 0) (numberOf (take numberLength (drop 1 s))) (getD s (1 + numberLength) 0)
 
 -- the first n calls
 abbrev pub callsIn : ℕ → List ℕ → List Call

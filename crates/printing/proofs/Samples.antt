@@ -1,11 +1,10 @@
 -- Lines of document 01's printed sample, and numbers in decimal.
 -- Assumes nothing.
 use mathlib.Core.Path.{_≡_, refl}
-use mathlib.Core.List.{List, [], _∷_}
-use Prim.Native.Nat.{ℕ}
+use mathlib.Core.List.{[], _∷_}
 use Rattle.text.specs.Quote.{bytes}
 use Rattle.state.specs.Sheets.{filled, emptyItem}
-use Rattle.printing.specs.Print.{lastDigits, decimalText, line, rowNames, rowLine, itemLine}
+use Rattle.printing.specs.Print.{lastDigits, decimalText, line, rowNames, rowLine, printedItem}
 
 pub row-6 : rowLine 6 (record { level = 3; reason = 0 }) ≡ line (bytes "06 RFACG_01 B 0" ∷ [])
 unfolding rowNames lastDigits
@@ -15,12 +14,12 @@ pub row-12 : rowLine 12 (record { level = 2; reason = 1 }) ≡ line (bytes "12 R
 unfolding rowNames lastDigits
 row-12 = refl
 
-pub item-4 : itemLine 4 (filled 0 1 (bytes "0.16")) ≡ line (bytes "ITEM 04 bench 0 entry 1 0.16" ∷ [])
-unfolding itemLine lastDigits
+pub item-4 : printedItem 4 (filled 0 1 (bytes "0.16")) ≡ line (bytes "ITEM 04 bench 0 entry 1 0.16" ∷ [])
+unfolding printedItem lastDigits
 item-4 = refl
 
-pub item-empty : itemLine 5 emptyItem ≡ []
-unfolding itemLine
+pub item-empty : printedItem 5 emptyItem ≡ []
+unfolding printedItem
 item-empty = refl
 
 pub decimals : decimalText 0 ∷ decimalText 10 ∷ decimalText 255 ∷ decimalText 18446744073709551615 ∷ []

@@ -21,8 +21,8 @@ decimalMost = 20
 abbrev pub rowLineMost : ℕ
 rowLineMost = 7 + rowNameMost + decimalMost
 
-abbrev pub itemLineMost : ℕ
-itemLineMost = 23 + decimalMost + decimalMost + lineMost
+abbrev pub printedItemMost : ℕ
+printedItemMost = 23 + decimalMost + decimalMost + lineMost
 
 -- what is written on a page
 abbrev pub written : Page → List ℕ

@@ -4,12 +4,13 @@ use Prim.Native.Nat.{ℕ, zero, suc, _+_, _-_, _/_, _%_}
 use mathlib.Core.Bool.{cond}
 use mathlib.Core.List.{List, [], _∷_, _++_}
 use lib.Dec.{ltb, leb, eqb}
-use lib.ListN.{length, getD, drop}
+use lib.ListN.{length, getD}
 use Rattle.text.specs.Quote.{bytes}
 use Rattle.copies.specs.Each.{linesFrom}
 use Rattle.state.specs.Sheets.{valueIn}
 use Rattle.state.specs.declared.sheet.Item.{Item}
 use Rattle.state.specs.declared.desk.Desk.{Desk}
+use Rattle.rows.specs.Rows.{rowCount}
 use Rattle.rows.specs.declared.Row.{Row}
 use Rattle.questions.specs.Report.{reportedOf}
 use Rattle.printing.specs.Page.{decimalMost}
@@ -72,17 +73,13 @@ filledLine k i = line (
     bytes "ITEM " ∷ twoDigits k ∷ bytes " bench " ∷ decimalText (i .bench) ∷ bytes " entry " ∷ decimalText (i .entry) ∷ bytes " " ∷ valueIn i ∷ [])
 
 -- nothing for an empty item
-unfoldable pub itemLine : ℕ → Item → List ℕ
-itemLine k i = cond (eqb (i .len) 0) [] (filledLine k i)
+unfoldable pub printedItem : ℕ → Item → List ℕ
+printedItem k i = cond (eqb (i .len) 0) [] (filledLine k i)
 
--- the whole text: a head, the twelve rows of the report, the filled items
+-- the whole text: a head with the number of rows, the rows of the report, the filled items
 unfoldable pub printedOf : Desk → List ℕ
-printedOf d = line (bytes "REPORT 12" ∷ []) ++ (linesFrom rowLine 1 (reportedOf d .rows .rows) ++ linesFrom itemLine 1 (d .sheet .items))
+printedOf d = line (bytes "REPORT " ∷ twoDigits rowCount ∷ []) ++ (linesFrom rowLine 1 (reportedOf d .rows .rows) ++ linesFrom printedItem 1 (d .sheet .items))
 
 -- what the printing of a text answers: how many bytes it is, or that `out` is shorter
 unfoldable pub printedIn : List ℕ → List ℕ → Printed
 printedIn out t = cond (leb (length t) (length out)) (Bytes (length t)) NoRoom
-
--- `out` with the text at its start; as it is where it is shorter
-unfoldable pub outAfter : List ℕ → List ℕ → List ℕ
-outAfter out t = cond (leb (length t) (length out)) (t ++ drop (length t) out) out

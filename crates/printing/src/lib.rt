@@ -8,8 +8,9 @@ ghost use Rattle.items.specs.Items.{itemCount};
 ghost use Rattle.state.specs.Sheets.{valueIn};
 ghost use Rattle.rows.specs.Rows.{rowCount};
 ghost use Rattle.copies.specs.Each.{linesFrom};
-ghost use Rattle.printing.specs.Page.{pageMost, rowNameMost, rowLineMost, itemLineMost, written, Adds};
-ghost use Rattle.printing.specs.Print.{rowName, levelLetter, rowLine, filledLine, itemLine, printedOf, printedIn, outAfter};
+ghost use Rattle.printing.specs.Page.{pageMost, rowNameMost, rowLineMost, printedItemMost, written, Adds};
+ghost use Rattle.printing.specs.Print.{rowName, levelLetter, rowLine, filledLine, printedItem, printedOf, printedIn};
+ghost use Rattle.copies.specs.Copy.{copied};
 
 mod page;
 
@@ -127,8 +128,8 @@ fn put_value(p: Page, item: Item) -> Page
 
 // The page with the line of the filled item k + 1 more.
 fn put_filled(p: Page, k: usize, item: Item) -> Page
-    requires { ⌜ (p .len + itemLineMost ≤ pageMost) × (k < itemCount) ⌝ }
-    ensures { λ r. ⌜ Adds p (filledLine (k + 1) item) r × (r .len ≤ p .len + itemLineMost) ⌝ }
+    requires { ⌜ (p .len + printedItemMost ≤ pageMost) × (k < itemCount) ⌝ }
+    ensures { λ r. ⌜ Adds p (filledLine (k + 1) item) r × (r .len ≤ p .len + printedItemMost) ⌝ }
 {
     let p1 = put(p, b"ITEM ");
     let p2 = put_two_digits(p1, k + 1);
@@ -143,8 +144,8 @@ fn put_filled(p: Page, k: usize, item: Item) -> Page
 
 // The page with the line of item k + 1 more, where the item is filled.
 fn put_item(p: Page, k: usize, item: Item) -> Page
-    requires { ⌜ (p .len + itemLineMost ≤ pageMost) × (k < itemCount) ⌝ }
-    ensures { λ r. ⌜ Adds p (itemLine (k + 1) item) r × (r .len ≤ p .len + itemLineMost) ⌝ }
+    requires { ⌜ (p .len + printedItemMost ≤ pageMost) × (k < itemCount) ⌝ }
+    ensures { λ r. ⌜ Adds p (printedItem (k + 1) item) r × (r .len ≤ p .len + printedItemMost) ⌝ }
 {
     if item.len == 0 {
         return p;
@@ -154,8 +155,8 @@ fn put_item(p: Page, k: usize, item: Item) -> Page
 
 // The page with all filled items more.
 fn put_items(p: Page, sheet: Sheet) -> Page
-    requires { ⌜ p .len + itemLineMost * itemCount ≤ pageMost ⌝ }
-    ensures { λ r. ⌜ Adds p (linesFrom itemLine 1 (sheet .items)) r × (r .len ≤ p .len + itemLineMost * itemCount) ⌝ }
+    requires { ⌜ p .len + printedItemMost * itemCount ≤ pageMost ⌝ }
+    ensures { λ r. ⌜ Adds p (linesFrom printedItem 1 (sheet .items)) r × (r .len ≤ p .len + printedItemMost * itemCount) ⌝ }
 {
     let mut page = p;
     let mut i = 0;
@@ -184,7 +185,7 @@ fn report_page(d: Desk) -> Page
 // Copies a page out, if there is room for it.
 fn copy_out(p: Page, out: &mut [u8]) -> Printed
     requires { ⌜ p .len ≤ pageMost ⌝ }
-    ensures { λ r. ⌜ (r ≡ printedIn (now (out .entry)) (written p)) × (now (out .exit) ≡ outAfter (now (out .entry)) (written p)) ⌝ }
+    ensures { λ r. ⌜ (r ≡ printedIn (now (out .entry)) (written p)) × (now (out .exit) ≡ copied (now (out .entry)) 0 (written p)) ⌝ }
 {
     let n = p.len;
     if out.len() < n {
@@ -197,7 +198,7 @@ fn copy_out(p: Page, out: &mut [u8]) -> Printed
 
 // Prints the report of a desk at the start of out and says how many bytes it is; with no room for all of it, nothing. REPORT_MOST bytes are always room.
 pub fn print_report(d: Desk, out: &mut [u8]) -> Printed
-    ensures { λ r. ⌜ (r ≡ printedIn (now (out .entry)) (printedOf d)) × (now (out .exit) ≡ outAfter (now (out .entry)) (printedOf d)) × (length (printedOf d) ≤ pageMost) ⌝ }
+    ensures { λ r. ⌜ (r ≡ printedIn (now (out .entry)) (printedOf d)) × (now (out .exit) ≡ copied (now (out .entry)) 0 (printedOf d)) × (length (printedOf d) ≤ pageMost) ⌝ }
 {
     let page = report_page(d);
     copy_out(page, out)

@@ -1,9 +1,9 @@
 -- Who typed an item (document 01, "Keys and their refusals", "Two questions").
 -- Assumes nothing.
 use Prim.Native.Nat.{ℕ}
-use mathlib.Core.Bool.{Bool, cond, _&&_}
-use lib.Dec.{leb, eqb}
-use Rattle.items.specs.Items.{itemCount}
+use mathlib.Core.Bool.{cond}
+use lib.Dec.{eqb}
+use Rattle.items.specs.Items.{isItem}
 use Rattle.state.specs.Sheets.{itemAt}
 use Rattle.soundness.specs.Sound.{soundDesk}
 use Rattle.state.specs.declared.sheet.Item.{Item}
@@ -23,4 +23,4 @@ toldOf i = cond (eqb (i .len) 0) (nobody Answered) (record { answer = Answered; 
 -- "Who takes an item number: 2 if unsound, else 6 if not 1 to 10; else 0 with bench and entry number"
 unfoldable pub whoOf : Desk → ℕ → Told
 whoOf d item =
-    cond (soundDesk d) (cond (leb 1 item && leb item itemCount) (toldOf (itemAt (d .sheet) item)) (nobody NoItem)) (nobody Unsound)
+    cond (soundDesk d) (cond (isItem item) (toldOf (itemAt (d .sheet) item)) (nobody NoItem)) (nobody Unsound)

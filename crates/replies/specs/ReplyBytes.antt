@@ -1,4 +1,4 @@
--- A call's whole answer in bytes: twenty-five for each answer, of which the first is document 01's number of the answer.
+-- A call's whole answer in bytes, `replyLength` for each answer, of which the first is document 01's number of the answer.
 -- Assumes nothing.
 use Prim.Native.Nat.{ℕ, _+_, _*_, _-_}
 use mathlib.Core.List.{List, [], _∷_, _++_, flatMap}

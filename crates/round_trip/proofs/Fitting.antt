@@ -10,7 +10,7 @@ use lib.ListN.{length}
 use Rattle.text.specs.Run.{all}
 use Rattle.text.proofs.Bools.{and-both}
 use Rattle.values.specs.Value.{isValue}
-use Rattle.items.specs.Items.{rowOf}
+use Rattle.items.specs.Items.{itemRow}
 use Rattle.items.specs.Typed.{lineMost, isTyped}
 use Rattle.kinds.specs.Kinds.{passes, fits}
 
@@ -18,13 +18,13 @@ pub record Fitting (k : ℕ) (v : List ℕ) : Type 0 where
   pub passes : passes k v ≡ true
   pub value : isValue v ≡ true
   pub typed : all isTyped v ≡ true
-  pub short : length (rowOf k .name) + 1 + length v ≤ lineMost
+  pub short : length (itemRow k .name) + 1 + length v ≤ lineMost
 
 pub fitting : (k : ℕ) (v : List ℕ) → fits k v ≡ true → Fitting k v
 unfolding fits
 fitting k v f =
-    let room = leb (length (rowOf k .name) + 1 + length v) lineMost in
+    let room = leb (length (itemRow k .name) + 1 + length v) lineMost in
     let a = and-both (passes k v) (isValue v && (all isTyped v && room)) f in
     let b = and-both (isValue v) (all isTyped v && room) (a .1) in
     let c = and-both (all isTyped v) room (b .1) in
-    record { passes = a .0; value = b .0; typed = c .0; short = leb-true (length (rowOf k .name) + 1 + length v) lineMost (c .1) }
+    record { passes = a .0; value = b .0; typed = c .0; short = leb-true (length (itemRow k .name) + 1 + length v) lineMost (c .1) }

@@ -21,11 +21,11 @@ use Rattle.state.specs.Desks.{benchCount}
 use Rattle.soundness.specs.Sound.{every, zeros, soundFilled, soundItem}
 use Rattle.sound_log.specs.SoundLog.{logMost}
 use Rattle.state.specs.declared.sheet.Item.{Item}
-use Rattle.sequence.specs.Calls.{key}
+use Rattle.sequence.specs.Calls.{key, typing}
 use Rattle.sequence.specs.Work.{Entry, recordsOf, lastOf}
 use Rattle.sequence.proofs.LineLaws.{typed-lineOf}
 use Rattle.cif_file.specs.File.{itemLine}
-use Rattle.round_trip.specs.RoundTrip.{typing, recordRoom, roomFor, filledCount}
+use Rattle.round_trip.specs.RoundTrip.{recordRoom, roomFor, filledCount}
 use Rattle.round_trip.proofs.Plays.{map-append, workOf, entryOf, Plays, plays-none, plays-then, line-plays}
 
 -- the entries es, with one more where item k is filled

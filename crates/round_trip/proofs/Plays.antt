@@ -12,7 +12,7 @@ use lib.Seq.{getD-set-same, set-set, drop-append-add}
 use Rattle.text.specs.Run.{all, between}
 use Rattle.text.proofs.Bools.{and-both}
 use Rattle.text.proofs.Runs.{all-append}
-use Rattle.items.specs.Items.{itemCount, rowOf}
+use Rattle.items.specs.Items.{itemCount, itemRow}
 use Rattle.items.specs.Typed.{lineMost, isTyped}
 use Rattle.cif.specs.Line.{classOf}
 use Rattle.kinds.specs.Kinds.{passes, fits}
@@ -28,12 +28,11 @@ use Rattle.answers.specs.declared.Answer.{Answer}
 use Rattle.answers.specs.declared.Answer.the-variants.{Accepted}
 use Rattle.alerts.specs.Sheet.{rowsOf}
 use Rattle.rows.specs.declared.Rows.{Rows}
-use Rattle.sequence.specs.Calls.{Call, key, Reply, keyed, answered, final}
+use Rattle.sequence.specs.Calls.{Call, key, Reply, keyed, answered, final, typing}
 use Rattle.sequence.specs.Work.{Entry, Work, typedBy, recordsOf, tableAnswer, textAfter, withEntryOf, entriesAfter, workStep}
 use Rattle.sequence.proofs.Choices.{and-true-true}
 use Rattle.sequence.proofs.Gathering.{answered-append, final-append}
 use Rattle.cif_file.specs.File.{ended, itemText}
-use Rattle.round_trip.specs.RoundTrip.{typing}
 use Rattle.round_trip.proofs.Fitting.{fitting}
 
 pub map-append : {A B : Type 0} (f : A → B) (xs ys : List A) → map f (xs ++ ys) ≡ map f xs ++ map f ys
@@ -148,7 +147,7 @@ module _ (len : ℕ) where
         → Plays (workOf bench [] es) (typing bench (ended (itemText k v))) (workOf bench [] (entryOf bench k v ∷ es))
     unfolding all between
     line-plays k v es some known f room =
-        let name = rowOf k .name in
+        let name = itemRow k .name in
         let t : List ℕ = name ++ (32 ∷ v) in
         let g = fitting k v f in
         let c = entry-taken k v some known (g .value) (g .passes) (g .typed) (g .short) in

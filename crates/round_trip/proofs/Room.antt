@@ -9,6 +9,7 @@ use lib.Dec.{eqb}
 use lib.ListN.{length}
 use Rattle.text.proofs.Bools.{and-both}
 use Rattle.items.specs.Typed.{lineMost}
+use Rattle.log.specs.Record.{headLength}
 use Rattle.state.specs.Sheets.{valueIn}
 use Rattle.soundness.specs.Sound.{every, soundItem}
 use Rattle.state.specs.declared.sheet.Item.{Item}
@@ -16,14 +17,14 @@ use Rattle.round_trip.specs.RoundTrip.{recordRoom, roomFor}
 use Rattle.round_trip.proofs.Fitting.{fitting}
 use Rattle.round_trip.proofs.Items.{filled-fits}
 
-item-most : (n j : ℕ) (i : Item) → soundItem n j i ≡ true → recordRoom i ≤ 6 + lineMost
+item-most : (n j : ℕ) (i : Item) → soundItem n j i ≡ true → recordRoom i ≤ headLength + lineMost
 item-most n j i h = go (eqb (i .len) 0) refl
   where
-    go : (t : Bool) → eqb (i .len) 0 ≡ t → recordRoom i ≤ 6 + lineMost
+    go : (t : Bool) → eqb (i .len) 0 ≡ t → recordRoom i ≤ headLength + lineMost
     go true e = rw e (omega arith)
     go false e = let g = fitting (suc j) (valueIn i) (filled-fits n j i e h) in rw e (omega (arith, g .short))
 
-pub room-most : (n j : ℕ) (is : List Item) → every (soundItem n) j is ≡ true → roomFor is ≤ (6 + lineMost) * length is
+pub room-most : (n j : ℕ) (is : List Item) → every (soundItem n) j is ≡ true → roomFor is ≤ (headLength + lineMost) * length is
 unfolding every
 room-most n j [] h = omega arith
 room-most n j (i ∷ is) h =

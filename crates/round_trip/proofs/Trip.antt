@@ -11,6 +11,7 @@ use lib.Seq.{set-getD}
 use Rattle.copies.specs.Each.{linesFrom}
 use Rattle.text.proofs.Bools.{and-both}
 use Rattle.items.specs.Typed.{lineMost}
+use Rattle.log.specs.Record.{headLength}
 use Rattle.items.specs.Items.{itemCount}
 use Rattle.state.specs.Sheets.{itemAt, valueIn}
 use Rattle.state.specs.Desks.{benchCount}
@@ -21,10 +22,10 @@ use Rattle.answers.specs.declared.Answer.the-variants.{Accepted}
 use Rattle.cif_file.specs.File.{itemLine}
 use Rattle.cif_file.specs.Answers.{fileStep}
 use Rattle.file_answers.specs.declared.FileAnswer.the-variants.{Written}
-use Rattle.sequence.specs.Calls.{Call, keyed}
+use Rattle.sequence.specs.Calls.{Call, keyed, typing}
 use Rattle.sequence.specs.Work.{Work, noWork, lastOf}
 use Rattle.sequence.proofs.Desk.{desk-sequences}
-use Rattle.round_trip.specs.RoundTrip.{typing, filedBytes, roomFor, filledCount, replies, endOf, RoundTrip}
+use Rattle.round_trip.specs.RoundTrip.{filedBytes, roomFor, filledCount, replies, endOf, RoundTrip}
 use Rattle.round_trip.proofs.Lines.{is-written, written-lines}
 use Rattle.round_trip.proofs.Plays.{workOf, Plays}
 use Rattle.round_trip.proofs.Items.{withItems, items-play, items-count, item-values}
@@ -41,7 +42,7 @@ fresh-work bench there =
     let same = sym (set-getD (replicate benchCount []) bench []) ∙ ap (λ (t : List ℕ). set (replicate benchCount []) bench t) none in
     ap (λ (l : List (List ℕ)). record { typed = l; entries = [] }) same
 
-module _ (d : Desk) (bench : ℕ) (log : List ℕ) (ten : length (d .sheet .items) ≡ itemCount) (sound : soundDesk d ≡ true) (there : bench < benchCount)
+module _ (d : Desk) (bench : ℕ) (log : List ℕ) (all-items : length (d .sheet .items) ≡ itemCount) (sound : soundDesk d ≡ true) (there : bench < benchCount)
     (small : length log ≤ logMost) (room : roomFor (d .sheet .items) ≤ length log) where
   abbrev keys : List Call
   keys = typing bench (linesFrom itemLine 1 (d .sheet .items))
@@ -65,23 +66,23 @@ module _ (d : Desk) (bench : ℕ) (log : List ℕ) (ten : length (d .sheet .item
       desk-sequences log keys .count ∙ ap (λ (w : Work). length (w .entries)) (plays .left) ∙ items-count bench 1 (d .sheet .items) []
       ∙ zero-add (filledCount (d .sheet .items))
 
--- The premise on the length of the items holds of every desk of the code, whose array has ten.
+-- The premise on the length of the items holds of every desk of the code, whose array has them all.
 pub round-trip : (d : Desk) (name out : List ℕ) (bench : ℕ) (log : List ℕ) → length (d .sheet .items) ≡ itemCount → fileStep d name out .answer ≡ Written
     → bench < benchCount → length log ≤ logMost → roomFor (d .sheet .items) ≤ length log → RoundTrip d (filedBytes (fileStep d name out)) bench log
-round-trip d name out bench log ten answer there small room =
+round-trip d name out bench log all-items answer there small room =
     let w = is-written d name out answer in
     let e = written-lines d name (fileStep d name out) w in
     record {
       accepted = subst⁻¹ (λ (t : List ℕ). replies log (typing bench t) ≡ replicate (length (typing bench t)) (keyed Accepted)) e
-          (lines-accepted d bench log ten (w .sound) there small room);
+          (lines-accepted d bench log all-items (w .sound) there small room);
       values = λ k some known. ap (λ (t : List ℕ). valueIn (itemAt (endOf log (typing bench t) .desk .sheet) k)) e
-          ∙ lines-values d bench log ten (w .sound) there small room k some known;
-      count = ap (λ (t : List ℕ). endOf log (typing bench t) .desk .sheet .count) e ∙ lines-count d bench log ten (w .sound) there small room;
+          ∙ lines-values d bench log all-items (w .sound) there small room k some known;
+      count = ap (λ (t : List ℕ). endOf log (typing bench t) .desk .sheet .count) e ∙ lines-count d bench log all-items (w .sound) there small room;
     }
 
 -- A log with room for a record of the longest line for each item (860 bytes) has room for the records of every file that is written, so that each has its round trip.
 pub round-trip-roomy : (d : Desk) (name out : List ℕ) (bench : ℕ) (log : List ℕ) → length (d .sheet .items) ≡ itemCount → fileStep d name out .answer ≡ Written
-    → bench < benchCount → (6 + lineMost) * itemCount ≤ length log → length log ≤ logMost → RoundTrip d (filedBytes (fileStep d name out)) bench log
-round-trip-roomy d name out bench log ten answer there long small =
+    → bench < benchCount → (headLength + lineMost) * itemCount ≤ length log → length log ≤ logMost → RoundTrip d (filedBytes (fileStep d name out)) bench log
+round-trip-roomy d name out bench log all-items answer there long small =
     let most = room-most (d .sheet .count) 0 (d .sheet .items) (sound-items d (is-written d name out answer .sound)) in
-    round-trip d name out bench log ten answer there small (omega arith)
+    round-trip d name out bench log all-items answer there small (omega arith)

@@ -19,12 +19,8 @@ use Rattle.rows.specs.Rows.{noRows}
 use Rattle.alerts.specs.Sheet.{rowsOf}
 use Rattle.rows.specs.declared.Rows.{Rows}
 use Rattle.cif_file.specs.Answers.{After}
-use Rattle.sequence.specs.Calls.{Call, key, Reply, keyed, State}
+use Rattle.sequence.specs.Calls.{Call, typing, Reply, keyed, State}
 use Rattle.sequence.specs.Sequences.{deskAnswers, stateAfter}
-
--- a text typed by one bench: a key call for each byte; byte 10, which ends a line, is Enter
-abbrev pub typing : ℕ → List ℕ → List Call
-typing bench text = map (key bench) text
 
 -- "the item lines": all that follows a file's first line, which byte 10 ends
 abbrev pub itemLines : List ℕ → List ℕ

@@ -88,7 +88,7 @@ module _ {Rows : Type 0} (rowsOf : Sheet → Rows) (noRows : Rows) (log : List �
         log-length = ap (λ (s : State). length (s .log)) end ∙ log-length log es (follows cs .kept .room);
         count = ap (λ (s : State). s .desk .sheet .count) end;
         items = λ k some known. ap (λ (s : State). itemAt (s .desk .sheet) k) end ∙ item-at es k some known;
-        ten = ap (λ (s : State). length (s .desk .sheet .items)) end;
+        all-items = ap (λ (s : State). length (s .desk .sheet .items)) end;
         sound = ap (λ (s : State). soundDesk (s .desk)) end ∙ follows cs .kept .sound;
         log-sound = ap (λ (s : State). soundLog (s .desk) (length (s .log)) (s .used)) end ∙ log-sound log (workAfter rowsOf noRows log cs) (follows cs .kept);
         reports = λ before after e. next-answer before (ask report);

@@ -13,7 +13,7 @@ use lib.ListN.{length, getD, take, drop, set, length-append, length-drop, length
 use lib.Seq.{take-at, drop-append-add, drop-drop}
 use Rattle.text.specs.Run.{between}
 use Rattle.text.proofs.Bools.{and-both, not-holds}
-use Rattle.items.specs.Items.{itemCount}
+use Rattle.items.specs.Items.{itemCount, isItem}
 use Rattle.items.specs.Typed.{lineMost, isTyped}
 use Rattle.cif.specs.Line.{classOf}
 use Rattle.cif.specs.declared.line.Class.{Class}
@@ -289,7 +289,7 @@ who-follows log w g item =
     let s = sheetOf (w .entries) in
     let same : Told → Told = λ x. x in
     cond-true (soundDesk (deskOf w)) _ (nobody Unsound) (g .sound)
-    ∙ cond-sim same same (leb 1 item && leb item itemCount) (toldOf (itemAt s item)) (nobody NoItem) (lastTold (w .entries) item) (nobody NoItem)
+    ∙ cond-sim same same (isItem item) (toldOf (itemAt s item)) (nobody NoItem) (lastTold (w .entries) item) (nobody NoItem)
     (λ p.
     let h = and-both (leb 1 item) (leb item itemCount) p in
     let some = leb-true 1 item (h .0) in

@@ -12,7 +12,7 @@ use lib.ListN.{length, drop}
 use Rattle.text.proofs.Bools.{and-both, or-either}
 use Rattle.quotes.specs.Quoted.{isQuotedBy, isQuoted}
 use Rattle.values.specs.Value.{isBare, isValue}
-use Rattle.items.specs.Items.{rowOf}
+use Rattle.items.specs.Items.{itemRow}
 use Rattle.items.specs.Typed.{lineMost}
 use Rattle.kinds.specs.Kinds.{passes, fits}
 use Rattle.cif.proofs.Entries.{IsEntry}
@@ -35,7 +35,7 @@ value-some v h =
 -- the value of an accepted line is one that its item can hold
 pub entry-fits : (t : List ℕ) (k v : ℕ) → IsEntry t k v → fits k (drop v t) ≡ true
 unfolding fits
-entry-fits t k v h = simp (h .passes, h .value, h .value-typed, le-leb (length (rowOf k .name) + 1 + length (drop v t)) lineMost (h .room))
+entry-fits t k v h = simp (h .passes, h .value, h .value-typed, le-leb (length (itemRow k .name) + 1 + length (drop v t)) lineMost (h .room))
 
 pub item-more : (n k : ℕ) (i : Item) → soundItem n k i ≡ true → soundItem (n + 1) k i ≡ true
 unfolding soundItem soundFilled

@@ -3,7 +3,7 @@
 -- Assumes nothing.
 use Prim.Native.Nat.{ℕ}
 use mathlib.Core.Bool.{cond}
-use mathlib.Core.List.{List, [], _∷_}
+use mathlib.Core.List.{List, [], _∷_, map}
 use Rattle.state.specs.Desks.{freshDesk}
 use Rattle.soundness.specs.Sound.{soundDesk}
 use Rattle.state.specs.declared.sheet.Sheet.{Sheet}
@@ -24,6 +24,10 @@ pub data Question : Type 0 where
 pub data Call : Type 0 where
   key : ℕ → ℕ → Call
   ask : Question → Call
+
+-- a text typed by one bench: a key call for each byte; byte 10, which ends a line, is Enter
+abbrev pub typing : ℕ → List ℕ → List Call
+typing bench text = map (key bench) text
 
 -- "each call's whole answer": a key's answer, a report's answer and rows, what Who tells
 pub data Reply (Rows : Type 0) : Type 0 where

@@ -1,5 +1,6 @@
 -- Demand 3 (document 01, "Sequences of calls"): the single claim about every sequence of key calls, Report and Who, from a fresh desk and a log of any
--- length and content. `Sequences log cs` is the claim about the sequence cs; that it holds is `demand-3`, in proofs/Demand3.antt. The desk is read in
+-- length and content. `Sequences log cs` is the claim about the sequence cs; that it holds is `demand-3` (proofs/Demand3.antt) for
+-- any rows, and `desk-sequences` (proofs/Desk.antt) for the twelve. The desk is read in
 -- specs/Calls.antt, the gathered order in specs/Gather.antt, and what was typed and entered, "the work", in specs/Work.antt.
 --
 -- What it shuts out, and by which part:
@@ -102,7 +103,7 @@ module _ {Rows : Type 0} (rowsOf : Sheet → Rows) (noRows : Rows) where
     pub count : stateAfter log cs .desk .sheet .count ≡ length (workAfter log cs .entries)
     -- "each item holds value, bench and number of the last one that names it, or is empty"
     pub items : (k : ℕ) → 1 ≤ k → k ≤ itemCount → itemAt (stateAfter log cs .desk .sheet) k ≡ lastOf (workAfter log cs .entries) k
-    pub ten : length (stateAfter log cs .desk .sheet .items) ≡ itemCount
+    pub all-items : length (stateAfter log cs .desk .sheet .items) ≡ itemCount
     -- the desk is sound, and sound with its log but for the log's length: what the table of the work tests is all that can give 2
     pub sound : soundDesk (stateAfter log cs .desk) ≡ true
     pub log-sound : soundLog (stateAfter log cs .desk) (length (stateAfter log cs .log)) (stateAfter log cs .used) ≡ leb (length log) logMost

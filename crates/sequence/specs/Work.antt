@@ -2,13 +2,13 @@
 -- (document 01, "Sequences of calls"). No desk is mentioned here, and no byte of the log.
 -- Assumes nothing.
 use Prim.Native.Nat.{ℕ, zero, suc, _-_}
-use mathlib.Core.Bool.{Bool, cond, _&&_}
+use mathlib.Core.Bool.{Bool, cond}
 use mathlib.Core.List.{List, [], _∷_, _++_}
 use lib.Dec.{ltb, leb, eqb}
 use lib.ListN.{length, getD, take, drop, set, replicate}
 use Rattle.items.specs.Typed.{lineMost, isTyped}
 use Rattle.cif.specs.Line.{classOf}
-use Rattle.items.specs.Items.{itemCount}
+use Rattle.items.specs.Items.{itemCount, isItem}
 use Rattle.cif.specs.declared.line.Class.{Class}
 use Rattle.cif.specs.declared.line.Class.the-variants as class
 use Rattle.log.specs.Record.{recordLength, recordOf}
@@ -131,7 +131,7 @@ lastTold (e ∷ es) item = cond (eqb item (e .item)) (record { answer = Answered
 
 -- "6 if not 1 to 10"
 abbrev pub whoLast : List Entry → ℕ → Told
-whoLast es item = cond (leb 1 item && leb item itemCount) (lastTold es item) (nobody NoItem)
+whoLast es item = cond (isItem item) (lastTold es item) (nobody NoItem)
 
 -- a call, in a log of len bytes; "Report and Who .. answer by the entries before them"
 module _ {Rows : Type 0} (rowsOf : Sheet → Rows) (len : ℕ) where

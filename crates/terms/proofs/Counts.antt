@@ -10,8 +10,8 @@ use borrow.Author.Tests.{le-leb, lt-leb, eq-eqb, ne-eqb}
 use lib.Dec.{leb, eqb}
 use lib.ListN.{length, getD, drop, drop-of-length-le}
 use lib.Seq.{drop-cons}
-use Rattle.text.specs.Run.{all, between}
-use Rattle.decimal.specs.Digits.{isDigit, valueFrom, valueOf}
+use Rattle.text.specs.Run.{all, between, isDigit}
+use Rattle.decimal.specs.Digits.{valueFrom, valueOf}
 use Rattle.decimal.proofs.Digits.{first-digit}
 use Rattle.decimal.proofs.Values.{value-at, value-end}
 use Rattle.terms.specs.Term.{mostCount, isCount, countOf}

@@ -5,9 +5,9 @@ use mathlib.Core.Path.{_≡_}
 use mathlib.Core.Bool.{Bool, true}
 use mathlib.Core.List.{List, [], _∷_, _++_}
 use lib.ListN.{getD}
-use Rattle.text.specs.Run.{all, other}
-use Rattle.decimal.specs.Digits.{isDigit, valueOf}
-use Rattle.terms.specs.Term.{mostCount, isCapital, isSmall}
+use Rattle.text.specs.Run.{all, other, isDigit, isCapital, isSmall}
+use Rattle.decimal.specs.Digits.{valueOf}
+use Rattle.terms.specs.Term.{mostCount}
 
 -- "a capital, optionally one small letter": the text of the symbol a b
 pub data SymbolText : List ℕ → ℕ → ℕ → Type 0 where

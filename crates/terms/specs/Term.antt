@@ -5,8 +5,8 @@ use mathlib.Core.Bool.{Bool, cond, _&&_, not}
 use mathlib.Core.List.{List}
 use lib.Dec.{leb, ltb, eqb}
 use lib.ListN.{length, getD, drop}
-use Rattle.text.specs.Run.{between, all}
-use Rattle.decimal.specs.Digits.{isDigit, valueOf}
+use Rattle.text.specs.Run.{all, isDigit, isCapital, isSmall}
+use Rattle.decimal.specs.Digits.{valueOf}
 use Rattle.terms.specs.declared.term.Count.{Count}
 use Rattle.terms.specs.declared.term.Count.the-variants.{Times, NoCount}
 use Rattle.terms.specs.declared.term.Term.{Term}
@@ -15,14 +15,6 @@ use Rattle.terms.specs.declared.term.Term.the-variants.{Well, Ill}
 -- "a count 1 to 9999"
 abbrev pub mostCount : ℕ
 mostCount = 9999
-
--- A to Z, in ASCII
-abbrev pub isCapital : ℕ → Bool
-isCapital = between 65 90
-
--- a to z, in ASCII
-abbrev pub isSmall : ℕ → Bool
-isSmall = between 97 122
 
 -- a byte of the kind p stands in a text at that place
 unfoldable pub kindAt : (ℕ → Bool) → List ℕ → ℕ → Bool

@@ -10,6 +10,18 @@ use lib.ListN.{length, getD}
 unfoldable pub between : ℕ → ℕ → ℕ → Bool
 between lo hi b = leb lo b && leb b hi
 
+-- 0 to 9, in ASCII
+abbrev pub isDigit : ℕ → Bool
+isDigit = between 48 57
+
+-- A to Z
+abbrev pub isCapital : ℕ → Bool
+isCapital = between 65 90
+
+-- a to z
+abbrev pub isSmall : ℕ → Bool
+isSmall = between 97 122
+
 -- the bytes other than x
 unfoldable pub other : ℕ → ℕ → Bool
 other x b = not (eqb b x)

@@ -1,22 +1,21 @@
 -- Row 12 judges exactly the expressions of document 01's words: each by its x, and any other text is not judgeable.
 -- Assumes nothing.
 use mathlib.Core.Path.{_≡_, refl, sym, ap, subst, _∙_}
-use mathlib.Core.Bool.{Bool, true, false, cond, _&&_, _||_, not, and-false, false≢true}
+use mathlib.Core.Bool.{Bool, true, false, cond, _||_, and-false, false≢true}
 use mathlib.Core.List.{List, [], _∷_, _++_, map-id, append-assoc}
-use Prim.Native.Nat.{ℕ, _+_, _-_, _≤_}
+use Prim.Native.Nat.{ℕ, _+_, _-_}
 use native.Mathlib.Omega.{arith}
 use borrow.Author.Tests.{le-leb, leb-true, eqb-true}
 use lib.Dec.{leb, eqb}
 use lib.ListN.{length, getD, take, drop, length-append, take-append-drop}
 use lib.Seq.{take-append-seam, drop-append-seam, drop-append-add, drop-drop, getD-append-seam}
-use lib.IntN.{ℤ, pos, negsuc, negℤ}
+use lib.IntN.{pos, negsuc, negℤ}
 use Rattle.text.specs.Quote.{bytes}
-use Rattle.text.specs.Run.{all, between, other, hasAt}
+use Rattle.text.specs.Run.{all, between, other, hasAt, isDigit}
 use Rattle.text.proofs.Bools.{and-both, not-holds}
 use Rattle.text.proofs.Runs.{all-append, all-weaker, lacks-nowhere, has-here}
 use Rattle.equality.specs.Same.{exact, sameBy}
 use Rattle.equality.proofs.Sames.{map→same, same→map}
-use Rattle.decimal.specs.Digits.{isDigit}
 use Rattle.decimal.specs.Reading.{readingOf}
 use Rattle.decimal.specs.Grammar.{SignText, PointText, UncertaintyText, IsSize, IsNumber}
 use Rattle.decimal.specs.declared.Reading.{Reading}
@@ -24,12 +23,10 @@ use Rattle.decimal.specs.declared.Reading.the-variants.{Number, Nothing}
 use Rattle.decimal.proofs.Complete.{first-is-digit, number-taken}
 use Rattle.decimal.proofs.Sound.{number-is}
 use Rattle.rows.specs.Rows.{rowOf}
-use Rattle.rows.specs.declared.Row.{Row}
 use Rattle.threshold.specs.Threshold.{hasShape, insideOf, unsignedReading, multiplierOf, multiplierRow, thresholdRow}
 use Rattle.threshold.specs.Wording.{Expression, IsMultiplier, IsThreshold}
 use Rattle.threshold.specs.declared.Multiplier.{Multiplier}
 use Rattle.threshold.specs.declared.Multiplier.the-variants.{Times, NoMultiplier}
-use Rattle.threshold.proofs.Shapes.{shape-long}
 
 -- ---- the shape
 

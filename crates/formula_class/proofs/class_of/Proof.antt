@@ -3,7 +3,7 @@
 use mathlib.Core.Path.{_≡_, sym, _∙_}
 use mathlib.Core.Bool.{true}
 use borrow.Author.Tests.{not-true, not-false}
-use Rattle.formula_class.specs.Class.{hasTerm, classOf}
+use Rattle.formula_class.specs.Class.{hasTerm, formulaClass}
 use Rattle.formula_class.specs.declared.Wanted.the-variants.{Symbol}
 use borrow.Author.Needs.{needs}
 use Rattle.formula_class.proofs.class_of.Statement.{statement}
@@ -16,21 +16,21 @@ hydrogen : (c : tie.Else2) → hasTerm (Symbol 72 32) (c .before .before .before
 hydrogen c = sym (c .before .has-term2 .ensures) ∙ not-false _ (c .if2 .left)
 
 returns : tie.Need-returns
-unfolding classOf
+unfolding formulaClass
 returns c = simp (sym (c .before .has-term .ensures) ∙ not-true _ (c .if1 .taken))
 
 returns-2 : tie.Need-returns-2
-unfolding classOf
+unfolding formulaClass
 returns-2 c = simp (carbon (c .before .before), sym (c .before .has-term2 .ensures) ∙ not-true _ (c .if2 .taken))
 
 returns-3 : tie.Need-returns-3
-unfolding classOf
+unfolding formulaClass
 returns-3 c =
     let h = c .before .before in
     simp (carbon (h .before .before), hydrogen h, sym (c .before .has-term3 .ensures) ∙ c .if3 .taken)
 
 returns-4 : tie.Need-returns-4
-unfolding classOf
+unfolding formulaClass
 returns-4 c =
     let h = c .before .before in
     simp (carbon (h .before .before), hydrogen h, sym (c .before .has-term3 .ensures) ∙ c .if3 .left)

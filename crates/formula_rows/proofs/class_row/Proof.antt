@@ -1,14 +1,13 @@
 -- `formula_rows::class_row` meets its contract: each return is a case of `row3`.
 -- Assumes nothing.
-use mathlib.Core.Path.{_≡_, sym, _∙_, ap}
-use mathlib.Core.Bool.{Bool, true, false}
+use mathlib.Core.Path.{sym, _∙_, ap}
 use mathlib.Core.List.{List}
 use Prim.Native.Nat.{ℕ}
 use denote.Ref.{now}
 use borrow.Author.Tests.{not-true, not-false}
 use Rattle.quotes.specs.Quoted.{textOf}
 use Rattle.formula.specs.Recognised.{allRecognised}
-use Rattle.formula_class.specs.Class.{classOf}
+use Rattle.formula_class.specs.Class.{formulaClass}
 use Rattle.categories.specs.declared.Class.{Class}
 use Rattle.categories.specs.Categories.{inClass}
 use Rattle.formula_rows.proofs.ClassCases.{class-formula, class-category, class-unread, class-match, class-mismatch}
@@ -47,8 +46,8 @@ returns-4 c =
     let e2 = t .before in
     let e1 = e2 .before .before in
     let a = e1 .before .before .before .before .args in
-    let cls = k .class-of .ensures ∙ ap classOf (t .text-of .ensures) in
-    let inside = ap (λ (x : List ℕ). inClass (classOf (textOf (now (a .formula)))) x) (sym (t2 .text-of2 .ensures)) ∙ ap (λ (x : Class). inClass x (now (t2 .text-of2 .result))) (sym cls) ∙ sym (e4 .before .is-in-class .ensures) ∙ e4 .if4 .taken in
+    let cls = k .class-of .ensures ∙ ap formulaClass (t .text-of .ensures) in
+    let inside = ap (λ (x : List ℕ). inClass (formulaClass (textOf (now (a .formula)))) x) (sym (t2 .text-of2 .ensures)) ∙ ap (λ (x : Class). inClass x (now (t2 .text-of2 .result))) (sym cls) ∙ sym (e4 .before .is-in-class .ensures) ∙ e4 .if4 .taken in
     c .make-row4 .ensures
     ∙ sym (class-match (now (a .formula)) (now (a .category)) (sym (e1 .before .is-missing .ensures) ∙ e1 .if1 .left) (sym (e2 .before .is-missing2 .ensures) ∙ e2 .if2 .left)
     (ap allRecognised (sym (t .text-of .ensures)) ∙ sym (e3 .before .all-recognised .ensures) ∙ not-false _ (e3 .if3 .left)) inside)
@@ -63,8 +62,8 @@ returns-5 c =
     let e2 = t .before in
     let e1 = e2 .before .before in
     let a = e1 .before .before .before .before .args in
-    let cls = k .class-of .ensures ∙ ap classOf (t .text-of .ensures) in
-    let inside = ap (λ (x : List ℕ). inClass (classOf (textOf (now (a .formula)))) x) (sym (t2 .text-of2 .ensures)) ∙ ap (λ (x : Class). inClass x (now (t2 .text-of2 .result))) (sym cls) ∙ sym (e4 .before .is-in-class .ensures) ∙ e4 .if4 .left in
+    let cls = k .class-of .ensures ∙ ap formulaClass (t .text-of .ensures) in
+    let inside = ap (λ (x : List ℕ). inClass (formulaClass (textOf (now (a .formula)))) x) (sym (t2 .text-of2 .ensures)) ∙ ap (λ (x : Class). inClass x (now (t2 .text-of2 .result))) (sym cls) ∙ sym (e4 .before .is-in-class .ensures) ∙ e4 .if4 .left in
     c .make-row5 .ensures
     ∙ sym (class-mismatch (now (a .formula)) (now (a .category)) (sym (e1 .before .is-missing .ensures) ∙ e1 .if1 .left) (sym (e2 .before .is-missing2 .ensures) ∙ e2 .if2 .left)
     (ap allRecognised (sym (t .text-of .ensures)) ∙ sym (e3 .before .all-recognised .ensures) ∙ not-false _ (e3 .if3 .left)) inside)

@@ -3,10 +3,10 @@
 use native.Mathlib.Omega.{arith}
 use mathlib.Core.Path.{_≡_, sym, ap, _∙_}
 use mathlib.Core.List.{List}
-use Prim.Native.Nat.{ℕ, _-_, _≤_, _<_, zero-le}
+use Prim.Native.Nat.{ℕ, _+_, _-_, _≤_, _<_, zero-le}
 use lib.ListN.{length, getD, length-map}
 use Rattle.equality.specs.Same.{lower}
-use Rattle.items.specs.Items.{rowOf, IsName}
+use Rattle.items.specs.Items.{itemCount, itemRow, IsName}
 use Rattle.items.proofs.Names.{name-long}
 use Rattle.items.proofs.Likely.{markOf, letters, letter-range, only-item}
 use borrow.Author.Needs.{needs}
@@ -16,7 +16,7 @@ use Rattle.items.proofs.likely_item.Tie as tie
 too-short : (s : List ℕ) → length s < 2 → (k : ℕ) → IsName s k → 0 ≡ k
 too-short s h k n =
     let long = name-long k (n .first) (n .last) in
-    let same = sym (length-map s lower) ∙ ap (λ (l : List ℕ). length l) (n .same) ∙ length-map (rowOf k .name) lower in
+    let same = sym (length-map s lower) ∙ ap (λ (l : List ℕ). length l) (n .same) ∙ length-map (itemRow k .name) lower in
     absurd (omega arith)
 
 returns : tie.Need-returns
@@ -28,7 +28,7 @@ cast-byte c = omega (arith, c .shared-slice-known .given (length (c .before .bef
 add-mark : tie.Need-add-mark
 add-mark c = omega (arith, c .shared-slice-known .given (length (c .before .before .args .s .now) - 2))
 
-range : (c : tie.After-shared-slice-known) → let m = markOf (c .before .before .args .s .now) in (64 ≤ getD letters m 0) × (getD letters m 0 ≤ 74)
+range : (c : tie.After-shared-slice-known) → let m = markOf (c .before .before .args .s .now) in (64 ≤ getD letters m 0) × (getD letters m 0 ≤ 64 + itemCount)
 range c = letter-range _ (omega arith)
 
 sub-result : tie.Need-sub-result

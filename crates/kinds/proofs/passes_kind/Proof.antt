@@ -4,7 +4,7 @@ use native.Mathlib.Omega.{arith}
 use mathlib.Core.Path.{_≡_, sym, _∙_, ap}
 use Prim.Native.Nat.{ℕ, _+_, _-_}
 use borrow.Author.Tests.{le-leb, lt-leb}
-use Rattle.items.specs.Items.{rowOf}
+use Rattle.items.specs.Items.{itemRow}
 use Rattle.kinds.specs.Kinds.{ofKind, passes}
 use Rattle.items.specs.declared.Kind.{Kind}
 use borrow.Author.Needs.{needs}
@@ -34,7 +34,7 @@ returns-4 c =
     let v = k .before .before .before .args .v .now in
     let back : item - 1 + 1 ≡ item = omega arith in
     c .is-of-kind .ensures
-    ∙ ap (λ (x : Kind). ofKind x v) (c .before .kind-at .ensures ∙ ap (λ (n : ℕ). rowOf n .kind) back)
+    ∙ ap (λ (x : Kind). ofKind x v) (c .before .kind-at .ensures ∙ ap (λ (n : ℕ). itemRow n .kind) back)
     ∙ simp (le-leb _ _ (k .before .if1 .left), le-leb _ _ (k .if2 .left), sym (u .before .is-unassigned .ensures) ∙ u .if3 .left)
 
 pub passes-kind-spec : {M : Type 1} → statement M

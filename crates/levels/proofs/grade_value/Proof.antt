@@ -5,12 +5,10 @@ use mathlib.Core.Path.{_≡_, sym, _∙_, ap, subst}
 use Prim.Native.Nat.{_<_, _^_}
 use lib.IntN.{ℤ}
 use lib.Signed.{mag}
-use mir.Syntax.{w64}
-use mir.Val.{toZ, ofZ}
 use Rattle.decimal.specs.Reading.{readingOf}
 use Rattle.decimal.specs.declared.Reading.the-variants.{Number}
 use Rattle.decimal.proofs.Small.{number-small}
-use Rattle.levels.specs.Bounds.{placeOf, gradeOf, readGrade, placedGrade, gradedOf}
+use Rattle.levels.specs.Bounds.{boundsPlace, gradeOf, readGrade, placedGrade, gradedOf}
 use Rattle.levels.specs.declared.Place.{Place}
 use Rattle.levels.specs.declared.Place.the-variants.{At}
 use Rattle.levels.specs.declared.Graded.the-variants.{Level}
@@ -20,7 +18,7 @@ use borrow.Author.Needs.{needs}
 use Rattle.levels.proofs.grade_value.Statement.{statement}
 use Rattle.levels.proofs.grade_value.Tie as tie
 
-placed : (c : tie.After-place) → placeOf (c .before .before .before .before .args .row) ≡ At (c .place .given .0 .0)
+placed : (c : tie.After-place) → boundsPlace (c .before .before .before .before .args .row) ≡ At (c .place .given .0 .0)
 placed c = sym (c .before .before .place-of .ensures) ∙ c .place .given .1
 
 -- the value is graded at the row's place

@@ -3,7 +3,8 @@
 use native.Mathlib.Omega.{arith}
 use mathlib.Core.Path.{ap, _∙_}
 use denote.Ref.{now}
-use Rattle.printing.specs.Print.{printedIn, outAfter}
+use Rattle.copies.specs.Copy.{copied}
+use Rattle.printing.specs.Print.{printedIn}
 use borrow.Author.Needs.{needs}
 use Rattle.printing.proofs.print_report.Statement.{statement}
 use Rattle.printing.proofs.print_report.Tie as tie
@@ -14,7 +15,7 @@ returns c =
     let p = k .before .before in
     let out = now (p .before .before .args .out) in
     let text = p .report-page .ensures .0 in
-    (k .copy-out .ensures .0 ∙ ap (printedIn out) text, k .copy-out .ensures .1 ∙ ap (outAfter out) text, omega arith)
+    (k .copy-out .ensures .0 ∙ ap (printedIn out) text, k .copy-out .ensures .1 ∙ ap (copied out 0) text, omega arith)
 
 pub print-report-spec : {M : Type 1} → statement M
 print-report-spec = tie.close (tie.spec (λ c κs. search needs) (λ c κs. search needs) (λ c. search needs) returns)

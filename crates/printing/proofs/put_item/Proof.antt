@@ -2,27 +2,27 @@
 -- Assumes nothing.
 use native.Mathlib.Omega.{arith}
 use mathlib.Core.Path.{_≡_, sym}
-use mathlib.Core.List.{List, []}
+use mathlib.Core.List.{[]}
 use borrow.Author.Tests.{eq-eqb, ne-eqb}
 use Prim.Native.Nat.{_+_}
-use Rattle.printing.specs.Print.{itemLine, filledLine}
+use Rattle.printing.specs.Print.{printedItem, filledLine}
 use Rattle.printing.proofs.Pages.{adds-as, adds-none}
 use borrow.Author.Needs.{needs}
 use Rattle.printing.proofs.put_item.Statement.{statement}
 use Rattle.printing.proofs.put_item.Tie as tie
 
 returns : tie.Need-returns
-unfolding itemLine
+unfolding printedItem
 returns c =
     let a = c .before .before .args in
-    let none : itemLine (a .k + 1) (a .item) ≡ [] = simp (eq-eqb _ _ (c .if1 .taken)) in
+    let none : printedItem (a .k + 1) (a .item) ≡ [] = simp (eq-eqb _ _ (c .if1 .taken)) in
     (adds-as (sym none) (adds-none (a .p)), omega arith)
 
 returns-2 : tie.Need-returns-2
-unfolding itemLine
+unfolding printedItem
 returns-2 c =
     let a = c .before .before .before .args in
-    let one : itemLine (a .k + 1) (a .item) ≡ filledLine (a .k + 1) (a .item) = simp (ne-eqb _ _ (c .before .if1 .left)) in
+    let one : printedItem (a .k + 1) (a .item) ≡ filledLine (a .k + 1) (a .item) = simp (ne-eqb _ _ (c .before .if1 .left)) in
     (adds-as (sym one) (c .put-filled .ensures .0), c .put-filled .ensures .1)
 
 pub put-item-spec : {M : Type 1} → statement M

@@ -3,18 +3,18 @@
 use borrow.Author.Needs.{needs}
 use native.Mathlib.Omega.{arith}
 use mathlib.Core.Path.{_≡_, sym, _∙_}
-use Prim.Native.Nat.{ℕ, _+_, _*_, _-_, _≤_}
+use Prim.Native.Nat.{_+_, _*_, _-_, _≤_}
 use lib.ListN.{length, length-map}
 use Rattle.items.specs.Items.{itemCount}
 use Rattle.state.specs.Sheets.{noItem}
-use Rattle.printing.specs.Page.{itemLineMost}
-use Rattle.printing.specs.Print.{itemLine}
+use Rattle.printing.specs.Page.{printedItemMost}
+use Rattle.printing.specs.Print.{printedItem}
 use Rattle.printing.proofs.Pages.{Listed, listed-none, listed-next, listed-all}
 use Rattle.printing.proofs.put_items.Statement.{statement}
 use Rattle.printing.proofs.put_items.Tie as tie
 
 abbrev Inv-loop : tie.InvT-loop
-Inv-loop sheet page₀ i₀ page i = (i ≤ itemCount) × (page .len ≤ page₀ .len + itemLineMost * i) × Listed itemLine (sheet .items) page₀ page i
+Inv-loop sheet page₀ i₀ page i = (i ≤ itemCount) × (page .len ≤ page₀ .len + printedItemMost * i) × Listed printedItem (sheet .items) page₀ page i
 
 abbrev μ-loop : tie.MeasureT-loop
 μ-loop sheet page₀ i₀ page i = itemCount - i
@@ -30,14 +30,14 @@ loop-again c =
     let l = c .before .before .before .loop in
     let s = c .before .before .before .before in
     let e = c .put-item .ensures in
-    let next = listed-next itemLine (s .args .t2 .items) (l .i) noItem (omega (arith, all-items s)) (l .inv .2) (e .0) in
+    let next = listed-next printedItem (s .args .t2 .items) (l .i) noItem (omega (arith, all-items s)) (l .inv .2) (e .0) in
     (omega arith, omega arith, next)
 
 returns : tie.Need-returns Inv-loop μ-loop
 returns c =
     let l = c .before .loop in
     let s = c .before .before in
-    (listed-all itemLine (s .args .t2 .items) (l .i) (omega (arith, all-items s)) (l .inv .2), omega arith)
+    (listed-all printedItem (s .args .t2 .items) (l .i) (omega (arith, all-items s)) (l .inv .2), omega arith)
 
 pub put-items-spec : {M : Type 1} → statement M
 put-items-spec =

@@ -3,12 +3,13 @@
 use mathlib.Core.Path.{_≡_}
 use lib.ListN.{length}
 use denote.Ref.{now}
+use Rattle.printing.specs.Page.{pageMost}
 use Rattle.printing.proofs.Pages.{put-adds}
 use borrow.Author.Needs.{needs}
 use Rattle.printing.proofs.page.put.Statement.{statement}
 use Rattle.printing.proofs.page.put.Tie as tie
 
-long : (c : tie.Start) → length (c .args .p .bytes) ≡ 2048
+long : (c : tie.Start) → length (c .args .p .bytes) ≡ pageMost
 long c = search needs
 
 returns : tie.Need-returns
