@@ -4,6 +4,7 @@ use Prim.Native.Nat.{ℕ}
 use mathlib.Core.Bool.{cond}
 use lib.Dec.{eqb}
 use Rattle.items.specs.Items.{isItem}
+use Rattle.state.specs.Desks.{noBench}
 use Rattle.state.specs.Sheets.{itemAt}
 use Rattle.soundness.specs.Sound.{soundDesk}
 use Rattle.state.specs.declared.sheet.Item.{Item}
@@ -14,7 +15,7 @@ use Rattle.questions.specs.declared.who.Told.{Told}
 
 -- "For an empty item, and with any refusal, bench is 255 and entry 0"
 abbrev pub nobody : Asked → Told
-nobody a = record { answer = a; entry = 0; bench = 255 }
+nobody a = record { answer = a; entry = 0; bench = noBench }
 
 -- "bench and entry number" of an item
 unfoldable pub toldOf : Item → Told

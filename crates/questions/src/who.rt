@@ -4,6 +4,7 @@ ghost use Rattle.questions.specs.Who.{nobody, toldOf, whoOf};
 use answers::Asked;
 use items::ITEM_COUNT;
 use state::desk::Desk;
+use state::desk::NO_BENCH;
 use state::sheet::Item;
 
 // The answer, the number of the item's last entry, and its bench.
@@ -12,9 +13,6 @@ pub struct Told {
     pub entry: usize,
     pub bench: u8,
 }
-
-// The bench that stands for none.
-const NO_BENCH: u8 = 255;
 
 fn tell_nobody(answer: Asked) -> Told
     ensures { λ r. ⌜ r ≡ nobody answer ⌝ }

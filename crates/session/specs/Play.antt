@@ -1,17 +1,18 @@
 -- The pairs of a session, and what they leave (document 01, "Measured examples", the program `desk`).
 -- Assumes nothing.
-use Prim.Native.Nat.{ℕ, _-_}
+use Prim.Native.Nat.{ℕ, _+_, _-_}
 use mathlib.Core.Bool.{cond}
 use mathlib.Core.List.{List, [], _∷_}
 use Rattle.text.specs.Run.{between}
+use Rattle.state.specs.Desks.{benchCount, noBench}
 use Rattle.rows.specs.Rows.{noRows}
 use Rattle.alerts.specs.Sheet.{rowsOf}
 use Rattle.sequence.specs.Calls.{Call, key, State, stateOf, step, final}
 use Rattle.session.specs.declared.play.Played.{Played}
 
--- "a bench digit": `0` to `3`; "Any other first byte goes in as bench 255"
+-- "a bench digit", from `0` on; "Any other first byte goes in as bench 255"
 unfoldable pub benchOf : ℕ → ℕ
-benchOf first = cond (between 48 51 first) (first - 48) 255
+benchOf first = cond (between 48 (48 + benchCount - 1) first) (first - 48) noBench
 
 -- "pairs .., a bench digit and a key byte", each a key call; "a last odd byte" is passed over
 abbrev pub pairsOf : List ℕ → List Call

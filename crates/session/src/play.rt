@@ -2,7 +2,9 @@
 ghost use mathlib.Core.Path.{_≡_};
 ghost use Rattle.sequence.specs.Calls.{stateOf};
 ghost use Rattle.session.specs.Play.{benchOf, stateLeft, played};
+use state::desk::BENCH_COUNT;
 use state::desk::Desk;
+use state::desk::NO_BENCH;
 
 // What a session leaves beside the log: the desk and the used number.
 pub struct Played {
@@ -10,20 +12,25 @@ pub struct Played {
     pub used: usize,
 }
 
-// The bench that stands for none.
-const NO_BENCH: u64 = 255;
+// The bench of any other byte.
+const NONE: u64 = NO_BENCH as u64;
+
+// The digits of the benches.
+const FIRST_DIGIT: u8 = b'0';
+
+const LAST_DIGIT: u8 = FIRST_DIGIT + BENCH_COUNT as u8 - 1;
 
 // The bench of a pair's first byte.
 fn bench_of(first: u8) -> u64
     ensures { λ r. ⌜ r ≡ benchOf first ⌝ }
 {
-    if first < b'0' {
-        return NO_BENCH;
+    if first < FIRST_DIGIT {
+        return NONE;
     }
-    if b'3' < first {
-        return NO_BENCH;
+    if LAST_DIGIT < first {
+        return NONE;
     }
-    (first - b'0') as u64
+    (first - FIRST_DIGIT) as u64
 }
 
 // Plays every whole pair of the input. Refusals are passed over, and so is a last odd byte.

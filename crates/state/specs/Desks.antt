@@ -12,6 +12,10 @@ use Rattle.state.specs.declared.desk.Desk.{Desk}
 abbrev pub benchCount : ℕ
 benchCount = 4
 
+-- the bench number that stands for none: "bench is 255", "goes in as bench 255"
+abbrev pub noBench : ℕ
+noBench = 255
+
 -- what the logic reads past the end of an array of lines
 abbrev pub noLine : Line
 noLine = record { bytes = []; len = 0 }

@@ -6,6 +6,9 @@ use crate::sheet::Sheet;
 
 pub const BENCH_COUNT: usize = 4;
 
+// The bench number that stands for none.
+pub const NO_BENCH: u8 = 255;
+
 #[repr(C)]
 pub struct Desk {
     pub lines: [Line; BENCH_COUNT],
