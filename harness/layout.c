@@ -6,6 +6,7 @@
 #include "play.h"
 #include "probe.h"
 #include "rows.h"
+#include "sheet_file.h"
 #include "wall.h"
 
 int main(void)
@@ -37,5 +38,7 @@ int main(void)
            offsetof(play_result, written), offsetof(play_result, answer));
     printf("probe_filed %zu count %zu answer %zu\n", sizeof(probe_filed),
            offsetof(probe_filed, count), offsetof(probe_filed, answer));
+    printf("sheet_filed %zu count %zu answer %zu\n", sizeof(sheet_filed),
+           offsetof(sheet_filed, count), offsetof(sheet_filed, answer));
     return 0;
 }

@@ -70,7 +70,8 @@ impl Sheets {
             4 | 5 => sheets.graded(ROWS[0]),
             6 | 7 => sheets.graded(ROWS[1]),
             8 | 9 => sheets.graded(ROWS[2]),
-            _ => sheets.threshold(),
+            10 => sheets.threshold(),
+            _ => unreachable!("no values for item {item}"),
         })
     }
 

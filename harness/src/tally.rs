@@ -40,6 +40,13 @@ const QUESTIONS: [(Library, &str, &[&str]); 26] = [
 /// The most answers of a question.
 const MOST: usize = ITEMS.len() + 1;
 
+/// The lists that go by item have them all.
+const _: () = assert!(
+    QUESTIONS[Question::Item as usize].2.len() == MOST
+        && QUESTIONS[Question::EntryItem as usize].2.len() == ITEMS.len()
+        && QUESTIONS[Question::FilledItems as usize].2.len() == MOST
+);
+
 #[derive(Clone, Copy)]
 pub enum Question {
     Line,

@@ -11,7 +11,7 @@ use Rattle.terms.specs.Term.{kindAt, isCount, countOf, termOf}
 use Rattle.terms.specs.Terms.{cut, some}
 use Rattle.elements.specs.Elements.{sameSymbol, placeOf, symbols, elementOf, isElement, notMetals, isMetal, weights, weightIn, weightOf}
 use Rattle.formula.specs.Recognised.{allRecognised}
-use Rattle.formula_order.specs.Order.{rank, key, rising, inOrder}
+use Rattle.formula_order.specs.Order.{rank, orderKey, rising, inOrder}
 use Rattle.formula_class.specs.Class.{hasTerm, formulaClass}
 use Rattle.formula.specs.Sum.{total, sumOf}
 use Rattle.categories.specs.declared.Class.{Class}
@@ -60,5 +60,5 @@ answered f =
     record { recognised = allRecognised (bytes f); ordered = inOrder (bytes f); class = formulaClass (bytes f); sum = sumOf (bytes f) }
 
 pub formulas-hold : map (λ (x : Example). answered (x .formula)) examples ≡ map (λ (x : Example). x .answers) examples
-unfolding examples cut some termOf kindAt isCount countOf all between valueFrom allRecognised isElement elementOf symbols placeOf sameSymbol inOrder rising key rank formulaClass hasTerm isMetal notMetals sumOf total weightOf weightIn weights
+unfolding examples cut some termOf kindAt isCount countOf all between valueFrom allRecognised isElement elementOf symbols placeOf sameSymbol inOrder rising orderKey rank formulaClass hasTerm isMetal notMetals sumOf total weightOf weightIn weights
 formulas-hold = refl

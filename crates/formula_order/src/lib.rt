@@ -1,7 +1,7 @@
 // The order of the symbols of a formula (document 01, "The twelve rows": row 2).
 ghost use mathlib.Core.Path.{_≡_};
 ghost use Prim.Native.Nat.{_≤_};
-ghost use Rattle.formula_order.specs.Order.{rank, key, inOrder};
+ghost use Rattle.formula_order.specs.Order.{rank, orderKey, inOrder};
 use elements::same_symbol;
 use terms::Step;
 use terms::term::Term;
@@ -21,7 +21,7 @@ fn rank_of(a: u8, b: u8) -> u32
 
 // A number that is smaller the earlier a symbol stands: by rank, then first byte, then second.
 fn key_of(a: u8, b: u8) -> u32
-    ensures { λ r. ⌜ r ≡ key a b ⌝ }
+    ensures { λ r. ⌜ r ≡ orderKey a b ⌝ }
 {
     (rank_of(a, b) * 256 + a as u32) * 256 + b as u32
 }

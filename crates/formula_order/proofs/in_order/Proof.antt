@@ -1,4 +1,4 @@
--- `formula_order::in_order` meets its contract. The loop's invariant: the keys passed rise to the last one, so the rest decides.
+-- `formula_order::in_order` meets its contract. The loop's invariant: the order keys passed rise to the last one, so the rest decides.
 -- The measure is what is left of the text. Assumes nothing.
 use borrow.Author.Needs.{needs}
 use mathlib.Core.Path.{_≡_, sym, ap, _∙_}
@@ -7,7 +7,7 @@ use mathlib.Core.List.{List}
 use Prim.Native.Nat.{_+_, _-_}
 use borrow.Author.Tests.{lt-ltb, le-ltb}
 use lib.ListN.{length}
-use Rattle.formula_order.specs.Order.{keysOf, rising, inOrder}
+use Rattle.formula_order.specs.Order.{orderKeys, rising, inOrder}
 use Rattle.terms.specs.declared.term.Term.{Term}
 use Rattle.terms.proofs.Steps.{termsFrom, from-start, Stepped, step-next, step-end, falls}
 use Rattle.formula_order.proofs.Orders.{order-skip, order-next, order-end}
@@ -15,7 +15,7 @@ use Rattle.formula_order.proofs.in_order.Statement.{statement}
 use Rattle.formula_order.proofs.in_order.Tie as tie
 
 abbrev Inv-loop : tie.InvT-loop
-Inv-loop s last₀ from₀ last from = inOrder s ≡ rising last (keysOf (termsFrom s from))
+Inv-loop s last₀ from₀ last from = inOrder s ≡ rising last (orderKeys (termsFrom s from))
 
 abbrev μ-loop : tie.MeasureT-loop
 μ-loop s last₀ from₀ last from = length s + 1 - from
@@ -25,7 +25,7 @@ stepped c = step-next _ _ _ _ (sym (c .before .before .step-at .ensures) ∙ c .
 
 loop-holds : tie.Need-loop-holds Inv-loop μ-loop
 unfolding inOrder
-loop-holds c = ap (λ (ts : List Term). rising 0 (keysOf ts)) (from-start _)
+loop-holds c = ap (λ (ts : List Term). rising 0 (orderKeys ts)) (from-start _)
 
 returns : tie.Need-returns Inv-loop μ-loop
 returns c =

@@ -3,13 +3,13 @@
 use native.Mathlib.Omega.{arith}
 use Prim.Native.Nat.{ℕ, _+_, _*_}
 use mathlib.Core.Path.{ap}
-use Rattle.formula_order.specs.Order.{key}
+use Rattle.formula_order.specs.Order.{orderKey}
 use borrow.Author.Needs.{needs}
 use Rattle.formula_order.proofs.key_of.Statement.{statement}
 use Rattle.formula_order.proofs.key_of.Tie as tie
 
 returns : tie.Need-returns
-unfolding key
+unfolding orderKey
 returns c = ap (λ (r : ℕ). (r * 256 + c .before .args .a) * 256 + c .before .args .b) (c .rank-of .ensures .0)
 
 pub key-of-spec : {M : Type 1} → statement M

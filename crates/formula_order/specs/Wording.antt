@@ -1,0 +1,46 @@
+-- Row 2's order in document 01's words ("The twelve rows", 2). `Wording` (proofs) shows that `inOrder` is it.
+-- Assumes nothing.
+use Prim.Native.Nat.{ℕ, _<_}
+use mathlib.Core.Path.{_≡_}
+use mathlib.Core.List.{List, [], _∷_, List·Memᴰ}
+use Rattle.terms.specs.declared.term.Term.{Term}
+use Rattle.terms.specs.declared.term.Term.the-variants.{Well, Ill}
+
+-- the two bytes of a symbol; after a single letter the second is a space, 32
+pub record Symbol : Type 0 where
+  pub first : ℕ
+  pub second : ℕ
+
+-- C
+abbrev pub carbon : Symbol
+carbon = record { first = 67; second = 32 }
+
+-- H
+abbrev pub hydrogen : Symbol
+hydrogen = record { first = 72; second = 32 }
+
+-- "the others": neither C nor H
+abbrev pub Other : Symbol → Type 0
+Other x = (x ≡ carbon → ⊥) × (x ≡ hydrogen → ⊥)
+
+-- the symbol x stands before the symbol y
+pub data Before : Symbol → Symbol → Type 0 where
+  -- "C first"
+  carbon-first : (y : Symbol) → (y ≡ carbon → ⊥) → Before carbon y
+  -- "then H"
+  then-hydrogen : (y : Symbol) → Other y → Before hydrogen y
+  -- "then the others in rising ASCII order": by the first byte
+  first-rises : (x y : Symbol) → Other x → Other y → x .first < y .first → Before x y
+  -- and, where that is the same, by the second
+  second-rises : (x y : Symbol) → Other x → Other y → x .first ≡ y .first → x .second < y .second → Before x y
+
+-- "the symbols of well-formed terms", in the order of the terms
+abbrev pub symbolsOf : List Term → List Symbol
+symbolsOf [] = []
+symbolsOf (Well a b n ∷ ts) = record { first = a; second = b } ∷ symbolsOf ts
+symbolsOf (Ill ∷ ts) = symbolsOf ts
+
+-- each symbol stands before every later one; "none twice", since none stands before itself
+pub data Ordered : List Symbol → Type 0 where
+  none : Ordered []
+  next : (x : Symbol) (later : List Symbol) → ((y : Symbol) → List·Memᴰ y later → Before x y) → Ordered later → Ordered (x ∷ later)
