@@ -2,16 +2,9 @@
 -- Assumes nothing.
 use Prim.Native.Nat.{ℕ}
 use mathlib.Core.Path.{_≡_, refl, sym, ap, subst, _∙_}
-use mathlib.Core.Bool.{Bool, true, false, _&&_}
+use mathlib.Core.Bool.{Bool, false, _&&_}
 use mathlib.Core.List.{List}
-use lib.IntN.{ℤ}
-use Rattle.decimal.specs.Reading.{readingOf}
-use Rattle.decimal.specs.declared.Reading.{Reading}
-use Rattle.decimal.specs.declared.Reading.the-variants.{Number}
 use Rattle.quotes.specs.Quoted.{textOf}
-use Rattle.formula.specs.Sum.{sumOf}
-use Rattle.elements.specs.declared.Weight.{Weight}
-use Rattle.elements.specs.declared.Weight.the-variants.{Thousandths}
 use Rattle.levels.specs.Level.{Highest}
 use Rattle.levels.specs.Bounds.{gradeOf, readGrade, placedGrade, gradedOf}
 use Rattle.levels.specs.declared.Place.{Place}

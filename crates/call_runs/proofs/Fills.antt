@@ -1,6 +1,6 @@
 -- The desk written after the answers, and the run that this makes.
 -- Assumes nothing.
-use mathlib.Core.Path.{_≡_, refl, sym, ap, _∙_}
+use mathlib.Core.Path.{_≡_, refl, ap, _∙_}
 use mathlib.Core.List.{List, _++_}
 use Prim.Native.Nat.{ℕ, _+_, _*_, _≤_}
 use native.Mathlib.Omega.{arith}
@@ -14,7 +14,7 @@ use Rattle.one_call.specs.CallBytes.{callsIn}
 use Rattle.replies.specs.ReplyBytes.{replyLength}
 use Rattle.desk_bytes.specs.DeskBytes.{deskLength}
 use Rattle.call_runs.specs.Written.{answersBytes, writtenLength, AnswersWritten, AllWritten}
-use Rattle.call_runs.specs.Play.{After, after, ran}
+use Rattle.call_runs.specs.Play.{after, ran}
 use Rattle.call_runs.specs.declared.Played.the-variants.{Done}
 use Rattle.copies.proofs.Copies.{copied-next, copied-start}
 

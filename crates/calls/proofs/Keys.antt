@@ -1,8 +1,8 @@
 -- Laws of the key call's definitions: what is stored, and what soundness gives.
 -- Assumes nothing.
-use mathlib.Core.Path.{_≡_, refl, sym, ap, _∙_}
-use mathlib.Core.Bool.{Bool, true, false, cond, _&&_}
-use mathlib.Core.List.{List, [], _∷_, _++_, append-assoc}
+use mathlib.Core.Path.{_≡_, sym, ap, _∙_}
+use mathlib.Core.Bool.{Bool, true, false, _&&_}
+use mathlib.Core.List.{List, _++_}
 use Prim.Native.Nat.{ℕ, _+_, _-_, _*_, _≤_, _<_}
 use native.Mathlib.Nat.{zero-add}
 use native.Mathlib.Omega.{arith}
@@ -20,7 +20,7 @@ use Rattle.log.specs.declared.Written.the-variants.{Bytes, NoRoom}
 use Rattle.log.proofs.Records.{tail-back, tail-lent, wrote-none, wrote-bytes, room-left}
 use Rattle.state.specs.Lines.{padded}
 use Rattle.state.specs.Desks.{benchCount, noLine, lineAt}
-use Rattle.soundness.specs.Sound.{every, soundLine, soundLines, soundDesk}
+use Rattle.soundness.specs.Sound.{soundLine, soundLines, soundDesk}
 use Rattle.sound_log.specs.SoundLog.{logMost, soundLog}
 use Rattle.state.specs.declared.line.Line.{Line}
 use Rattle.state.specs.declared.desk.Desk.{Desk}

@@ -1,8 +1,8 @@
 -- What a key call does, for every desk, log, used number, bench number and byte (document 01, "Keys and their refusals").
 -- Assumes nothing.
 use Prim.Native.Nat.{ℕ, _+_, _-_}
-use mathlib.Core.Bool.{Bool, cond, _&&_}
-use mathlib.Core.List.{List, [], _∷_, _++_}
+use mathlib.Core.Bool.{cond, _&&_}
+use mathlib.Core.List.{List, _++_}
 use lib.Dec.{ltb, leb, eqb}
 use lib.ListN.{length, take, drop, set}
 use Rattle.items.specs.Typed.{lineMost, isTyped}

@@ -1,9 +1,9 @@
 -- What is known of a line that was split.
 -- Assumes nothing.
-use mathlib.Core.Path.{_≡_, refl, sym, ap, _∙_}
-use mathlib.Core.Bool.{Bool, true, cond, _&&_}
+use mathlib.Core.Path.{_≡_}
+use mathlib.Core.Bool.{true, _&&_}
 use mathlib.Core.List.{List}
-use Prim.Native.Nat.{ℕ, _+_, _≤_}
+use Prim.Native.Nat.{ℕ, _≤_}
 use native.Mathlib.Omega.{arith}
 use borrow.Author.Tests.{leb-true}
 use lib.Dec.{leb}
@@ -13,7 +13,6 @@ use Rattle.text.proofs.Bools.{and-both, cond-first}
 use Rattle.text.proofs.Runs.{run-short}
 use Rattle.values.specs.Value.{isValue}
 use Rattle.cif.specs.Line.{nameEnd, valueStart, splitOf}
-use Rattle.cif.specs.declared.line.Split.{Split}
 use Rattle.cif.specs.declared.line.Split.the-variants.{Parts, Malformed}
 
 -- the line t is a name that ends at n, spaces, and a value that begins at v

@@ -1,7 +1,7 @@
 -- Rows 6 to 11, of the values with a new and an old name (document 01, "The twelve rows").
 -- Assumes nothing.
 use Prim.Native.Nat.{ℕ}
-use mathlib.Core.Bool.{Bool, cond, _&&_}
+use mathlib.Core.Bool.{cond, _&&_}
 use mathlib.Core.List.{List}
 use Rattle.levels.specs.Bounds.{gradedOf}
 use Rattle.levels.specs.declared.Graded.{Graded}

@@ -1,6 +1,6 @@
 -- Laws of printing into bytes that are lent.
 -- Assumes nothing.
-use mathlib.Core.Path.{_≡_, _∙_}
+use mathlib.Core.Path.{_≡_}
 use mathlib.Core.List.{List}
 use Prim.Native.Nat.{ℕ, _≤_}
 use native.Mathlib.Omega.{arith}
@@ -9,7 +9,6 @@ use lib.Dec.{leb}
 use lib.ListN.{length}
 use Rattle.text.proofs.Bools.{cond-first}
 use Rattle.printing.specs.Print.{printedIn}
-use Rattle.printing.specs.declared.Printed.{Printed}
 use Rattle.printing.specs.declared.Printed.the-variants.{Bytes, NoRoom}
 
 no-bytes : (n : ℕ) → NoRoom ≡ Bytes n → ⊥

@@ -1,6 +1,6 @@
 -- Demand 3 of the desk itself: its report has the twelve rows of document 01, and the calls are the functions' own definitions.
 -- Assumes nothing.
-use mathlib.Core.Path.{_≡_, refl, ap}
+use mathlib.Core.Path.{_≡_, refl}
 use mathlib.Core.Bool.{Bool, true, false, cond}
 use mathlib.Core.List.{List}
 use Prim.Native.Nat.{ℕ}

@@ -3,7 +3,7 @@
 use Prim.Native.Nat.{ℕ, suc, _+_}
 use mathlib.Core.List.{List, [], _∷_}
 use mathlib.Core.Bool.{Bool, true, cond, _&&_}
-use lib.ListN.{length, take, drop}
+use lib.ListN.{drop}
 use lib.Dec.{ltb, leb, eqb}
 use Rattle.text.specs.Run.{all, between}
 use Rattle.items.specs.Typed.{lineMost, isTyped}

@@ -1,12 +1,11 @@
 -- The desk: "Four benches, 0 to 3, each with one unfinished line", and one sheet (document 01, "What the desk holds").
 -- Assumes nothing.
 use Prim.Native.Nat.{ℕ}
-use mathlib.Core.List.{List, []}
+use mathlib.Core.List.{[]}
 use lib.ListN.{getD, set, replicate}
 use Rattle.state.specs.Lines.{emptyLine}
 use Rattle.state.specs.Sheets.{emptySheet}
 use Rattle.state.specs.declared.line.Line.{Line}
-use Rattle.state.specs.declared.sheet.Sheet.{Sheet}
 use Rattle.state.specs.declared.desk.Desk.{Desk}
 
 abbrev pub benchCount : ℕ

@@ -7,10 +7,10 @@ use Prim.Native.Nat.{ℕ, zero, suc, _+_, _≤_, _<_}
 use native.Mathlib.Nat.{not-suc-le-zero, le-of-suc-le-suc}
 use native.Mathlib.Numerals.{add-one}
 use native.Mathlib.Omega.{arith}
-use borrow.Author.Tests.{lt-ltb, ltb-true, eq-eqb, ne-eqb, eqb-true}
+use borrow.Author.Tests.{lt-ltb, ltb-true, eq-eqb, eqb-true}
 use lib.Dec.{ltb, eqb, eqb·suc-suc, eqb·zero-suc}
-use lib.ListN.{length, getD, take, drop, replicate, drop-of-length-le, length-append, take-append-drop}
-use lib.Seq.{drop-cons, length-take-le, getD-append-seam, take-suc, take-all}
+use lib.ListN.{length, getD, take, drop, replicate, drop-of-length-le, take-append-drop}
+use lib.Seq.{drop-cons, length-take-le, take-suc, take-all}
 use Rattle.text.specs.Run.{runOf, all, other, hasAt}
 use Rattle.text.proofs.Bools.{and-both, not-holds}
 

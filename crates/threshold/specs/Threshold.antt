@@ -5,7 +5,7 @@ use mathlib.Core.Bool.{Bool, cond, _&&_, _||_}
 use mathlib.Core.List.{List}
 use lib.Dec.{leb}
 use lib.ListN.{length, take, drop}
-use lib.IntN.{ℤ, pos, negsuc}
+use lib.IntN.{pos, negsuc}
 use Rattle.text.specs.Quote.{bytes}
 use Rattle.text.specs.Run.{hasAt}
 use Rattle.equality.specs.Same.{exact, sameBy}

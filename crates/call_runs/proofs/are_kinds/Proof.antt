@@ -1,7 +1,7 @@
 -- `call_runs::are_kinds` meets its contract. The loop's invariant: the kinds passed are right, so the rest decides.
 -- The measure is what is left of the calls. Assumes nothing.
 use native.Mathlib.Omega.{arith}
-use mathlib.Core.Path.{_≡_, refl, sym, ap, _∙_}
+use mathlib.Core.Path.{_≡_, sym, ap, _∙_}
 use Prim.Native.Nat.{ℕ, _≤_, _-_, _*_}
 use borrow.Author.Tests.{le-leb, lt-leb}
 use denote.Ref.{now}

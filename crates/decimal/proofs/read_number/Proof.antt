@@ -1,7 +1,7 @@
 -- `decimal::read_number` meets its contract: the first byte decides the case of `readingOf`.
 -- Assumes nothing.
 use native.Mathlib.Omega.{arith}
-use mathlib.Core.Path.{_≡_, _∙_, sym}
+use mathlib.Core.Path.{_∙_, sym}
 use Rattle.text.proofs.Parts.{rest-part}
 use Rattle.text.proofs.Runs.{has-within}
 use Rattle.decimal.specs.Reading.{readingOf}

@@ -1,7 +1,7 @@
 -- `decimal::scale` meets its contract: antt computes that the table is the list of the scales.
 -- Assumes nothing.
 use native.Mathlib.Omega.{arith}
-use Prim.Native.Nat.{_^_, _≤_, _-_}
+use Prim.Native.Nat.{_-_}
 use Rattle.text.proofs.Tables.{entry}
 use Rattle.decimal.specs.Digits.{scaleOf}
 use Rattle.decimal.proofs.Values.{ten-le}

@@ -1,11 +1,10 @@
 -- `decimal::sized` meets its contract: each return has the tests of `sizeOf` on its way, and the two products are small.
 -- Assumes nothing.
 use native.Mathlib.Omega.{arith}
-use mathlib.Core.Path.{_≡_, sym, _∙_}
-use mathlib.Core.Bool.{Bool}
+use mathlib.Core.Path.{sym, _∙_}
 use Prim.Native.Nat.{_*_, _≤_}
 use borrow.Author.Tests.{le-leb, lt-leb, not-true, not-false}
-use Rattle.decimal.specs.Reading.{sizeOf, isTail}
+use Rattle.decimal.specs.Reading.{sizeOf}
 use Rattle.decimal.proofs.Values.{small-product}
 use borrow.Author.Needs.{needs}
 use Rattle.decimal.proofs.sized.Statement.{statement}

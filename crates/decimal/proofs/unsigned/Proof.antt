@@ -1,8 +1,7 @@
 -- `decimal::unsigned` meets its contract: the digits are the run, and a point parts what follows.
 -- Assumes nothing.
 use native.Mathlib.Omega.{arith}
-use mathlib.Core.Path.{_≡_, _∙_, sym}
-use mathlib.Core.Bool.{true, false}
+use mathlib.Core.Path.{_∙_, sym}
 use lib.ListN.{length-take}
 use Rattle.text.proofs.Parts.{rest-part}
 use Rattle.text.proofs.Runs.{has-within}

@@ -1,6 +1,6 @@
 -- `desk_bytes::desk_bytes` meets its contract: the lines, the items, the count and the used number, one after the other.
 -- Assumes nothing.
-use mathlib.Core.Path.{_≡_, _∙_}
+use mathlib.Core.Path.{_∙_}
 use borrow.Author.Needs.{needs}
 use Rattle.desk_bytes.proofs.desk_bytes.Statement.{statement}
 use Rattle.desk_bytes.proofs.desk_bytes.Tie as tie

@@ -1,7 +1,7 @@
 -- `equality::begins_folded` meets its contract: a text shorter than p does not begin with it.
 -- Assumes nothing.
 use native.Mathlib.Omega.{arith}
-use mathlib.Core.Path.{_≡_, sym}
+use mathlib.Core.Path.{sym}
 use lib.ListN.{length-take}
 use Rattle.equality.specs.Same.{lower, beginsFolded}
 use Rattle.equality.proofs.Sames.{other-length}

@@ -1,8 +1,8 @@
 -- `levels::grade` meets its contract: the three comparisons are those of `gradeOf`.
 -- Assumes nothing.
-use mathlib.Core.Path.{_≡_, sym, _∙_, ap}
+use mathlib.Core.Path.{_∙_}
 use Rattle.levels.specs.Bounds.{gradeOf}
-use Rattle.signed.proofs.Signs.{back, small-fits}
+use Rattle.signed.proofs.Signs.{back}
 use borrow.Author.Needs.{needs}
 use Rattle.levels.proofs.grade.Statement.{statement}
 use Rattle.levels.proofs.grade.Tie as tie

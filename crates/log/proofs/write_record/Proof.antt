@@ -1,14 +1,12 @@
 -- `log::write_record` meets its contract: with room, the head and then the value; else nothing.
 -- Assumes nothing.
 use native.Mathlib.Omega.{arith}
-use mathlib.Core.Path.{_≡_, sym, _∙_, ap}
-use mathlib.Core.Bool.{true, false}
+use mathlib.Core.Path.{_∙_, ap}
 use mathlib.Core.List.{List}
-use Prim.Native.Nat.{ℕ, _+_}
+use Prim.Native.Nat.{ℕ}
 use denote.Ref.{now}
-use lib.ListN.{length}
 use Rattle.copies.specs.Copy.{copied}
-use Rattle.log.specs.Record.{headLength, hasRoom, writtenOf, freeAfter}
+use Rattle.log.specs.Record.{headLength, writtenOf, freeAfter}
 use Rattle.log.proofs.Records.{record-written, has-room, too-long, too-little}
 use borrow.Author.Needs.{needs}
 use Rattle.log.proofs.write_record.Statement.{statement}

@@ -1,7 +1,6 @@
 -- `one_call::play_key` meets its contract: the key call's, with its answer in bytes.
 -- Assumes nothing.
-use mathlib.Core.Path.{_≡_, _∙_, ap}
-use denote.Ref.{now}
+use mathlib.Core.Path.{ap}
 use Rattle.calls.specs.Key.{After}
 use Rattle.sequence.specs.Calls.{keyed, left}
 use Rattle.one_call.specs.OneCall.{replyBytes, One}

@@ -1,6 +1,6 @@
 -- `one_call::play_one` meets its contract: each kind is a case of `callOf`.
 -- Assumes nothing.
-use mathlib.Core.Path.{_≡_, sym, _∙_, ap}
+use mathlib.Core.Path.{sym, _∙_, ap}
 use Prim.Native.Nat.{ℕ}
 use borrow.Author.Tests.{ne-eqb}
 use denote.Ref.{now}

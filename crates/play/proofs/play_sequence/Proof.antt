@@ -1,6 +1,6 @@
 -- `play::play_sequence` meets its contract: that of `play_calls`, with the answer's number.
 -- Assumes nothing.
-use mathlib.Core.Path.{_≡_, _∙_, ap}
+use mathlib.Core.Path.{ap}
 use Rattle.play.specs.Told.{numbered}
 use borrow.Author.Needs.{needs}
 use Rattle.play.proofs.play_sequence.Statement.{statement}

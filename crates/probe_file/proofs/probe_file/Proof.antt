@@ -1,9 +1,7 @@
 -- `probe_file::probe_file` meets its contract: the writer's, with the answer's number.
 -- Assumes nothing.
-use mathlib.Core.Path.{_≡_, _∙_, ap}
-use denote.Ref.{now}
-use Rattle.cif_file.specs.Answers.{After, after}
-use Rattle.probe_file.specs.Told.{FileTold, told, numbered}
+use mathlib.Core.Path.{ap}
+use Rattle.probe_file.specs.Told.{numbered}
 use borrow.Author.Needs.{needs}
 use Rattle.probe_file.proofs.probe_file.Statement.{statement}
 use Rattle.probe_file.proofs.probe_file.Tie as tie

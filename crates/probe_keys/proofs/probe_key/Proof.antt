@@ -1,9 +1,7 @@
 -- `probe_keys::probe_key` meets its contract: the key call's, with the answer's number.
 -- Assumes nothing.
-use mathlib.Core.Path.{_≡_, _∙_, ap}
-use denote.Ref.{now}
-use Rattle.calls.specs.Key.{After, after}
-use Rattle.probe_keys.specs.Told.{KeyTold, told, numbered}
+use mathlib.Core.Path.{ap}
+use Rattle.probe_keys.specs.Told.{numbered}
 use borrow.Author.Needs.{needs}
 use Rattle.probe_keys.proofs.probe_key.Statement.{statement}
 use Rattle.probe_keys.proofs.probe_key.Tie as tie

@@ -1,7 +1,7 @@
 -- `quotes::text_of` meets its contract: a quoted value has its two marks, and the text is between them.
 -- Assumes nothing.
 use native.Mathlib.Omega.{arith}
-use mathlib.Core.Path.{_≡_, sym, _∙_}
+use mathlib.Core.Path.{sym, _∙_}
 use Prim.Native.Nat.{_≤_}
 use lib.ListN.{length}
 use Rattle.quotes.specs.Quoted.{textOf}

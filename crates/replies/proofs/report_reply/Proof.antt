@@ -2,7 +2,7 @@
 -- The measure is what is left of the rows. Assumes nothing.
 use native.Mathlib.Omega.{arith}
 use mathlib.Core.Path.{_≡_, refl, sym, ap, _∙_}
-use mathlib.Core.List.{List, _∷_, flatMap}
+use mathlib.Core.List.{_∷_, flatMap}
 use Prim.Native.Nat.{ℕ, _*_, _≤_, _-_}
 use lib.ListN.{length, replicate, length-map}
 use Rattle.rows.specs.Rows.{rowCount, noAlert}

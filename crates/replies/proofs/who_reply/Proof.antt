@@ -1,6 +1,6 @@
 -- `replies::who_reply` meets its contract: the entry number stands after the answer and the bench.
 -- Assumes nothing.
-use mathlib.Core.Path.{_≡_, _∙_}
+use mathlib.Core.Path.{_∙_}
 use Rattle.copies.specs.Copy.{copied}
 use borrow.Author.Needs.{needs}
 use Rattle.replies.proofs.who_reply.Statement.{statement}

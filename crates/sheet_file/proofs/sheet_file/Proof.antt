@@ -1,6 +1,6 @@
 -- `sheet_file::sheet_file` meets its contract: the session's, and then the writer's with the answer's number.
 -- Assumes nothing.
-use mathlib.Core.Path.{_≡_, _∙_, ap}
+use mathlib.Core.Path.{_∙_, ap}
 use denote.Ref.{now}
 use Rattle.state.specs.declared.desk.Desk.{Desk}
 use Rattle.sequence.specs.Calls.{State, stateOf}

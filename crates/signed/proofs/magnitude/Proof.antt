@@ -7,7 +7,7 @@ use lib.Dec.{T}
 use lib.IntN.{ℤ, pos, natAbs}
 use lib.Signed.{nonNeg}
 use mir.Syntax.{w64}
-use mir.Val.{Fits, SFits, toZ, ofZ}
+use mir.Val.{Fits, SFits}
 use Rattle.signed.proofs.Signs.{Turned, turn, above, back}
 use Rattle.signed.proofs.magnitude.Statement.{statement}
 use Rattle.signed.proofs.magnitude.Tie as tie

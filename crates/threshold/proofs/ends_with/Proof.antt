@@ -1,8 +1,7 @@
 -- `threshold::ends_with` meets its contract: an empty text ends with nothing.
 -- Assumes nothing.
 use native.Mathlib.Omega.{arith}
-use mathlib.Core.Path.{_≡_, sym}
-use mathlib.Core.Bool.{true}
+use mathlib.Core.Path.{sym}
 use Rattle.text.proofs.Bools.{not-holds}
 use Rattle.text.proofs.Runs.{has-within}
 use borrow.Author.Needs.{needs}

@@ -1,12 +1,12 @@
 -- `threshold::has_shape` meets its contract: each return has the tests of `hasShape` on its way.
 -- Assumes nothing.
 use native.Mathlib.Omega.{arith}
-use mathlib.Core.Path.{_≡_, sym, _∙_, ap}
+use mathlib.Core.Path.{sym, _∙_, ap}
 use mathlib.Core.List.{List}
 use Prim.Native.Nat.{ℕ, _-_}
 use denote.Ref.{now}
 use borrow.Author.Tests.{le-leb, lt-leb, not-true, not-false}
-use lib.ListN.{length, drop, length-take}
+use lib.ListN.{length, length-take}
 use Rattle.equality.specs.Same.{exact, sameBy}
 use Rattle.text.proofs.Parts.{rest-part}
 use Rattle.threshold.specs.Threshold.{hasShape}

@@ -2,10 +2,8 @@
 -- Assumes nothing.
 use native.Mathlib.Omega.{arith}
 use mathlib.Core.Path.{_≡_, sym, _∙_, ap}
-use mathlib.Core.Bool.{true, false}
-use Prim.Native.Nat.{_^_, _<_}
-use lib.IntN.{ℤ, pos, natAbs}
-use lib.Signed.{mag}
+use mathlib.Core.Bool.{true}
+use lib.IntN.{ℤ, natAbs}
 use mir.Syntax.{w64}
 use mir.Val.{SFits}
 use Rattle.decimal.specs.Reading.{readingOf}

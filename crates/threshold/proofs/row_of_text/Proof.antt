@@ -1,11 +1,7 @@
 -- `threshold::row_of_text` meets its contract: the first shape that the text has.
 -- Assumes nothing.
 use native.Mathlib.Omega.{arith}
-use mathlib.Core.Path.{_≡_, sym, _∙_}
-use mathlib.Core.Bool.{true}
-use mathlib.Core.List.{List}
-use Prim.Native.Nat.{ℕ, _+_, _≤_}
-use lib.ListN.{length}
+use mathlib.Core.Path.{sym, _∙_}
 use Rattle.threshold.specs.Threshold.{thresholdRow}
 use Rattle.threshold.proofs.Shapes.{shape-long}
 use borrow.Author.Needs.{needs}

@@ -2,9 +2,9 @@
 -- Assumes nothing.
 use native.Mathlib.Omega.{arith}
 use mathlib.Core.Path.{_≡_, sym, _∙_, ap}
-use mathlib.Core.Bool.{true, false}
-use Prim.Native.Nat.{ℕ, _≤_, _^_}
-use lib.IntN.{ℤ, pos, natAbs}
+use mathlib.Core.Bool.{true}
+use Prim.Native.Nat.{_≤_, _^_}
+use lib.IntN.{pos, natAbs}
 use Rattle.signed.proofs.Signs.{back, above}
 use Rattle.weight_rows.specs.WeightRows.{ratioLevel}
 use Rattle.rows.proofs.Zero.{zero-test}

@@ -1,6 +1,5 @@
 -- `alerts::sheet_rows::sheet_rows` meets its contract: the rows of the groups, in order.
 -- Assumes nothing.
-use mathlib.Core.Path.{_≡_}
 use borrow.Author.Needs.{needs}
 use Rattle.alerts.proofs.sheet_rows.sheet_rows.Statement.{statement}
 use Rattle.alerts.proofs.sheet_rows.sheet_rows.Tie as tie

@@ -2,8 +2,7 @@
 -- Assumes nothing.
 use native.Mathlib.Omega.{arith}
 use mathlib.Core.Path.{_≡_, _∙_, ap}
-use Prim.Native.Nat.{ℕ}
-use lib.ListN.{length, take, length-take}
+use lib.ListN.{length, length-take}
 use Rattle.items.specs.Typed.{lineMost}
 use Rattle.state.proofs.Values.{value-part}
 use Rattle.threshold.specs.Threshold.{row12}

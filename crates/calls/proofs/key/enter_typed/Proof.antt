@@ -3,9 +3,9 @@
 use native.Mathlib.Omega.{arith}
 use mathlib.Core.Path.{_≡_, sym, _∙_, ap}
 use mathlib.Core.List.{List}
-use Prim.Native.Nat.{ℕ, _≤_, _-_}
+use Prim.Native.Nat.{ℕ, _-_}
 use denote.Ref.{now}
-use lib.ListN.{length, drop, length-take, length-drop}
+use lib.ListN.{length-take, length-drop}
 use Rattle.text.proofs.Parts.{rest-part}
 use Rattle.cif.specs.Line.{classOf}
 use Rattle.cif.specs.declared.line.Class.{Class}

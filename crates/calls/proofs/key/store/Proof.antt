@@ -1,9 +1,8 @@
 -- `calls::key::store` meets its contract: the writer had room or not.
 -- Assumes nothing.
 use native.Mathlib.Omega.{arith}
-use mathlib.Core.Path.{_≡_, sym, _∙_}
+use mathlib.Core.Path.{sym, _∙_}
 use denote.Ref.{now}
-use lib.ListN.{length}
 use Rattle.log.proofs.Records.{wrote-bytes}
 use Rattle.calls.proofs.Keys.{stored-none, stored-some}
 use borrow.Author.Needs.{needs}

@@ -1,7 +1,7 @@
 -- `calls::key::with_entry` meets its contract: the value is copied into an array of zeros.
 -- Assumes nothing.
 use native.Mathlib.Omega.{arith}
-use mathlib.Core.Path.{_≡_, _∙_}
+use mathlib.Core.Path.{_∙_}
 use denote.Ref.{now}
 use Rattle.calls.proofs.Keys.{copied-padded}
 use borrow.Author.Needs.{needs}

@@ -3,14 +3,10 @@
 use native.Mathlib.Omega.{arith}
 use mathlib.Core.Path.{_≡_, sym, _∙_, ap}
 use Prim.Native.Nat.{_≤_}
-use lib.ListN.{length, take, drop, length-take}
+use lib.ListN.{length, length-take}
 use Rattle.text.proofs.Parts.{rest-part}
-use Rattle.items.specs.Items.{itemOf}
 use Rattle.kinds.specs.Kinds.{passes}
 use Rattle.cif.specs.Line.{splitOf, splitClass, namedClass}
-use Rattle.items.specs.declared.Named.{Named}
-use Rattle.items.specs.declared.Named.the-variants.{Item}
-use Rattle.cif.specs.declared.line.Split.{Split}
 use Rattle.cif.specs.declared.line.Split.the-variants.{Parts}
 use Rattle.cif.proofs.Splits.{split-within}
 use borrow.Author.Needs.{needs}

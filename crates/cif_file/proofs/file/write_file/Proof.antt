@@ -9,7 +9,6 @@ use denote.Ref.{now}
 use Rattle.soundness.specs.Sound.{soundDesk}
 use Rattle.block_name.specs.Block.{isBlockName}
 use Rattle.block_name.proofs.Blocks.{block-short}
-use Rattle.cif_file.specs.Answers.{fileStep}
 use Rattle.cif_file.proofs.Files.{file-length}
 use Rattle.cif_file.proofs.Steps.{step-unsound, step-bad-name, step-no-room, step-written}
 use Rattle.cif_file.proofs.file.write_file.Statement.{statement}

@@ -1,6 +1,5 @@
 -- `one_call::number::call_number` meets its contract: eight bytes, the last the greatest.
 -- Assumes nothing.
-use mathlib.Core.Path.{_≡_, _∙_}
 use denote.Ref.{now}
 use Rattle.one_call.proofs.Numbers.{number-after}
 use borrow.Author.Needs.{needs}

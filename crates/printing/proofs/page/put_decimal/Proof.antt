@@ -1,7 +1,7 @@
 -- `printing::page::put_decimal` meets its contract. The loop's invariant: the digits of what is left of the number, and then those set from i on, are
 -- the number's. The measure is i. Assumes nothing.
 use native.Mathlib.Omega.{arith}
-use mathlib.Core.Path.{_≡_, refl, sym, ap, _∙_}
+use mathlib.Core.Path.{_≡_, sym, ap, _∙_}
 use mathlib.Core.List.{List, _++_, append-nil}
 use Prim.Native.Nat.{ℕ, suc, _≤_, _<_, _-_, _%_}
 use lib.ListN.{length, take, drop, set, length-set, length-drop, length-take}

@@ -2,7 +2,6 @@
 -- Assumes nothing.
 use mathlib.Core.Path.{sym, _∙_, ap}
 use borrow.Author.Tests.{not-true, not-false}
-use Rattle.rows.specs.declared.Rows.{Rows}
 use Rattle.questions.specs.Report.{reportedAs, reportedOf}
 use Rattle.answers.specs.declared.Asked.the-variants.{Answered, Unsound}
 use borrow.Author.Needs.{needs}

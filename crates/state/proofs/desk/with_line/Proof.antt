@@ -7,7 +7,6 @@ use lib.ListN.{length, length-map}
 use lib.Seq.{set-out}
 use Rattle.state.specs.Desks.{benchCount}
 use Rattle.state.specs.declared.line.Line.{Line}
-use Rattle.state.specs.declared.desk.Desk.{Desk}
 use borrow.Author.Needs.{needs}
 use Rattle.state.proofs.desk.with_line.Statement.{statement}
 use Rattle.state.proofs.desk.with_line.Tie as tie
