@@ -8,9 +8,8 @@ use Prim.Native.Nat.{ℕ, _+_, _≤_}
 use borrow.Author.Tests.{not-true, not-false}
 use lib.Dec.{leb}
 use lib.ListN.{length}
-use Rattle.kinds.specs.Kinds.{fits}
+use Rattle.kinds.specs.Kinds.{passes, fits}
 use Rattle.items.specs.Items.{itemCount}
-use Rattle.kinds.specs.Kinds.{passes}
 use Rattle.items.specs.Typed.{lineMost}
 use Rattle.items.proofs.NameTable.{name-of, name-short}
 use Rattle.kinds.proofs.Passes.{passes-known}
