@@ -5,7 +5,7 @@ use mathlib.Core.List.{List, [], _∷_, map}
 use Prim.Native.String.{String}
 use lib.IntN.{pos, negsuc}
 use Rattle.text.specs.Quote.{bytes}
-use Rattle.text.specs.Run.{between, runOf, hasAt}
+use Rattle.text.specs.Run.{between, runOf, hasAt, kindAt}
 use Rattle.decimal.specs.Digits.{valueFrom}
 use Rattle.decimal.specs.Reading.{closes, isTail, sizeOf, pointedOf, unsignedOf, readingOf}
 use Rattle.decimal.specs.declared.Reading.{Reading}
@@ -43,5 +43,5 @@ vectors =
     ("" reads Nothing) ∷ []
 
 pub vectors-hold : map (λ (x : Vector). readingOf (bytes (x .typed))) vectors ≡ map (λ (x : Vector). x .read) vectors
-unfolding vectors readingOf unsignedOf pointedOf sizeOf isTail closes runOf hasAt between valueFrom
+unfolding vectors readingOf unsignedOf pointedOf sizeOf isTail closes runOf hasAt kindAt between valueFrom
 vectors-hold = refl

@@ -5,9 +5,9 @@ use mathlib.Core.Bool.{Bool, true, false}
 use mathlib.Core.List.{List, [], _∷_, map}
 use Prim.Native.String.{String}
 use Rattle.text.specs.Quote.{bytes}
-use Rattle.text.specs.Run.{between, all}
+use Rattle.text.specs.Run.{between, all, kindAt}
 use Rattle.decimal.specs.Digits.{valueFrom}
-use Rattle.terms.specs.Term.{kindAt, isCount, countOf, termOf}
+use Rattle.terms.specs.Term.{isCount, countOf, termOf}
 use Rattle.terms.specs.Terms.{cut, some}
 use Rattle.elements.specs.Elements.{sameSymbol, placeOf, symbols, elementOf, isElement, notMetals, isMetal, weights, weightIn, weightOf}
 use Rattle.formula.specs.Recognised.{allRecognised}

@@ -2,7 +2,7 @@
 -- Assumes nothing.
 use mathlib.Core.Path.{_≡_, refl}
 use mathlib.Core.List.{map}
-use Rattle.text.specs.Run.{between, other, runOf, all, hasAt}
+use Rattle.text.specs.Run.{between, other, runOf, all, hasAt, kindAt}
 use Rattle.equality.specs.Same.{lower, sameBy, beginsFolded}
 use Rattle.decimal.specs.Digits.{valueFrom}
 use Rattle.decimal.specs.Reading.{closes, isTail, sizeOf, pointedOf, unsignedOf, readingOf, isNumber}
@@ -10,7 +10,7 @@ use Rattle.quotes.specs.Quoted.{isQuotedBy, isQuoted, textOf}
 use Rattle.values.specs.Value.{mayBegin, isReserved, isBare, isValue, isUnassigned}
 use Rattle.items.specs.Items.{items, findFrom}
 use Rattle.cif.specs.Line.{splitOf, classOf}
-use Rattle.terms.specs.Term.{kindAt, isCount, countOf, termOf}
+use Rattle.terms.specs.Term.{isCount, countOf, termOf}
 use Rattle.terms.specs.Terms.{cut, some}
 use Rattle.elements.specs.Elements.{sameSymbol, placeOf, symbols, elementOf, isElement, notMetals, isMetal, weights, weightIn, weightOf}
 use Rattle.formula.specs.Recognised.{allRecognised}

@@ -9,10 +9,10 @@ use native.Mathlib.Omega.{arith}
 use borrow.Author.Tests.{leb-true}
 use lib.Dec.{leb, eqb}
 use lib.ListN.{length, getD, drop}
-use Rattle.text.specs.Run.{all, isDigit, isCapital, isSmall}
+use Rattle.text.specs.Run.{all, isDigit, isCapital, isSmall, kindAt}
 use Rattle.text.proofs.Bools.{and-both, cond-first}
 use Rattle.decimal.specs.Digits.{valueOf}
-use Rattle.terms.specs.Term.{mostCount, kindAt, isCount, countOf, counted, termOf}
+use Rattle.terms.specs.Term.{mostCount, isCount, countOf, counted, termOf}
 use Rattle.terms.specs.Terms.{termsOf}
 use Rattle.elements.specs.Elements.{isElement, weightOf, heaviest}
 use Rattle.elements.proofs.Weights.{weight-known}

@@ -8,7 +8,7 @@ use native.Mathlib.Omega.{arith}
 use borrow.Author.Tests.{leb-true}
 use lib.Dec.{leb}
 use lib.ListN.{length, getD, replicate, getD-replicate, List·getD-map}
-use Rattle.text.specs.Run.{all, between, other, hasAt}
+use Rattle.text.specs.Run.{all, between, other, hasAt, kindAt}
 use Rattle.equality.specs.Same.{lower, sameBy, sameFolded}
 use Rattle.equality.proofs.Sames.{same→map, same-cong}
 use Rattle.text.proofs.Tables.{agree}
@@ -88,7 +88,7 @@ module _ (k : ℕ) (some : 1 ≤ k) (known : k ≤ itemCount) where
   name-typed = holds-at (λ (r : ItemRow). all isTyped (r .name)) refl k some known
 
   pub name-first : hasAt (itemRow k .name) 0 95 ≡ true
-  unfolding items hasAt
+  unfolding items hasAt kindAt
   name-first = holds-at (λ (r : ItemRow). hasAt (r .name) 0 95) refl k some known
 
   pub name-unspaced : all (other 32) (itemRow k .name) ≡ true

@@ -7,9 +7,9 @@ use Prim.Native.Nat.{ℕ, _<_}
 use borrow.Author.Tests.{ltb-true}
 use lib.Dec.{ltb}
 use lib.ListN.{length, getD, drop}
-use Rattle.text.specs.Run.{isCapital, isSmall}
+use Rattle.text.specs.Run.{isCapital, isSmall, kindAt}
 use Rattle.text.proofs.Bools.{and-both}
-use Rattle.terms.specs.Term.{kindAt, countOf, counted, termOf}
+use Rattle.terms.specs.Term.{countOf, counted, termOf}
 use Rattle.terms.specs.declared.term.Term.the-variants.{Ill}
 
 pub kind-within : (p : ℕ → Bool) (s : List ℕ) (at : ℕ) → kindAt p s at ≡ true → at < length s

@@ -8,12 +8,12 @@ use native.Mathlib.Omega.{arith}
 use borrow.Author.Tests.{leb-true, eqb-true, eqb-false, le-leb, lt-leb, lt-ltb, ne-eqb, not-true}
 use lib.Dec.{leb, ltb, eqb}
 use lib.ListN.{length, getD}
-use Rattle.text.specs.Run.{between, other, all, isDigit, isCapital, isSmall}
+use Rattle.text.specs.Run.{between, other, all, isDigit, isCapital, isSmall, kindAt}
 use Rattle.text.proofs.Bools.{and-both}
 use Rattle.text.proofs.Runs.{run-all}
 use Rattle.decimal.specs.Digits.{valueFrom, valueOf}
 use Rattle.decimal.proofs.Digits.{first-digit}
-use Rattle.terms.specs.Term.{mostCount, kindAt, isCount, countOf, counted, termOf}
+use Rattle.terms.specs.Term.{mostCount, isCount, countOf, counted, termOf}
 use Rattle.terms.specs.Terms.{attach, cut}
 use Rattle.terms.specs.Grammar.{SymbolText, capital, capital-small, CountText, none, written, IsTerm, joined, spaceless}
 use Rattle.terms.specs.declared.term.Count.{Count}

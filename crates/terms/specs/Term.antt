@@ -3,9 +3,9 @@
 use Prim.Native.Nat.{ℕ}
 use mathlib.Core.Bool.{Bool, cond, _&&_, not}
 use mathlib.Core.List.{List}
-use lib.Dec.{leb, ltb, eqb}
+use lib.Dec.{leb, eqb}
 use lib.ListN.{length, getD, drop}
-use Rattle.text.specs.Run.{all, isDigit, isCapital, isSmall}
+use Rattle.text.specs.Run.{all, kindAt, isDigit, isCapital, isSmall}
 use Rattle.decimal.specs.Digits.{valueOf}
 use Rattle.terms.specs.declared.term.Count.{Count}
 use Rattle.terms.specs.declared.term.Count.the-variants.{Times, NoCount}
@@ -15,10 +15,6 @@ use Rattle.terms.specs.declared.term.Term.the-variants.{Well, Ill}
 -- "a count 1 to 9999"
 abbrev pub mostCount : ℕ
 mostCount = 9999
-
--- a byte of the kind p stands in a text at that place
-unfoldable pub kindAt : (ℕ → Bool) → List ℕ → ℕ → Bool
-kindAt p s at = ltb at (length s) && p (getD s at 0)
 
 -- "a count 1 to 9999 without leading zero"
 unfoldable pub isCount : List ℕ → Bool

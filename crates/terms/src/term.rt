@@ -1,7 +1,7 @@
 // One term of a formula: a symbol and a count.
 ghost use mathlib.Core.Path.{_≡_};
-ghost use Rattle.text.specs.Run.{between};
-ghost use Rattle.terms.specs.Term.{kindAt, countOf, counted, termOf};
+ghost use Rattle.text.specs.Run.{between, kindAt};
+ghost use Rattle.terms.specs.Term.{countOf, counted, termOf};
 
 // What the text after a symbol counts: so many, or that it is no count.
 pub enum Count {

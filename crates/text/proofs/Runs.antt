@@ -11,7 +11,7 @@ use borrow.Author.Tests.{lt-ltb, ltb-true, eq-eqb, eqb-true}
 use lib.Dec.{ltb, eqb, eqb·suc-suc, eqb·zero-suc}
 use lib.ListN.{length, getD, take, drop, replicate, drop-of-length-le, take-append-drop}
 use lib.Seq.{drop-cons, length-take-le, take-suc, take-all}
-use Rattle.text.specs.Run.{runOf, all, other, hasAt}
+use Rattle.text.specs.Run.{runOf, all, other, hasAt, kindAt}
 use Rattle.text.proofs.Bools.{and-both, not-holds}
 
 pub record Passed (p : ℕ → Bool) (s : List ℕ) (i : ℕ) : Type 0 where
@@ -88,15 +88,15 @@ run-none p b bs e = rw e
 
 -- `hasAt`, by its two tests
 pub has-here : (s : List ℕ) (at b : ℕ) → at < length s → getD s at 0 ≡ b → hasAt s at b ≡ true
-unfolding hasAt
+unfolding hasAt kindAt
 has-here s at b h e = simp (lt-ltb at (length s) h, eq-eqb (getD s at 0) b e)
 
 pub has-within : (s : List ℕ) (at b : ℕ) → hasAt s at b ≡ true → at < length s
-unfolding hasAt
+unfolding hasAt kindAt
 has-within s at b e = ltb-true _ _ (and-both (ltb at (length s)) _ e .0)
 
 pub has-byte : (s : List ℕ) (at b : ℕ) → hasAt s at b ≡ true → getD s at 0 ≡ b
-unfolding hasAt
+unfolding hasAt kindAt
 has-byte s at b e = eqb-true (getD s at 0) b (and-both (ltb at (length s)) _ e .1)
 
 -- `all`, of two texts together and of a text's parts

@@ -1,8 +1,7 @@
 -- `terms::term::between_at` meets its contract: each return has the tests of `kindAt` on its way.
 -- Assumes nothing.
 use borrow.Author.Tests.{lt-ltb, le-ltb, le-leb, lt-leb}
-use Rattle.text.specs.Run.{between}
-use Rattle.terms.specs.Term.{kindAt}
+use Rattle.text.specs.Run.{between, kindAt}
 use borrow.Author.Needs.{needs}
 use Rattle.terms.proofs.term.between_at.Statement.{statement}
 use Rattle.terms.proofs.term.between_at.Tie as tie

@@ -6,9 +6,9 @@ use mathlib.Core.Bool.{true}
 use Prim.Native.Nat.{_<_}
 use borrow.Author.Tests.{not-true, not-false}
 use lib.ListN.{length, getD}
-use Rattle.text.specs.Run.{isCapital, isSmall}
+use Rattle.text.specs.Run.{isCapital, isSmall, kindAt}
 use Rattle.text.proofs.Parts.{rest-part}
-use Rattle.terms.specs.Term.{kindAt, countOf, counted}
+use Rattle.terms.specs.Term.{countOf, counted}
 use Rattle.terms.proofs.TermCases.{kind-within, no-capital, two-letters, one-letter}
 use borrow.Author.Needs.{needs}
 use Rattle.terms.proofs.term.read_term.Statement.{statement}
