@@ -1,19 +1,18 @@
 -- The item lines of a written file: all that follows its first line.
 -- Assumes nothing.
 use mathlib.Core.Path.{_≡_, refl, sym, ap, _∙_}
-use mathlib.Core.Bool.{Bool, true, false, cond, _&&_, false≢true}
+use mathlib.Core.Bool.{Bool, true, false, cond, _&&_}
 use mathlib.Core.List.{List, [], _∷_, _++_, append-assoc}
 use Prim.Native.Nat.{ℕ, _+_}
-use borrow.Author.Tests.{eqb-true}
 use native.Mathlib.Omega.{arith}
-use lib.Dec.{leb, eqb}
+use lib.Dec.{leb}
 use lib.ListN.{length, drop}
 use lib.Seq.{take-at, drop-append-add}
 use Rattle.text.specs.Quote.{bytes}
 use Rattle.text.specs.Run.{all, between, other, runOf}
 use Rattle.copies.specs.Each.{linesFrom}
-use Rattle.text.proofs.Bools.{and-both, not-holds}
-use Rattle.text.proofs.Runs.{all-append, all-weaker, run-append, run-none}
+use Rattle.text.proofs.Bools.{and-both}
+use Rattle.text.proofs.Runs.{all-append, all-lack, run-append, run-none}
 use Rattle.soundness.specs.Sound.{soundDesk}
 use Rattle.state.specs.declared.desk.Desk.{Desk}
 use Rattle.block_name.specs.Block.{blockMost, isBlockByte, isBlockName}
@@ -27,18 +26,12 @@ use Rattle.round_trip.specs.RoundTrip.{itemLines, filedBytes}
 -- ---- the first line
 
 -- no byte of a block name ends a line
-block-byte : (b : ℕ) → isBlockByte b ≡ true → other 10 b ≡ true
-unfolding isBlockByte between other
-block-byte b h =
-    let e : eqb b 10 ≡ false = not-holds (eqb b 10) (λ q. false≢true (rw (eqb-true b 10 q) at h)) in
-    rw e
-
 block-line : (name : List ℕ) → isBlockName name ≡ true → all (other 10) (bytes "data_" ++ name) ≡ true
-unfolding isBlockName all other
+unfolding isBlockName isBlockByte between all other
 block-line name h =
     let k = and-both (leb 1 (length name)) (leb (length name) blockMost && all isBlockByte name) h in
     let g = and-both (leb (length name) blockMost) (all isBlockByte name) (k .1) in
-    all-append (other 10) (bytes "data_") name refl (all-weaker isBlockByte (other 10) block-byte name (g .1))
+    all-append (other 10) (bytes "data_") name refl (all-lack isBlockByte 10 refl name (g .1))
 
 -- what follows a line that byte 10 ends
 after-line : (line rest : List ℕ) → all (other 10) line ≡ true → itemLines ((line ++ (10 ∷ [])) ++ rest) ≡ rest

@@ -5,15 +5,15 @@ use mathlib.Core.Bool.{Bool, true, false, cond, _||_, and-false, false≢true}
 use mathlib.Core.List.{List, [], _∷_, _++_, map-id, append-assoc}
 use Prim.Native.Nat.{ℕ, _+_, _-_}
 use native.Mathlib.Omega.{arith}
-use borrow.Author.Tests.{le-leb, leb-true, eqb-true}
-use lib.Dec.{leb, eqb}
+use borrow.Author.Tests.{le-leb, leb-true}
+use lib.Dec.{leb}
 use lib.ListN.{length, getD, take, drop, length-append, take-append-drop}
 use lib.Seq.{take-append-seam, drop-append-seam, drop-append-add, drop-drop, getD-append-seam}
 use lib.IntN.{pos, negsuc, negℤ}
 use Rattle.text.specs.Quote.{bytes}
 use Rattle.text.specs.Run.{all, between, other, hasAt, isDigit}
-use Rattle.text.proofs.Bools.{and-both, not-holds}
-use Rattle.text.proofs.Runs.{all-append, all-weaker, lacks-nowhere, has-here}
+use Rattle.text.proofs.Bools.{and-both}
+use Rattle.text.proofs.Runs.{all-append, all-lack, lacks-nowhere, has-here}
 use Rattle.equality.specs.Same.{exact, sameBy}
 use Rattle.equality.proofs.Sames.{map→same, same→map}
 use Rattle.decimal.specs.Reading.{readingOf}
@@ -72,8 +72,8 @@ shape-is p q t e =
 
 -- neither a digit nor a point is the bracket that closes
 digits-lack : (ds : List ℕ) → all isDigit ds ≡ true → all (other 41) ds ≡ true
-unfolding between other
-digits-lack ds a = all-weaker isDigit (other 41) (λ b h. let e = not-holds (eqb b 41) (λ q. false≢true (rw (eqb-true b 41 q) at h)) in rw e) ds a
+unfolding between
+digits-lack ds a = all-lack isDigit 41 refl ds a
 
 point-lacks : {pointed after : List ℕ} → all isDigit after ≡ true → PointText pointed after → all (other 41) pointed ≡ true
 unfolding all other
