@@ -24,7 +24,6 @@ use Rattle.soundness.specs.Sound.{soundLine, soundLines, soundDesk}
 use Rattle.sound_log.specs.SoundLog.{logMost, soundLog}
 use Rattle.state.specs.declared.line.Line.{Line}
 use Rattle.state.specs.declared.desk.Desk.{Desk}
-use Rattle.answers.specs.declared.Answer.the-variants as answer
 use Rattle.soundness.proofs.Everys.{every-each}
 use Rattle.calls.specs.Key.{After, refused, entered, stored}
 use Rattle.calls.specs.Ready.{Ready}
@@ -53,17 +52,17 @@ module _ (d : Desk) (used : ℕ) (log : List ℕ) (bench item : ℕ) (v last : L
 
   -- it had no room, and nothing changed
   pub stored-none : writtenOf (midOf used (length log - used) log) v ≡ NoRoom
-      → _≡_ {A = After} (record { answer = answer.NoRoom; desk = d; used = used; log = putMid used (length log - used) log last }) (stored d used log bench item v)
+      → _≡_ {A = After} (record { answer = 8; desk = d; used = used; log = putMid used (length log - used) log last }) (stored d used log bench item v)
   unfolding stored freeAfter
   stored-none e =
       let no = wrote-none (midOf used (length log - used) log) v e in
       let same : putMid used (length log - used) log last ≡ log
       = tail-back used log last ∙ ap (λ (f : List ℕ). take used log ++ f) (back ∙ simp no (tail-lent used log)) ∙ take-append-drop used log in
-      simp (room false no) (ap (λ (l : List ℕ). refused answer.NoRoom d used l) same)
+      simp (room false no) (ap (λ (l : List ℕ). refused 8 d used l) same)
 
   -- it had room: the record stands at the first unused byte
   pub stored-some : (n : ℕ) (next : Desk) → next ≡ entered d bench item v → writtenOf (midOf used (length log - used) log) v ≡ Bytes n
-      → _≡_ {A = After} (record { answer = answer.Accepted; desk = next; used = used + n; log = putMid used (length log - used) log last }) (stored d used log bench item v)
+      → _≡_ {A = After} (record { answer = 0; desk = next; used = used + n; log = putMid used (length log - used) log last }) (stored d used log bench item v)
   unfolding stored freeAfter
   stored-some n next e w =
       let k = wrote-bytes (midOf used (length log - used) log) v n w in

@@ -13,14 +13,15 @@ use Rattle.state.specs.declared.desk.Desk.{Desk}
 use Rattle.block_name.specs.Block.{isBlockName}
 use Rattle.cif_file.specs.File.{fileOf}
 use Rattle.cif_file.specs.Answers.{after, refused, fileStep}
+use Rattle.file_answers.specs.Number.{fileNumber}
 use Rattle.file_answers.specs.declared.FileAnswer.{FileAnswer}
 use Rattle.file_answers.specs.declared.FileAnswer.the-variants.{Written, Unsound, BadBlockName, NoRoom}
 use Rattle.cif_file.specs.declared.file.Filed.{Filed}
 
 -- a refusal's result
-refused-is : (r : Filed) (a : FileAnswer) (out : List ℕ) → (r .answer ≡ a) × (r .count ≡ 0) → after r out ≡ refused a out
+refused-is : (r : Filed) (a : FileAnswer) (out : List ℕ) → (r .answer ≡ a) × (r .count ≡ 0) → after r out ≡ refused (fileNumber a) out
 refused-is r a out e =
-    ap (λ (x : FileAnswer). record { answer = x; count = r .count; out = out }) (e .0) ∙ ap (λ (n : ℕ). record { answer = a; count = n; out = out }) (e .1)
+    ap (λ (x : FileAnswer). record { answer = fileNumber x; count = r .count; out = out }) (e .0) ∙ ap (λ (n : ℕ). record { answer = fileNumber a; count = n; out = out }) (e .1)
 
 module _ (d : Desk) (name out : List ℕ) (r : Filed) where
   pub step-unsound : soundDesk d ≡ false → (r .answer ≡ Unsound) × (r .count ≡ 0) → after r out ≡ fileStep d name out
@@ -43,7 +44,7 @@ module _ (d : Desk) (name out : List ℕ) (r : Filed) where
       step-written {last} h e a n =
           let file = fileOf name (d .sheet) in
           let bytes = e ∙ copied-start out file h in
-          ap (λ (x : FileAnswer). record { answer = x; count = r .count; out = last }) a
-          ∙ ap (λ (m : ℕ). record { answer = Written; count = m; out = last }) n
-          ∙ ap (λ (l : List ℕ). record { answer = Written; count = length file; out = l }) bytes
+          ap (λ (x : FileAnswer). record { answer = fileNumber x; count = r .count; out = last }) a
+          ∙ ap (λ (m : ℕ). record { answer = 0; count = m; out = last }) n
+          ∙ ap (λ (l : List ℕ). record { answer = 0; count = length file; out = l }) bytes
           ∙ simp (s, b, le-leb (length file) (length out) h)

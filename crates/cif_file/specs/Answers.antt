@@ -9,33 +9,32 @@ use Rattle.soundness.specs.Sound.{soundDesk}
 use Rattle.state.specs.declared.desk.Desk.{Desk}
 use Rattle.block_name.specs.Block.{isBlockName}
 use Rattle.cif_file.specs.File.{fileOf}
-use Rattle.file_answers.specs.declared.FileAnswer.{FileAnswer}
-use Rattle.file_answers.specs.declared.FileAnswer.the-variants.{Written, Unsound, BadBlockName, NoRoom}
+use Rattle.file_answers.specs.Number.{fileNumber}
 use Rattle.cif_file.specs.declared.file.Filed.{Filed}
 
--- everything that writing leaves: the answer, "how many bytes it wrote", and the whole of the lent bytes
+-- everything that writing leaves: the answer's number, "how many bytes it wrote", and the whole of the lent bytes
 pub record After : Type 0 where
-  pub answer : FileAnswer
+  pub answer : ℕ
   pub count : ℕ
   pub out : List ℕ
 
 -- the function's result and what the lent bytes then hold
 abbrev pub after : Filed → List ℕ → After
-after r out = record { answer = r .answer; count = r .count; out = out }
+after r out = record { answer = fileNumber (r .answer); count = r .count; out = out }
 
 -- "with a refusal, 0 and none at all"
-abbrev pub refused : FileAnswer → List ℕ → After
+abbrev pub refused : ℕ → List ℕ → After
 refused a out = record { answer = a; count = 0; out = out }
 
 -- "It says how many bytes it wrote and touches none after them"
 abbrev pub written : List ℕ → List ℕ → After
-written file out = record { answer = Written; count = length file; out = file ++ drop (length file) out }
+written file out = record { answer = 0; count = length file; out = file ++ drop (length file) out }
 
 -- the file in the lent bytes; no room "exactly when the whole file is longer than the lent bytes"
 abbrev pub writtenIn : List ℕ → List ℕ → After
-writtenIn file out = cond (leb (length file) (length out)) (written file out) (refused NoRoom out)
+writtenIn file out = cond (leb (length file) (length out)) (written file out) (refused 10 out)
 
 -- "Refusal numbers .. each given exactly when its condition is the first that applies"
 unfoldable pub fileStep : Desk → List ℕ → List ℕ → After
 fileStep d name out =
-    cond (soundDesk d) (cond (isBlockName name) (writtenIn (fileOf name (d .sheet)) out) (refused BadBlockName out)) (refused Unsound out)
+    cond (soundDesk d) (cond (isBlockName name) (writtenIn (fileOf name (d .sheet)) out) (refused 11 out)) (refused 2 out)

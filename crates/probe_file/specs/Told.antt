@@ -3,7 +3,6 @@
 use Prim.Native.Nat.{ℕ}
 use mathlib.Core.List.{List}
 use Rattle.cif_file.specs.Answers.{After}
-use Rattle.file_answers.specs.Number.{fileNumber}
 use Rattle.probe_file.specs.declared.ProbeFiled.{ProbeFiled}
 
 pub record FileTold : Type 0 where
@@ -17,4 +16,4 @@ told r out = record { answer = r .answer; count = r .count; out = out }
 
 -- the same of the definition
 abbrev pub numbered : After → FileTold
-numbered a = record { answer = fileNumber (a .answer); count = a .count; out = a .out }
+numbered a = record { answer = a .answer; count = a .count; out = a .out }

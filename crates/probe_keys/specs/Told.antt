@@ -2,7 +2,6 @@
 -- Assumes nothing.
 use Prim.Native.Nat.{ℕ}
 use mathlib.Core.List.{List}
-use Rattle.answers.specs.Number.{answerNumber}
 use Rattle.state.specs.declared.desk.Desk.{Desk}
 use Rattle.calls.specs.Key.{After}
 use Rattle.probe_keys.specs.declared.ProbeKeyed.{ProbeKeyed}
@@ -19,4 +18,4 @@ told r log = record { answer = r .answer; desk = r .desk; used = r .used; log = 
 
 -- the same of the definition
 abbrev pub numbered : After → KeyTold
-numbered a = record { answer = answerNumber (a .answer); desk = a .desk; used = a .used; log = a .log }
+numbered a = record { answer = a .answer; desk = a .desk; used = a .used; log = a .log }

@@ -1,19 +1,27 @@
 -- The report (document 01, "Keys and their refusals", "Two questions").
 -- Assumes nothing.
+use Prim.Native.Nat.{ℕ}
 use mathlib.Core.Bool.{cond}
 use Rattle.soundness.specs.Sound.{soundDesk}
 use Rattle.state.specs.declared.desk.Desk.{Desk}
 use Rattle.rows.specs.Rows.{noRows}
 use Rattle.alerts.specs.Sheet.{rowsOf}
 use Rattle.rows.specs.declared.Rows.{Rows}
-use Rattle.answers.specs.declared.Asked.{Asked}
-use Rattle.answers.specs.declared.Asked.the-variants.{Answered, Unsound}
+use Rattle.answers.specs.Number.{askedNumber}
 use Rattle.questions.specs.declared.report.Reported.{Reported}
 
--- an answer and rows
-abbrev pub reportedAs : Asked → Rows → Reported
+-- a report: the number of its answer, and rows
+pub record Report : Type 0 where
+  pub answer : ℕ
+  pub rows : Rows
+
+abbrev pub reportedAs : ℕ → Rows → Report
 reportedAs a rows = record { answer = a; rows = rows }
 
+-- the function's result
+abbrev pub reportIn : Reported → Report
+reportIn r = reportedAs (askedNumber (r .answer)) (r .rows)
+
 -- "Report gives twelve rows; on an unsound desk it gives 2 and rows all level 0, reason 0"
-unfoldable pub reportedOf : Desk → Reported
-reportedOf d = cond (soundDesk d) (reportedAs Answered (rowsOf (d .sheet))) (reportedAs Unsound noRows)
+unfoldable pub reportedOf : Desk → Report
+reportedOf d = cond (soundDesk d) (reportedAs 0 (rowsOf (d .sheet))) (reportedAs 2 noRows)

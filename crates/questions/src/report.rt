@@ -1,6 +1,6 @@
 // The report: the twelve rows of the sheet.
 ghost use mathlib.Core.Path.{_≡_};
-ghost use Rattle.questions.specs.Report.{reportedOf};
+ghost use Rattle.questions.specs.Report.{reportIn, reportedOf};
 use answers::Asked;
 use rows::Rows;
 use state::desk::Desk;
@@ -13,7 +13,7 @@ pub struct Reported {
 
 // The report of a desk.
 pub fn report(d: Desk) -> Reported
-    ensures { λ r. ⌜ r ≡ reportedOf d ⌝ }
+    ensures { λ r. ⌜ reportIn r ≡ reportedOf d ⌝ }
 {
     if !soundness::is_sound(d) {
         let none = rows::no_rows();

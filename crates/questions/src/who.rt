@@ -1,6 +1,7 @@
 // Who typed an item.
 ghost use mathlib.Core.Path.{_≡_};
-ghost use Rattle.questions.specs.Who.{nobody, toldOf, whoOf};
+ghost use Rattle.questions.specs.Who.{whoIn, nobody, toldOf, whoOf};
+ghost use Rattle.answers.specs.Number.{askedNumber};
 use answers::Asked;
 use items::ITEM_COUNT;
 use state::desk::Desk;
@@ -15,7 +16,7 @@ pub struct Told {
 }
 
 fn tell_nobody(answer: Asked) -> Told
-    ensures { λ r. ⌜ r ≡ nobody answer ⌝ }
+    ensures { λ r. ⌜ whoIn r ≡ nobody (askedNumber answer) ⌝ }
 {
     Told {
         answer,
@@ -25,7 +26,7 @@ fn tell_nobody(answer: Asked) -> Told
 }
 
 fn tell(i: Item) -> Told
-    ensures { λ r. ⌜ r ≡ toldOf i ⌝ }
+    ensures { λ r. ⌜ whoIn r ≡ toldOf i ⌝ }
 {
     if i.len == 0 {
         return tell_nobody(Asked::Answered);
@@ -41,7 +42,7 @@ fn tell(i: Item) -> Told
 
 // Who typed the item of that number.
 pub fn who(d: Desk, item: u64) -> Told
-    ensures { λ r. ⌜ r ≡ whoOf d item ⌝ }
+    ensures { λ r. ⌜ whoIn r ≡ whoOf d item ⌝ }
 {
     if !soundness::is_sound(d) {
         return tell_nobody(Asked::Unsound);

@@ -3,13 +3,10 @@
 use Prim.Native.Nat.{ℕ, _+_, _*_, _-_}
 use mathlib.Core.List.{List, [], _∷_, _++_, flatMap}
 use lib.ListN.{replicate}
-use Rattle.answers.specs.Number.{answerNumber, askedNumber}
-use Rattle.answers.specs.declared.Answer.{Answer}
 use Rattle.rows.specs.Rows.{rowCount}
 use Rattle.rows.specs.declared.Row.{Row}
 use Rattle.rows.specs.declared.Rows.{Rows}
-use Rattle.answers.specs.declared.Asked.{Asked}
-use Rattle.questions.specs.declared.who.Told.{Told}
+use Rattle.questions.specs.Who.{Who}
 use Rattle.little_endian.specs.Number.{numberLength, numberBytes}
 
 -- the bytes of an answer: its number, and room for the twelve rows
@@ -20,13 +17,13 @@ abbrev pub rowBytes : Row → List ℕ
 rowBytes r = r .level ∷ r .reason ∷ []
 
 -- of a key: its number, and zeros
-abbrev pub keyBytes : Answer → List ℕ
-keyBytes a = answerNumber a ∷ replicate (replyLength - 1) 0
+abbrev pub keyBytes : ℕ → List ℕ
+keyBytes a = a ∷ replicate (replyLength - 1) 0
 
 -- of Report: its number, and the rows
-abbrev pub reportBytes : Asked → Rows → List ℕ
-reportBytes a rows = askedNumber a ∷ flatMap rowBytes (rows .rows)
+abbrev pub reportBytes : ℕ → Rows → List ℕ
+reportBytes a rows = a ∷ flatMap rowBytes (rows .rows)
 
 -- of Who: its number, the bench, the entry number, and zeros
-abbrev pub whoBytes : Told → List ℕ
-whoBytes t = askedNumber (t .answer) ∷ t .bench ∷ (numberBytes (t .entry) ++ replicate (replyLength - (2 + numberLength)) 0)
+abbrev pub whoBytes : Who → List ℕ
+whoBytes t = t .answer ∷ t .bench ∷ (numberBytes (t .entry) ++ replicate (replyLength - (2 + numberLength)) 0)

@@ -1,5 +1,7 @@
 // A call's whole answer in bytes.
 ghost use mathlib.Core.Path.{_≡_};
+ghost use Rattle.answers.specs.Number.{answerNumber, askedNumber};
+ghost use Rattle.questions.specs.Who.{whoIn};
 ghost use Rattle.replies.specs.ReplyBytes.{keyBytes, reportBytes, whoBytes};
 use answers::Answer;
 use answers::answer_number;
@@ -13,7 +15,7 @@ pub const REPLY_BYTES: usize = 1 + 2 * ROW_COUNT;
 
 // The answer of a key call.
 pub fn key_reply(a: Answer) -> [u8; REPLY_BYTES]
-    ensures { λ r. ⌜ r ≡ keyBytes a ⌝ }
+    ensures { λ r. ⌜ r ≡ keyBytes (answerNumber a) ⌝ }
 {
     let mut bytes = [0u8; REPLY_BYTES];
     bytes[0] = answer_number(a);
@@ -22,7 +24,7 @@ pub fn key_reply(a: Answer) -> [u8; REPLY_BYTES]
 
 // The answer of Report: its rows, each as level and reason.
 pub fn report_reply(p: Reported) -> [u8; REPLY_BYTES]
-    ensures { λ r. ⌜ r ≡ reportBytes (p .answer) (p .rows) ⌝ }
+    ensures { λ r. ⌜ r ≡ reportBytes (askedNumber (p .answer)) (p .rows) ⌝ }
 {
     let answer = p.answer;
     let rows = p.rows;
@@ -40,7 +42,7 @@ pub fn report_reply(p: Reported) -> [u8; REPLY_BYTES]
 
 // The answer of Who: the bench and the entry number.
 pub fn who_reply(t: Told) -> [u8; REPLY_BYTES]
-    ensures { λ r. ⌜ r ≡ whoBytes t ⌝ }
+    ensures { λ r. ⌜ r ≡ whoBytes (whoIn t) ⌝ }
 {
     let answer = t.answer;
     let entry = number_bytes(t.entry as u64);

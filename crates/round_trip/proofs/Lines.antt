@@ -17,10 +17,7 @@ use Rattle.soundness.specs.Sound.{soundDesk}
 use Rattle.state.specs.declared.desk.Desk.{Desk}
 use Rattle.block_name.specs.Block.{blockMost, isBlockByte, isBlockName}
 use Rattle.cif_file.specs.File.{itemLine, fileOf}
-use Rattle.file_answers.specs.Number.{fileNumber}
 use Rattle.cif_file.specs.Answers.{After, refused, written, writtenIn, fileStep}
-use Rattle.file_answers.specs.declared.FileAnswer.{FileAnswer}
-use Rattle.file_answers.specs.declared.FileAnswer.the-variants.{Written, Unsound, BadBlockName, NoRoom}
 use Rattle.round_trip.specs.RoundTrip.{itemLines, filedBytes}
 
 -- ---- the first line
@@ -44,10 +41,10 @@ after-line line rest h =
 -- ---- the file, by the writer's answer
 
 -- what is not refused is a choice's first side
-not-refused : (b : Bool) (x : After) (a : FileAnswer) (out : List ℕ) → (fileNumber a ≡ 0 → ⊥) → cond b x (refused a out) .answer ≡ Written
+not-refused : (b : Bool) (x : After) (a : ℕ) (out : List ℕ) → (a ≡ 0 → ⊥) → cond b x (refused a out) .answer ≡ 0
     → (b ≡ true) × (cond b x (refused a out) ≡ x)
 not-refused true x a out n e = (refl, refl)
-not-refused false x a out n e = absurd (n (ap fileNumber e))
+not-refused false x a out n e = absurd (n e)
 
 -- what is known where the file was written
 pub record IsWritten (d : Desk) (name : List ℕ) (a : After) : Type 0 where
@@ -55,16 +52,16 @@ pub record IsWritten (d : Desk) (name : List ℕ) (a : After) : Type 0 where
   pub block : isBlockName name ≡ true
   pub file : filedBytes a ≡ fileOf name (d .sheet)
 
-pub is-written : (d : Desk) (name out : List ℕ) → fileStep d name out .answer ≡ Written → IsWritten d name (fileStep d name out)
+pub is-written : (d : Desk) (name out : List ℕ) → fileStep d name out .answer ≡ 0 → IsWritten d name (fileStep d name out)
 unfolding fileStep
 is-written d name out h =
     let file = fileOf name (d .sheet) in
-    let second = cond (isBlockName name) (writtenIn file out) (refused BadBlockName out) in
-    let s = not-refused (soundDesk d) second Unsound out (λ e. omega arith) h in
+    let second = cond (isBlockName name) (writtenIn file out) (refused 11 out) in
+    let s = not-refused (soundDesk d) second 2 out (λ e. omega arith) h in
     let h1 = ap (λ (a : After). a .answer) (sym (s .1)) ∙ h in
-    let b = not-refused (isBlockName name) (writtenIn file out) BadBlockName out (λ e. omega arith) h1 in
+    let b = not-refused (isBlockName name) (writtenIn file out) 11 out (λ e. omega arith) h1 in
     let h2 = ap (λ (a : After). a .answer) (sym (b .1)) ∙ h1 in
-    let r = not-refused (leb (length file) (length out)) (written file out) NoRoom out (λ e. omega arith) h2 in
+    let r = not-refused (leb (length file) (length out)) (written file out) 10 out (λ e. omega arith) h2 in
     record {
       sound = s .0;
       block = b .0;

@@ -24,8 +24,6 @@ use Rattle.items.proofs.Names.{name-typed}
 use Rattle.log.specs.Record.{recordLength}
 use Rattle.state.specs.Desks.{benchCount}
 use Rattle.sound_log.specs.SoundLog.{logMost}
-use Rattle.answers.specs.declared.Answer.{Answer}
-use Rattle.answers.specs.declared.Answer.the-variants.{Accepted}
 use Rattle.alerts.specs.Sheet.{rowsOf}
 use Rattle.rows.specs.declared.Rows.{Rows}
 use Rattle.sequence.specs.Calls.{Call, key, Reply, keyed, answered, final, typing}
@@ -58,13 +56,13 @@ module _ (len : ℕ) where
 
   -- from w the calls are all accepted, and leave v
   pub record Plays (w : Work) (cs : List Call) (v : Work) : Type 0 where
-    pub accepted : said w cs ≡ replicate (length cs) (keyed Accepted)
+    pub accepted : said w cs ≡ replicate (length cs) (keyed 0)
     pub left : final play w cs ≡ v
 
   pub plays-none : (w : Work) → Plays w [] w
   plays-none w = record { accepted = refl; left = refl }
 
-  plays-one : (c : Call) (w v : Work) → play c w .0 ≡ keyed Accepted → play c w .1 ≡ v → Plays w (c ∷ []) v
+  plays-one : (c : Call) (w v : Work) → play c w .0 ≡ keyed 0 → play c w .1 ≡ v → Plays w (c ∷ []) v
   plays-one c w v a l = record { accepted = ap (λ (r : Reply Rows). r ∷ []) a; left = l }
 
   pub plays-then : (cs ds : List Call) (u v w : Work) → Plays u cs v → Plays v ds w → Plays u (cs ++ ds) w
@@ -74,8 +72,8 @@ module _ (len : ℕ) where
             ap (map (λ p. p .1)) (answered-append play cs ds u)
             ∙ map-append (λ p. p .1) (answered play u cs) (answered play (final play u cs) ds)
             ∙ ap₂ (λ (a b : List (Reply Rows)). a ++ b) (p .accepted) (ap (λ (x : Work). said x ds) (p .left) ∙ q .accepted)
-            ∙ replicate-append-replicate (length cs) (length ds) (keyed Accepted)
-            ∙ ap (λ (n : ℕ). replicate n (keyed Accepted)) (sym (length-append cs ds));
+            ∙ replicate-append-replicate (length cs) (length ds) (keyed 0)
+            ∙ ap (λ (n : ℕ). replicate n (keyed 0)) (sym (length-append cs ds));
         left = final-append play cs ds u ∙ ap (λ (x : Work). final play x ds) (p .left) ∙ q .left;
       }
 
@@ -86,18 +84,18 @@ module _ (len : ℕ) where
     typed-is p es = getD-set-same (replicate benchCount []) bench p [] there
 
     -- a key that the table accepts
-    key-plays : (p q : List ℕ) (es fs : List Entry) (byte : ℕ) → tableAnswer len (length (recordsOf es)) p bench byte ≡ Accepted
-        → textAfter Accepted byte p ≡ q → entriesAfter Accepted bench byte p es ≡ fs → Plays (workOf bench p es) (key bench byte ∷ []) (workOf bench q fs)
+    key-plays : (p q : List ℕ) (es fs : List Entry) (byte : ℕ) → tableAnswer len (length (recordsOf es)) p bench byte ≡ 0
+        → textAfter 0 byte p ≡ q → entriesAfter 0 bench byte p es ≡ fs → Plays (workOf bench p es) (key bench byte ∷ []) (workOf bench q fs)
     key-plays p q es fs byte a t e =
         let u = length (recordsOf es) in
         let at = typed-is p es in
-        let a′ : tableAnswer len u (typedBy (workOf bench p es) bench) bench byte ≡ Accepted = ap (λ (x : List ℕ). tableAnswer len u x bench byte) at ∙ a in
+        let a′ : tableAnswer len u (typedBy (workOf bench p es) bench) bench byte ≡ 0 = ap (λ (x : List ℕ). tableAnswer len u x bench byte) at ∙ a in
         plays-one (key bench byte) (workOf bench p es) (workOf bench q fs) (ap keyed a′)
         (ap₂ (λ (l : List (List ℕ)) (fs : List Entry). record { typed = l; entries = fs })
-        (ap₂ (λ (y : Answer) (x : List ℕ). set (set (replicate benchCount []) bench p) bench (textAfter y byte x)) a′ at
-        ∙ set-set (replicate benchCount []) bench p (textAfter Accepted byte p)
+        (ap₂ (λ (y : ℕ) (x : List ℕ). set (set (replicate benchCount []) bench p) bench (textAfter y byte x)) a′ at
+        ∙ set-set (replicate benchCount []) bench p (textAfter 0 byte p)
         ∙ ap (set (replicate benchCount []) bench) t)
-        (ap₂ (λ (y : Answer) (x : List ℕ). entriesAfter y bench byte x es) a′ at ∙ e))
+        (ap₂ (λ (y : ℕ) (x : List ℕ). entriesAfter y bench byte x es) a′ at ∙ e))
 
     -- a byte that can be typed, on a line that is not full
     byte-plays : (p : List ℕ) (es : List Entry) (byte : ℕ) → isTyped byte ≡ true → length p < lineMost → Plays (workOf bench p es) (key bench byte ∷ []) (workOf bench (p ++ (byte ∷ [])) es)

@@ -18,10 +18,8 @@ use Rattle.state.specs.Desks.{benchCount}
 use Rattle.soundness.specs.Sound.{every, soundItem, soundLines, soundSheet, soundDesk}
 use Rattle.sound_log.specs.SoundLog.{logMost}
 use Rattle.state.specs.declared.desk.Desk.{Desk}
-use Rattle.answers.specs.declared.Answer.the-variants.{Accepted}
 use Rattle.cif_file.specs.File.{itemLine}
 use Rattle.cif_file.specs.Answers.{fileStep}
-use Rattle.file_answers.specs.declared.FileAnswer.the-variants.{Written}
 use Rattle.sequence.specs.Calls.{Call, keyed, typing}
 use Rattle.sequence.specs.Work.{Work, noWork, lastOf}
 use Rattle.sequence.proofs.Desk.{desk-sequences}
@@ -50,7 +48,7 @@ module _ (d : Desk) (bench : ℕ) (log : List ℕ) (all-items : length (d .sheet
   plays : Plays (length log) noWork keys (workOf bench [] (withItems bench 1 (d .sheet .items) []))
   plays = rw (fresh-work bench there) (items-play (length log) bench there small (d .sheet .count) (d .sheet .items) 0 [] (omega arith) (sound-items d sound) (omega arith))
 
-  lines-accepted : replies log keys ≡ replicate (length keys) (keyed Accepted)
+  lines-accepted : replies log keys ≡ replicate (length keys) (keyed 0)
   lines-accepted = ap (map (λ p. p .1)) (desk-sequences log keys .answers) ∙ plays .accepted
 
   lines-values : (k : ℕ) → 1 ≤ k → k ≤ itemCount → valueIn (itemAt (endOf log keys .desk .sheet) k) ≡ valueIn (itemAt (d .sheet) k)
@@ -67,13 +65,13 @@ module _ (d : Desk) (bench : ℕ) (log : List ℕ) (all-items : length (d .sheet
       ∙ zero-add (filledCount (d .sheet .items))
 
 -- The premise on the length of the items holds of every desk of the code, whose array has them all.
-pub round-trip : (d : Desk) (name out : List ℕ) (bench : ℕ) (log : List ℕ) → length (d .sheet .items) ≡ itemCount → fileStep d name out .answer ≡ Written
+pub round-trip : (d : Desk) (name out : List ℕ) (bench : ℕ) (log : List ℕ) → length (d .sheet .items) ≡ itemCount → fileStep d name out .answer ≡ 0
     → bench < benchCount → length log ≤ logMost → roomFor (d .sheet .items) ≤ length log → RoundTrip d (filedBytes (fileStep d name out)) bench log
 round-trip d name out bench log all-items answer there small room =
     let w = is-written d name out answer in
     let e = written-lines d name (fileStep d name out) w in
     record {
-      accepted = subst⁻¹ (λ (t : List ℕ). replies log (typing bench t) ≡ replicate (length (typing bench t)) (keyed Accepted)) e
+      accepted = subst⁻¹ (λ (t : List ℕ). replies log (typing bench t) ≡ replicate (length (typing bench t)) (keyed 0)) e
           (lines-accepted d bench log all-items (w .sound) there small room);
       values = λ k some known. ap (λ (t : List ℕ). valueIn (itemAt (endOf log (typing bench t) .desk .sheet) k)) e
           ∙ lines-values d bench log all-items (w .sound) there small room k some known;
@@ -81,7 +79,7 @@ round-trip d name out bench log all-items answer there small room =
     }
 
 -- A log with room for a record of the longest line for each item (860 bytes) has room for the records of every file that is written, so that each has its round trip.
-pub round-trip-roomy : (d : Desk) (name out : List ℕ) (bench : ℕ) (log : List ℕ) → length (d .sheet .items) ≡ itemCount → fileStep d name out .answer ≡ Written
+pub round-trip-roomy : (d : Desk) (name out : List ℕ) (bench : ℕ) (log : List ℕ) → length (d .sheet .items) ≡ itemCount → fileStep d name out .answer ≡ 0
     → bench < benchCount → (headLength + lineMost) * itemCount ≤ length log → length log ≤ logMost → RoundTrip d (filedBytes (fileStep d name out)) bench log
 round-trip-roomy d name out bench log all-items answer there long small =
     let most = room-most (d .sheet .count) 0 (d .sheet .items) (sound-items d (is-written d name out answer .sound)) in

@@ -13,7 +13,6 @@ use Rattle.items.specs.Items.{itemCount}
 use Rattle.state.specs.Sheets.{itemAt, valueIn}
 use Rattle.state.specs.declared.sheet.Item.{Item}
 use Rattle.state.specs.declared.desk.Desk.{Desk}
-use Rattle.answers.specs.declared.Answer.the-variants.{Accepted}
 use Rattle.log.specs.Record.{recordLength}
 use Rattle.rows.specs.Rows.{noRows}
 use Rattle.alerts.specs.Sheet.{rowsOf}
@@ -57,7 +56,7 @@ endOf log cs = stateAfter rowsOf noRows log cs
 
 pub record RoundTrip (d : Desk) (file : List ℕ) (bench : ℕ) (log : List ℕ) : Type 0 where
   -- every key is accepted, each line's Enter among them
-  pub accepted : replies log (lineKeys bench file) ≡ replicate (length (lineKeys bench file)) (keyed Accepted)
+  pub accepted : replies log (lineKeys bench file) ≡ replicate (length (lineKeys bench file)) (keyed 0)
   -- "every value is there again", and an item that was empty is empty
   pub values : (k : ℕ) → 1 ≤ k → k ≤ itemCount → valueIn (itemAt (endOf log (lineKeys bench file) .desk .sheet) k) ≡ valueIn (itemAt (d .sheet) k)
   -- one entry for each filled item, and no other

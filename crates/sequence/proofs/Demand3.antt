@@ -16,7 +16,6 @@ use Rattle.sound_log.specs.SoundLog.{soundLog}
 use Rattle.state.specs.declared.line.Line.{Line}
 use Rattle.state.specs.declared.sheet.Item.{Item}
 use Rattle.state.specs.declared.sheet.Sheet.{Sheet}
-use Rattle.answers.specs.declared.Answer.the-variants.{Accepted}
 use Rattle.sequence.specs.Calls.{Call, key, ask, report, who, keyed, State, step}
 use Rattle.sequence.specs.Gather.{gather, gatherAnswered}
 use Rattle.sequence.specs.Work.{Work, noWork, recordsOf, keyAnswer, workStep}
@@ -52,12 +51,12 @@ module _ {Rows : Type 0} (rowsOf : Sheet → Rows) (noRows : Rows) (log : List �
   next-answer cs c =
       ap (λ (s : State). step rowsOf noRows c s .0) (follows cs .end) ∙ desk-follows rowsOf noRows log .answer c (workAfter rowsOf noRows log cs) (follows cs .kept)
 
-  next-entry : (before : List Call) (bench : ℕ) → answerAfter rowsOf noRows log before (key bench 10) ≡ keyed Accepted
+  next-entry : (before : List Call) (bench : ℕ) → answerAfter rowsOf noRows log before (key bench 10) ≡ keyed 0
       → Entered bench (workAfter rowsOf noRows log before) (workAfter rowsOf noRows log (before ++ (key bench 10 ∷ [])))
   next-entry before bench h =
       let w = workAfter rowsOf noRows log before in
       let n = next-answer before (key bench 10) in
-      let a : keyAnswer (length log) w bench 10 ≡ Accepted = cc in
+      let a : keyAnswer (length log) w bench 10 ≡ 0 = cc in
       rw (final-append (workStep rowsOf (length log)) before (key bench 10 ∷ []) noWork) (enter-entered (length log) w bench a)
 
   next-no-entry : (before : List Call) (c : Call) → enteredFirst c (answerAfter rowsOf noRows log before c) [] ≡ []

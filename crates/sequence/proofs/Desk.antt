@@ -9,9 +9,7 @@ use Rattle.state.specs.declared.desk.Desk.{Desk}
 use Rattle.rows.specs.Rows.{noRows}
 use Rattle.alerts.specs.Sheet.{rowsOf}
 use Rattle.rows.specs.declared.Rows.{Rows}
-use Rattle.questions.specs.Report.{reportedAs, reportedOf}
-use Rattle.answers.specs.declared.Asked.the-variants.{Answered, Unsound}
-use Rattle.questions.specs.declared.report.Reported.{Reported}
+use Rattle.questions.specs.Report.{Report, reportedAs, reportedOf}
 use Rattle.sequence.specs.Calls.{Call, Reply, reported, reportOf}
 use Rattle.sequence.specs.Sequences.{Sequences}
 use Rattle.sequence.proofs.Demand3.{demand-3}
@@ -21,10 +19,10 @@ pub desk-sequences : (log : List ℕ) (cs : List Call) → Sequences rowsOf noRo
 desk-sequences = demand-3 rowsOf noRows
 
 -- the report of the sequence is what the function `questions::report::report` gives
-abbrev replyOf : Reported → Reply Rows
+abbrev replyOf : Report → Reply Rows
 replyOf r = reported (r .answer) (r .rows)
 
-report-by : (t : Bool) (d : Desk) → cond t (reported Answered (rowsOf (d .sheet))) (reported Unsound noRows) ≡ replyOf (cond t (reportedAs Answered (rowsOf (d .sheet))) (reportedAs Unsound noRows))
+report-by : (t : Bool) (d : Desk) → cond t (reported 0 (rowsOf (d .sheet))) (reported 2 noRows) ≡ replyOf (cond t (reportedAs 0 (rowsOf (d .sheet))) (reportedAs 2 noRows))
 report-by true d = refl
 report-by false d = refl
 

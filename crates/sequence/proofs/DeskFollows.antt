@@ -30,13 +30,9 @@ use Rattle.state.specs.declared.line.Line.{Line}
 use Rattle.state.specs.declared.sheet.Item.{Item}
 use Rattle.state.specs.declared.sheet.Sheet.{Sheet}
 use Rattle.state.specs.declared.desk.Desk.{Desk}
-use Rattle.answers.specs.declared.Answer.{Answer}
-use Rattle.answers.specs.declared.Answer.the-variants as answer
 use Rattle.soundness.proofs.Everys.{every-each}
 use Rattle.calls.specs.Key.{After, refused, edited, entered, stored, enteredAs, keyStep, keyOf}
-use Rattle.questions.specs.Who.{nobody, toldOf, whoOf}
-use Rattle.answers.specs.declared.Asked.the-variants.{Answered, Unsound, NoItem}
-use Rattle.questions.specs.declared.who.Told.{Told}
+use Rattle.questions.specs.Who.{Who, nobody, toldOf, whoOf}
 use Rattle.sequence.specs.Calls.{report, who, Call, key, ask, keyed, reported, told, State, left, reportOf, step}
 use Rattle.sequence.specs.Work.{Entry, Work, typedBy, recordsOf, lastOf, itemsFrom, sheetOf, enterAnswer, tableAnswer, accepts, editedText, keyAnswer, keyWork, lastTold, whoLast, workStep}
 use Rattle.sequence.specs.Shaped.{Shaped}
@@ -59,7 +55,7 @@ abbrev pub workState : List ℕ → Work → State
 workState log w = record { desk = deskOf w; used = length (recordsOf (w .entries)); log = logOf log (w .entries) }
 
 -- an answer, and what goes with a work
-abbrev afterWork : List ℕ → Answer → Work → After
+abbrev afterWork : List ℕ → ℕ → Work → After
 afterWork log a w = record { answer = a; desk = deskOf w; used = length (recordsOf (w .entries)); log = logOf log (w .entries) }
 
 -- what holds of every work that a sequence leaves
@@ -122,7 +118,7 @@ desk-eq : {ls ms : List Line} {is js : List Item} {n m : ℕ} → ls ≡ ms → 
     → _≡_ {A = Desk} (record { lines = ls; sheet = record { items = is; count = n } }) (record { lines = ms; sheet = record { items = js; count = m } })
 desk-eq p q r = cc
 
-after-eq : {a : Answer} {d e : Desk} {u v : ℕ} {l m : List ℕ} → d ≡ e → u ≡ v → l ≡ m
+after-eq : {a : ℕ} {d e : Desk} {u v : ℕ} {l m : List ℕ} → d ≡ e → u ≡ v → l ≡ m
     → _≡_ {A = After} (record { answer = a; desk = d; used = u; log = l }) (record { answer = a; desk = e; used = v; log = m })
 after-eq p q r = cc
 
@@ -162,14 +158,14 @@ module _ (log : List ℕ) (w : Work) (bench byte : ℕ) where
   D = deskOf w
 
   -- everything that a key leaves, by the work and the answer
-  abbrev afterOf : Answer → After
+  abbrev afterOf : ℕ → After
   afterOf a = afterWork log a (keyWork a bench byte w)
 
-  refused-follows : (a : Answer) → accepts a ≡ false → refused a D U L ≡ afterOf a
+  refused-follows : (a : ℕ) → accepts a ≡ false → refused a D U L ≡ afterOf a
   refused-follows a e = ap (afterWork log a) (sym (refused-work a bench byte w e))
 
   -- an accepted key other than Enter
-  edited-follows : (l : Line) (s : List ℕ) → eqb byte 10 ≡ false → editedText byte t ≡ s → l ≡ lineOf s → edited D U L bench l ≡ afterOf answer.Accepted
+  edited-follows : (l : Line) (s : List ℕ) → eqb byte 10 ≡ false → editedText byte t ≡ s → l ≡ lineOf s → edited D U L bench l ≡ afterOf 0
   edited-follows l s plain text e =
       rw (plain, text) (after-eq (desk-eq (ap (λ (x : Line). set (map lineOf (w .typed)) bench x) e ∙ map-set lineOf (w .typed) bench s) refl refl) refl refl)
 
@@ -183,24 +179,24 @@ module _ (log : List ℕ) (w : Work) (bench byte : ℕ) where
         let es = w .entries in
         let new : Entry = record { bench = bench; item = item; value = v; line = t } in
         let next : After = record {
-          answer = answer.Accepted;
+          answer = 0;
           desk = entered D bench item v;
           used = U + n;
           log = take U L ++ (recordOf bench item v ++ drop (U + n) L);
         } in
         let m = record-length bench item v in
-        ap (λ (k : ℕ). cond (leb n (k - U)) next (refused answer.NoRoom D U L)) (log-length log es room)
-        ∙ cond-sim (λ (x : After). x) afterOf (leb n (length log - U)) next (refused answer.NoRoom D U L) answer.Accepted answer.NoRoom
+        ap (λ (k : ℕ). cond (leb n (k - U)) next (refused 8 D U L)) (log-length log es room)
+        ∙ cond-sim (λ (x : After). x) afterOf (leb n (length log - U)) next (refused 8 D U L) 0 8
         (λ p. rw (enter-key, enter-byte byte t enter-key, e) (after-eq
         (desk-eq (map-set lineOf (w .typed) bench []) (sheet-more new es (entry-is t item start e .some)) (add-one (length es)))
         (ap (λ (k : ℕ). U + k) (sym m) ∙ sym (length-append (recordsOf es) (recordOf bench item v)))
         (log-more (recordsOf es) (recordOf bench item v) log n m)))
-        (λ p. refused-follows answer.NoRoom refl)
+        (λ p. refused-follows 8 refl)
 
     enter-follows : (c : Class) → classOf t ≡ c → enteredAs c D U L bench t ≡ afterOf (enterAnswer c t (length log - U))
-    enter-follows class.BadForm e = refused-follows answer.BadForm refl
-    enter-follows class.UnknownName e = refused-follows answer.UnknownName refl
-    enter-follows class.WrongKind e = refused-follows answer.WrongKind refl
+    enter-follows class.BadForm e = refused-follows 5 refl
+    enter-follows class.UnknownName e = refused-follows 6 refl
+    enter-follows class.WrongKind e = refused-follows 7 refl
     enter-follows (class.Entry item start) e = stored-follows item start e
 
   module _ (g : Good log w) where
@@ -218,18 +214,18 @@ module _ (log : List ℕ) (w : Work) (bench byte : ℕ) where
           omega (arith, c .short, ap length e)
 
       step-follows : keyStep D U L bench byte ≡ afterOf (
-          cond (isTyped byte) (cond (ltb (length t) lineMost) answer.Accepted answer.LineFull)
-          (cond (eqb byte 8) answer.Accepted (cond (eqb byte 24) answer.Accepted (cond (eqb byte 10) (enterAnswer (classOf t) t (length log - U)) answer.NoKey)))
+          cond (isTyped byte) (cond (ltb (length t) lineMost) 0 4)
+          (cond (eqb byte 8) 0 (cond (eqb byte 24) 0 (cond (eqb byte 10) (enterAnswer (classOf t) t (length log - U)) 3)))
           )
       unfolding keyStep
       step-follows =
           let same : After → After = λ x. x in
           cond-sim same afterOf (isTyped byte) _ _ _ _
           (λ p.
-          ap (λ (l : Line). cond (ltb (l .len) lineMost) (edited D U L bench (appended l byte)) (refused answer.LineFull D U L)) line-is
+          ap (λ (l : Line). cond (ltb (l .len) lineMost) (edited D U L bench (appended l byte)) (refused 4 D U L)) line-is
           ∙ cond-sim same afterOf (ltb (length t) lineMost) _ _ _ _
           (λ q. edited-follows _ (t ++ (byte ∷ [])) (typed-byte byte p) (rw p) (appended-lineOf t byte (ltb-true (length t) lineMost q)))
-          (λ q. refused-follows answer.LineFull refl))
+          (λ q. refused-follows 4 refl))
           (λ p. cond-sim same afterOf (eqb byte 8) _ _ _ _
           (λ q. edited-follows _ (shorter t) (other-byte byte 8 q (λ e. omega arith)) (rw (p, q)) (ap erased line-is ∙ erased-lineOf t short))
           (λ q. cond-sim same afterOf (eqb byte 24) _ _ _ _
@@ -239,7 +235,7 @@ module _ (log : List ℕ) (w : Work) (bench byte : ℕ) where
           ap (λ (l : Line). enteredAs (classOf (typed l)) D U L bench (typed l)) line-is
           ∙ ap (λ (x : List ℕ). enteredAs (classOf x) D U L bench x) (typed-lineOf t)
           ∙ enter-follows (g .room) z (classOf t) refl)
-          (λ z. refused-follows answer.NoKey refl))))
+          (λ z. refused-follows 3 refl))))
 
     -- the desk, which tests the soundness of everything, answers by the table, which tests the log's length
     key-follows : keyOf D U L bench byte ≡ afterOf (keyAnswer (length log) w bench byte)
@@ -249,9 +245,9 @@ module _ (log : List ℕ) (w : Work) (bench byte : ℕ) where
         let test : (soundDesk D && soundLog D (length L) U) ≡ leb (length log) logMost = rw (g .sound) (log-sound log w g) in
         cond-sim same afterOf (ltb bench benchCount) _ _ _ _
         (λ b.
-        ap (λ (x : Bool). cond x (keyStep D U L bench byte) (refused answer.Unsound D U L)) test
-        ∙ cond-sim same afterOf (leb (length log) logMost) _ _ _ _ (λ n. step-follows (ltb-true bench benchCount b)) (λ n. refused-follows answer.Unsound refl))
-        (λ b. refused-follows answer.NoBench refl)
+        ap (λ (x : Bool). cond x (keyStep D U L bench byte) (refused 2 D U L)) test
+        ∙ cond-sim same afterOf (leb (length log) logMost) _ _ _ _ (λ n. step-follows (ltb-true bench benchCount b)) (λ n. refused-follows 2 refl))
+        (λ b. refused-follows 1 refl)
 
     key-good : Good log (keyWork (keyAnswer (length log) w bench byte) bench byte w)
     key-good =
@@ -287,9 +283,9 @@ who-follows : (log : List ℕ) (w : Work) → Good log w → (item : ℕ) → wh
 unfolding whoOf soundDesk soundSheet
 who-follows log w g item =
     let s = sheetOf (w .entries) in
-    let same : Told → Told = λ x. x in
-    cond-true (soundDesk (deskOf w)) _ (nobody Unsound) (g .sound)
-    ∙ cond-sim same same (isItem item) (toldOf (itemAt s item)) (nobody NoItem) (lastTold (w .entries) item) (nobody NoItem)
+    let same : Who → Who = λ x. x in
+    cond-true (soundDesk (deskOf w)) _ (nobody 2) (g .sound)
+    ∙ cond-sim same same (isItem item) (toldOf (itemAt s item)) (nobody 6) (lastTold (w .entries) item) (nobody 6)
     (λ p.
     let h = and-both (leb 1 item) (leb item itemCount) p in
     let some = leb-true 1 item (h .0) in
@@ -303,7 +299,7 @@ who-follows log w g item =
 -- ---- all calls
 
 module _ {Rows : Type 0} (rowsOf : Sheet → Rows) (noRows : Rows) (log : List ℕ) where
-  report-follows : (w : Work) → Good log w → reportOf rowsOf noRows (deskOf w) ≡ reported Answered (rowsOf (sheetOf (w .entries)))
+  report-follows : (w : Work) → Good log w → reportOf rowsOf noRows (deskOf w) ≡ reported 0 (rowsOf (sheetOf (w .entries)))
   unfolding reportOf
   report-follows w g = rw (g .sound)
 

@@ -10,14 +10,13 @@ use lib.ListN.{length, drop}
 use Rattle.text.specs.Run.{between}
 use Rattle.cif.specs.declared.line.Class.the-variants as class
 use Rattle.state.specs.declared.sheet.Sheet.{Sheet}
-use Rattle.answers.specs.declared.Answer.the-variants.{Accepted}
 use Rattle.sequence.specs.Calls.{Call, key, ask, report, who, answered, final}
 use Rattle.sequence.specs.Work.{Entry, Work, typedBy, recordsOf, accepts, withEntryOf, keyAnswer, keyWork, workStep}
 use Rattle.sequence.specs.Sequences.{Entered, enteredFirst, enteredBy}
 use Rattle.sequence.proofs.EntryWords.{entry-worded, enter-accepts, accepted-only}
 
 -- an Enter that is accepted
-pub enter-entered : (len : ℕ) (w : Work) (bench : ℕ) → keyAnswer len w bench 10 ≡ Accepted → Entered bench w (keyWork (keyAnswer len w bench 10) bench 10 w)
+pub enter-entered : (len : ℕ) (w : Work) (bench : ℕ) → keyAnswer len w bench 10 ≡ 0 → Entered bench w (keyWork (keyAnswer len w bench 10) bench 10 w)
 unfolding between
 enter-entered len w bench h =
     let t = typedBy w bench in

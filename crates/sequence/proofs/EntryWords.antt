@@ -5,6 +5,7 @@ use mathlib.Core.Bool.{true, cond, _&&_}
 use mathlib.Core.List.{List}
 use Prim.Native.Nat.{ℕ, _-_}
 use native.Mathlib.Omega.{arith}
+use borrow.Author.Tests.{eqb-true}
 use lib.Dec.{ltb, leb}
 use lib.ListN.{length, take, drop}
 use Rattle.text.specs.Run.{all, between}
@@ -24,8 +25,6 @@ use Rattle.items.proofs.Names.{name-found}
 use Rattle.cif.proofs.Wording.{line-is}
 use Rattle.state.specs.Desks.{benchCount}
 use Rattle.sound_log.specs.SoundLog.{logMost}
-use Rattle.answers.specs.declared.Answer.{Answer}
-use Rattle.answers.specs.declared.Answer.the-variants as answer
 use Rattle.sequence.specs.Work.{enterAnswer, tableAnswer, accepts}
 
 -- the line t, with its name and its value, for item k
@@ -60,30 +59,22 @@ pub record Accepts (t : List ℕ) : Type 0 where
   pub start : ℕ
   pub class-is : classOf t ≡ class.Entry item start
 
-class-accepts : (t : List ℕ) (free : ℕ) (c : Class) → classOf t ≡ c → enterAnswer c t free ≡ answer.Accepted → Accepts t
-class-accepts t free class.BadForm e h = let z : _≡_ {A = ℕ} 0 1 = cc in absurd (omega arith)
-class-accepts t free class.UnknownName e h = let z : _≡_ {A = ℕ} 0 1 = cc in absurd (omega arith)
-class-accepts t free class.WrongKind e h = let z : _≡_ {A = ℕ} 0 1 = cc in absurd (omega arith)
+class-accepts : (t : List ℕ) (free : ℕ) (c : Class) → classOf t ≡ c → enterAnswer c t free ≡ 0 → Accepts t
+class-accepts t free class.BadForm e h = absurd (omega arith)
+class-accepts t free class.UnknownName e h = absurd (omega arith)
+class-accepts t free class.WrongKind e h = absurd (omega arith)
 class-accepts t free (class.Entry item start) e h = record { item = item; start = start; class-is = e }
 
-pub enter-accepts : (len used : ℕ) (t : List ℕ) (bench : ℕ) → tableAnswer len used t bench 10 ≡ answer.Accepted → Accepts t
+pub enter-accepts : (len used : ℕ) (t : List ℕ) (bench : ℕ) → tableAnswer len used t bench 10 ≡ 0 → Accepts t
 unfolding tableAnswer between
 enter-accepts len used t bench h =
     let a = enterAnswer (classOf t) t (len - used) in
-    let no-bench : answer.NoBench ≡ answer.Accepted → ⊥ = λ q. let z : _≡_ {A = ℕ} 0 1 = cc in omega arith in
-    let not-sound : answer.Unsound ≡ answer.Accepted → ⊥ = λ q. let z : _≡_ {A = ℕ} 0 1 = cc in omega arith in
-    let h1 = cond-first (ltb bench benchCount) (cond (leb len logMost) a answer.Unsound) answer.NoBench answer.Accepted no-bench h .1 in
-    let h2 = cond-first (leb len logMost) a answer.Unsound answer.Accepted not-sound h1 .1 in
+    let no-bench : _≡_ {A = ℕ} 1 0 → ⊥ = λ q. omega arith in
+    let not-sound : _≡_ {A = ℕ} 2 0 → ⊥ = λ q. omega arith in
+    let h1 = cond-first (ltb bench benchCount) (cond (leb len logMost) a 2) 1 0 no-bench h .1 in
+    let h2 = cond-first (leb len logMost) a 2 0 not-sound h1 .1 in
     class-accepts t (len - used) (classOf t) refl h2
 
 -- the answer with number 0
-pub accepted-only : (a : Answer) → accepts a ≡ true → a ≡ answer.Accepted
-accepted-only answer.Accepted e = refl
-accepted-only answer.NoBench e = absurd (let z : _≡_ {A = ℕ} 0 1 = cc in omega arith)
-accepted-only answer.Unsound e = absurd (let z : _≡_ {A = ℕ} 0 1 = cc in omega arith)
-accepted-only answer.NoKey e = absurd (let z : _≡_ {A = ℕ} 0 1 = cc in omega arith)
-accepted-only answer.LineFull e = absurd (let z : _≡_ {A = ℕ} 0 1 = cc in omega arith)
-accepted-only answer.BadForm e = absurd (let z : _≡_ {A = ℕ} 0 1 = cc in omega arith)
-accepted-only answer.UnknownName e = absurd (let z : _≡_ {A = ℕ} 0 1 = cc in omega arith)
-accepted-only answer.WrongKind e = absurd (let z : _≡_ {A = ℕ} 0 1 = cc in omega arith)
-accepted-only answer.NoRoom e = absurd (let z : _≡_ {A = ℕ} 0 1 = cc in omega arith)
+pub accepted-only : (a : ℕ) → accepts a ≡ true → a ≡ 0
+accepted-only a e = eqb-true a 0 e

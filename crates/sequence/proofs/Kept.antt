@@ -29,8 +29,6 @@ use Rattle.sound_log.specs.SoundLog.{logMost, soundLog}
 use Rattle.state.specs.declared.line.Line.{Line}
 use Rattle.state.specs.declared.sheet.Item.{Item}
 use Rattle.state.specs.declared.desk.Desk.{Desk}
-use Rattle.answers.specs.declared.Answer.{Answer}
-use Rattle.answers.specs.declared.Answer.the-variants as answer
 use Rattle.soundness.proofs.Everys.{every-each}
 use Rattle.calls.specs.Key.{After, refused, edited, withEntry, entered, stored, enteredAs, appendKey, keyStep, keyOf}
 use Rattle.sequence.specs.Shaped.{Shaped}
@@ -58,7 +56,7 @@ at-set P s n i x d l p f j h = go (eqb j i) refl
     go false e = rw (getD-set-other s i j x d (eqb-false j i e)) (f j h)
 
 module _ (d : Desk) (used : ℕ) (log : List ℕ) (shape : Shaped d) (sound : soundDesk d ≡ true) (bench : ℕ) where
-  refused-keeps : (a : Answer) → Keeps d used log (refused a d used log)
+  refused-keeps : (a : ℕ) → Keeps d used log (refused a d used log)
   refused-keeps a = record { shape = shape; sound = sound; log-length = refl; log-sound = λ h. h }
 
   -- a line on which a text is typed
@@ -95,13 +93,13 @@ module _ (d : Desk) (used : ℕ) (log : List ℕ) (shape : Shaped d) (sound : so
         let l = lineAt d bench in
         let t = typed l in
         let c = canonical in
-        cond-keeps (Keeps d used log) (ltb (l .len) lineMost) (edited d used log bench (appended l byte)) (refused answer.LineFull d used log)
+        cond-keeps (Keeps d used log) (ltb (l .len) lineMost) (edited d used log bench (appended l byte)) (refused 4 d used log)
         (λ q.
         let len : l .len ≡ length t = ap (λ (x : Line). x .len) (c .is-line) in
         let room : length t < lineMost = omega (arith, ltb-true (l .len) lineMost q) in
         line-keeps (appended l byte) (t ++ (byte ∷ [])) (ap (λ (x : Line). appended x byte) (c .is-line) ∙ appended-lineOf t byte room)
         (simp length-append (omega arith)) (more-typed t byte (c .bytes-typed) p))
-        (λ q. refused-keeps answer.LineFull)
+        (λ q. refused-keeps 4)
 
     erase-keeps : Keeps d used log (edited d used log bench (erased (lineAt d bench)))
     erase-keeps =
@@ -145,12 +143,12 @@ module _ (d : Desk) (used : ℕ) (log : List ℕ) (shape : Shaped d) (sound : so
           let n = recordLength v in
           let r = recordOf bench item v in
           let next : After = record {
-            answer = answer.Accepted;
+            answer = 0;
             desk = entered d bench item v;
             used = used + n;
             log = take used log ++ (r ++ drop (used + n) log);
           } in
-          cond-keeps (Keeps d used log) (leb n (length log - used)) next (refused answer.NoRoom d used log)
+          cond-keeps (Keeps d used log) (leb n (length log - used)) next (refused 8 d used log)
           (λ q.
           let room : n ≤ length log - used = leb-true n (length log - used) q in
           let m = record-length bench item v in
@@ -167,12 +165,12 @@ module _ (d : Desk) (used : ℕ) (log : List ℕ) (shape : Shaped d) (sound : so
                 (and-true-true (leb (length log) logMost) _ (k1 .0)
                 (and-true-true (leb (used + n) (length log)) _ (le-leb (used + n) (length log) (omega arith)) (le-leb (6 * (d .sheet .count + 1)) (used + n) (omega arith))));
           })
-          (λ q. refused-keeps answer.NoRoom)
+          (λ q. refused-keeps 8)
 
     enter-keeps : used ≤ length log → (c : Class) (t : List ℕ) → classOf t ≡ c → Keeps d used log (enteredAs c d used log bench t)
-    enter-keeps within class.BadForm t e = refused-keeps answer.BadForm
-    enter-keeps within class.UnknownName t e = refused-keeps answer.UnknownName
-    enter-keeps within class.WrongKind t e = refused-keeps answer.WrongKind
+    enter-keeps within class.BadForm t e = refused-keeps 5
+    enter-keeps within class.UnknownName t e = refused-keeps 6
+    enter-keeps within class.WrongKind t e = refused-keeps 7
     enter-keeps within (class.Entry item start) t e =
         let h = entry-is t item start e in
         stored-keeps item (drop start t) (h .some) (h .known) (value-some (drop start t) (h .value)) (omega (arith, h .room)) (entry-fits t item start h) within
@@ -185,7 +183,7 @@ module _ (d : Desk) (used : ℕ) (log : List ℕ) (shape : Shaped d) (sound : so
         cond-keeps P (isTyped byte) _ _ (append-keeps byte)
         (λ p. cond-keeps P (eqb byte 8) _ _ (λ q. erase-keeps)
         (λ q. cond-keeps P (eqb byte 24) _ _ (λ r. clear-keeps)
-        (λ r. cond-keeps P (eqb byte 10) _ _ (λ z. enter-keeps within (classOf t) t refl) (λ z. refused-keeps answer.NoKey))))
+        (λ r. cond-keeps P (eqb byte 10) _ _ (λ z. enter-keeps within (classOf t) t refl) (λ z. refused-keeps 3))))
 
 -- every key call on a sound desk
 pub key-keeps : (d : Desk) (used : ℕ) (log : List ℕ) → Shaped d → soundDesk d ≡ true → (bench byte : ℕ) → Keeps d used log (keyOf d used log bench byte)
@@ -199,8 +197,8 @@ key-keeps d used log shape sound bench byte =
     let k1 = and-both (leb (length log) logMost) (leb used (length log) && leb (6 * d .sheet .count) used) (and-both (soundDesk d) (soundLog d (length log) used) s .1) in
     let k2 = and-both (leb used (length log)) (leb (6 * d .sheet .count) used) (k1 .1) in
     step-keeps d used log shape sound bench (ltb-true bench benchCount b) (leb-true used (length log) (k2 .0)) byte)
-    (λ s. no answer.Unsound))
-    (λ b. no answer.NoBench)
+    (λ s. no 2))
+    (λ b. no 1)
 
 -- Soundness is kept.
 pub kept : (d : Desk) (used : ℕ) (log : List ℕ) → Shaped d → soundDesk d ≡ true → soundLog d (length log) used ≡ true → (bench byte : ℕ)

@@ -9,7 +9,6 @@ use lib.ListN.{length, getD, set}
 use lib.Seq.{getD-set-other, set-comm, set-getD}
 use Rattle.cif.specs.Line.{classOf}
 use Rattle.state.specs.declared.sheet.Sheet.{Sheet}
-use Rattle.answers.specs.declared.Answer.{Answer}
 use Rattle.sequence.specs.Calls.{Question, report, who, key, ask, keyed}
 use Rattle.sequence.specs.Work.{Entry, Work, typedBy, recordsOf, tableAnswer, accepts, editedText, textAfter, withEntryOf, entriesAfter, keyAnswer, keyWork, workStep}
 use Rattle.sequence.proofs.Choices.{cond-false}
@@ -23,17 +22,17 @@ cond-same true x = refl
 cond-same false x = refl
 
 -- a key other than Enter neither reads nor changes the entries
-plain-entries : (x : Answer) (a j : ℕ) (t : List ℕ) (es : List Entry) → eqb j 10 ≡ false → entriesAfter x a j t es ≡ es
+plain-entries : (x : ℕ) (a j : ℕ) (t : List ℕ) (es : List Entry) → eqb j 10 ≡ false → entriesAfter x a j t es ≡ es
 plain-entries x a j t es e = rw e (cond-same (accepts x) es)
 
 -- a refused key changes nothing
-refused-text : (x : Answer) (j : ℕ) (t : List ℕ) → accepts x ≡ false → textAfter x j t ≡ t
+refused-text : (x : ℕ) (j : ℕ) (t : List ℕ) → accepts x ≡ false → textAfter x j t ≡ t
 refused-text x j t e = cond-false (accepts x) (editedText j t) t e
 
-refused-entries : (x : Answer) (a j : ℕ) (t : List ℕ) (es : List Entry) → accepts x ≡ false → entriesAfter x a j t es ≡ es
+refused-entries : (x : ℕ) (a j : ℕ) (t : List ℕ) (es : List Entry) → accepts x ≡ false → entriesAfter x a j t es ≡ es
 refused-entries x a j t es e = cond-false (accepts x) (cond (eqb j 10) (withEntryOf (classOf t) a t es) es) es e
 
-pub refused-work : (x : Answer) (a j : ℕ) (w : Work) → accepts x ≡ false → keyWork x a j w ≡ w
+pub refused-work : (x : ℕ) (a j : ℕ) (w : Work) → accepts x ≡ false → keyWork x a j w ≡ w
 refused-work x a j w e =
     work-eq (ap (set (w .typed) a) (refused-text x j (typedBy w a) e) ∙ set-getD (w .typed) a []) (refused-entries x a j (typedBy w a) (w .entries) e)
 

@@ -8,12 +8,8 @@ use Rattle.state.specs.Desks.{freshDesk}
 use Rattle.soundness.specs.Sound.{soundDesk}
 use Rattle.state.specs.declared.sheet.Sheet.{Sheet}
 use Rattle.state.specs.declared.desk.Desk.{Desk}
-use Rattle.answers.specs.declared.Answer.{Answer}
 use Rattle.calls.specs.Key.{After, keyOf}
-use Rattle.questions.specs.Who.{whoOf}
-use Rattle.answers.specs.declared.Asked.{Asked}
-use Rattle.answers.specs.declared.Asked.the-variants.{Answered, Unsound}
-use Rattle.questions.specs.declared.who.Told.{Told}
+use Rattle.questions.specs.Who.{Who, whoOf}
 
 -- "Two questions": Report, and Who with an item number
 pub data Question : Type 0 where
@@ -29,11 +25,11 @@ pub data Call : Type 0 where
 abbrev pub typing : ℕ → List ℕ → List Call
 typing bench text = map (key bench) text
 
--- "each call's whole answer": a key's answer, a report's answer and rows, what Who tells
+-- "each call's whole answer", its number in each: a key's, a report's answer and rows, what Who tells
 pub data Reply (Rows : Type 0) : Type 0 where
-  keyed : Answer → Reply Rows
-  reported : Asked → Rows → Reply Rows
-  told : Told → Reply Rows
+  keyed : ℕ → Reply Rows
+  reported : ℕ → Rows → Reply Rows
+  told : Who → Reply Rows
 
 -- "the whole desk, the used number and every byte of the log"
 pub record State : Type 0 where
@@ -57,7 +53,7 @@ left a = stateOf (a .desk) (a .used) (a .log)
 module _ {Rows : Type 0} (rowsOf : Sheet → Rows) (noRows : Rows) where
   -- "on an unsound desk it gives 2 and rows all level 0, reason 0"
   unfoldable pub reportOf : Desk → Reply Rows
-  reportOf d = cond (soundDesk d) (reported Answered (rowsOf (d .sheet))) (reported Unsound noRows)
+  reportOf d = cond (soundDesk d) (reported 0 (rowsOf (d .sheet))) (reported 2 noRows)
 
   -- a call: its answer, and what it leaves; questions leave everything as it is
   abbrev pub step : Call → State → Reply Rows × State

@@ -26,8 +26,6 @@ use Rattle.state.specs.Sheets.{itemAt}
 use Rattle.soundness.specs.Sound.{soundDesk}
 use Rattle.sound_log.specs.SoundLog.{logMost, soundLog}
 use Rattle.state.specs.declared.sheet.Sheet.{Sheet}
-use Rattle.answers.specs.declared.Answer.the-variants.{Accepted}
-use Rattle.answers.specs.declared.Asked.the-variants.{Answered}
 use Rattle.sequence.specs.Calls.{Call, key, ask, report, who, Reply, keyed, reported, told, State, freshState, step, answered, final}
 use Rattle.sequence.specs.Gather.{gather, gatherAnswered, Regrouped}
 use Rattle.sequence.specs.Work.{Entry, Work, noWork, typedBy, recordsOf, lastOf, sheetOf, accepts, whoLast, workStep}
@@ -87,7 +85,7 @@ module _ {Rows : Type 0} (rowsOf : Sheet → Rows) (noRows : Rows) where
     -- each bench's line is what it has typed
     pub lines : stateAfter log cs .desk .lines ≡ map lineOf (workAfter log cs .typed)
     -- "An Enter with answer 0 is an accepted entry .. Its line, name and value, is what its bench had typed", wherever it stands in the sequence
-    pub entry : (before after : List Call) (bench : ℕ) → cs ≡ before ++ (key bench 10 ∷ after) → answerAfter log before (key bench 10) ≡ keyed Accepted
+    pub entry : (before after : List Call) (bench : ℕ) → cs ≡ before ++ (key bench 10 ∷ after) → answerAfter log before (key bench 10) ≡ keyed 0
         → Entered bench (workAfter log before) (workAfter log (before ++ (key bench 10 ∷ [])))
     -- and nothing else is one
     pub no-entry : (before after : List Call) (c : Call) → cs ≡ before ++ (c ∷ after) → enteredFirst c (answerAfter log before c) [] ≡ []
@@ -109,6 +107,6 @@ module _ {Rows : Type 0} (rowsOf : Sheet → Rows) (noRows : Rows) where
     pub log-sound : soundLog (stateAfter log cs .desk) (length (stateAfter log cs .log)) (stateAfter log cs .used) ≡ leb (length log) logMost
     -- "Report and Who, when not refused, answer by the entries before them", wherever they stand; neither is ever refused with 2
     pub reports : (before after : List Call) → cs ≡ before ++ (ask report ∷ after)
-        → answerAfter log before (ask report) ≡ reported Answered (rowsOf (sheetOf (workAfter log before .entries)))
+        → answerAfter log before (ask report) ≡ reported 0 (rowsOf (sheetOf (workAfter log before .entries)))
     pub tells : (before after : List Call) (item : ℕ) → cs ≡ before ++ (ask (who item) ∷ after)
         → answerAfter log before (ask (who item)) ≡ told (whoLast (workAfter log before .entries) item)

@@ -14,15 +14,10 @@ use Rattle.cif.specs.declared.line.Class.the-variants as class
 use Rattle.log.specs.Record.{recordLength, recordOf}
 use Rattle.state.specs.Sheets.{filled, emptyItem}
 use Rattle.state.specs.Desks.{benchCount}
-use Rattle.answers.specs.Number.{answerNumber}
 use Rattle.sound_log.specs.SoundLog.{logMost}
 use Rattle.state.specs.declared.sheet.Item.{Item}
 use Rattle.state.specs.declared.sheet.Sheet.{Sheet}
-use Rattle.answers.specs.declared.Answer.{Answer}
-use Rattle.answers.specs.declared.Answer.the-variants.{Accepted, NoBench, Unsound, NoKey, LineFull, BadForm, UnknownName, WrongKind, NoRoom}
-use Rattle.questions.specs.Who.{nobody}
-use Rattle.answers.specs.declared.Asked.the-variants.{Answered, NoItem}
-use Rattle.questions.specs.declared.who.Told.{Told}
+use Rattle.questions.specs.Who.{Who, nobody}
 use Rattle.sequence.specs.Calls.{Call, key, ask, report, who, Reply, keyed, reported, told}
 
 -- an accepted entry: its bench, the item that its name has, its value, and the whole line
@@ -67,37 +62,37 @@ sheetOf es = record { items = itemsFrom (lastOf es) 1 itemCount; count = length 
 -- ---- a key
 
 -- an Enter, by what the line t is, with so many bytes of the log unused
-abbrev pub enterAnswer : Class → List ℕ → ℕ → Answer
-enterAnswer class.BadForm t free = BadForm
-enterAnswer class.UnknownName t free = UnknownName
-enterAnswer class.WrongKind t free = WrongKind
-enterAnswer (class.Entry item start) t free = cond (leb (recordLength (drop start t)) free) Accepted NoRoom
+abbrev pub enterAnswer : Class → List ℕ → ℕ → ℕ
+enterAnswer class.BadForm t free = 5
+enterAnswer class.UnknownName t free = 6
+enterAnswer class.WrongKind t free = 7
+enterAnswer (class.Entry item start) t free = cond (leb (recordLength (drop start t)) free) 0 8
 
 -- the table of "Keys and their refusals", "with typed for the line, the entries so far for sheet and count, and their records for the used log".
 -- Of what makes a desk sound only the log's length is tested: the rest holds after every sequence (`sound` and `log-sound` of specs/Sequences.antt), and the
 -- desk, which tests all of it, gives the same answers. Its arguments: the log's length, the used number, what the bench has typed, bench and byte.
-unfoldable pub tableAnswer : ℕ → ℕ → List ℕ → ℕ → ℕ → Answer
+unfoldable pub tableAnswer : ℕ → ℕ → List ℕ → ℕ → ℕ → ℕ
 tableAnswer len used t bench byte =
     cond (ltb bench benchCount)
     (cond (leb len logMost)
-    (cond (isTyped byte) (cond (ltb (length t) lineMost) Accepted LineFull)
-    (cond (eqb byte 8) Accepted
-    (cond (eqb byte 24) Accepted
+    (cond (isTyped byte) (cond (ltb (length t) lineMost) 0 4)
+    (cond (eqb byte 8) 0
+    (cond (eqb byte 24) 0
     (cond (eqb byte 10) (enterAnswer (classOf t) t (len - used))
-    NoKey))))
-    Unsound)
-    NoBench
+    3))))
+    2)
+    1
 
 -- "with 0"
-abbrev pub accepts : Answer → Bool
-accepts a = eqb (answerNumber a) 0
+abbrev pub accepts : ℕ → Bool
+accepts a = eqb a 0
 
 -- "its bench's key appends, erases or empties as above, and its Enter empties"
 abbrev pub editedText : ℕ → List ℕ → List ℕ
 editedText byte t = cond (isTyped byte) (t ++ (byte ∷ [])) (cond (eqb byte 8) (take (length t - 1) t) [])
 
 -- "all else leaves it"
-abbrev pub textAfter : Answer → ℕ → List ℕ → List ℕ
+abbrev pub textAfter : ℕ → ℕ → List ℕ → List ℕ
 textAfter a byte t = cond (accepts a) (editedText byte t) t
 
 -- the entries with that of the line t, if it is one
@@ -108,15 +103,15 @@ withEntryOf class.WrongKind bench t es = es
 withEntryOf (class.Entry item start) bench t es = record { bench = bench; item = item; value = drop start t; line = t } ∷ es
 
 -- "An Enter with answer 0 is an accepted entry"
-abbrev pub entriesAfter : Answer → ℕ → ℕ → List ℕ → List Entry → List Entry
+abbrev pub entriesAfter : ℕ → ℕ → ℕ → List ℕ → List Entry → List Entry
 entriesAfter a bench byte t es = cond (accepts a) (cond (eqb byte 10) (withEntryOf (classOf t) bench t es) es) es
 
 -- the answer of a key, in a log of len bytes
-abbrev pub keyAnswer : ℕ → Work → ℕ → ℕ → Answer
+abbrev pub keyAnswer : ℕ → Work → ℕ → ℕ → ℕ
 keyAnswer len w bench byte = tableAnswer len (length (recordsOf (w .entries))) (typedBy w bench) bench byte
 
 -- the work after a key that got that answer
-abbrev pub keyWork : Answer → ℕ → ℕ → Work → Work
+abbrev pub keyWork : ℕ → ℕ → ℕ → Work → Work
 keyWork a bench byte w = record {
   typed = set (w .typed) bench (textAfter a byte (typedBy w bench));
   entries = entriesAfter a bench byte (typedBy w bench) (w .entries);
@@ -125,17 +120,17 @@ keyWork a bench byte w = record {
 -- ---- a question
 
 -- bench and number of the last entry that names the item
-abbrev pub lastTold : List Entry → ℕ → Told
-lastTold [] item = nobody Answered
-lastTold (e ∷ es) item = cond (eqb item (e .item)) (record { answer = Answered; entry = length (e ∷ es); bench = e .bench }) (lastTold es item)
+abbrev pub lastTold : List Entry → ℕ → Who
+lastTold [] item = nobody 0
+lastTold (e ∷ es) item = cond (eqb item (e .item)) (record { answer = 0; entry = length (e ∷ es); bench = e .bench }) (lastTold es item)
 
 -- "6 if not 1 to 10"
-abbrev pub whoLast : List Entry → ℕ → Told
-whoLast es item = cond (isItem item) (lastTold es item) (nobody NoItem)
+abbrev pub whoLast : List Entry → ℕ → Who
+whoLast es item = cond (isItem item) (lastTold es item) (nobody 6)
 
 -- a call, in a log of len bytes; "Report and Who .. answer by the entries before them"
 module _ {Rows : Type 0} (rowsOf : Sheet → Rows) (len : ℕ) where
   abbrev pub workStep : Call → Work → Reply Rows × Work
   workStep (key bench byte) w = (keyed (keyAnswer len w bench byte), keyWork (keyAnswer len w bench byte) bench byte w)
-  workStep (ask report) w = (reported Answered (rowsOf (sheetOf (w .entries))), w)
+  workStep (ask report) w = (reported 0 (rowsOf (sheetOf (w .entries))), w)
   workStep (ask (who item)) w = (told (whoLast (w .entries) item), w)

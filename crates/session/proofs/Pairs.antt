@@ -39,11 +39,11 @@ pair-at input at h = simp towards-suc
     (ap pairsOf (drop-cons input at 0 (omega arith) ∙ ap (λ (r : List ℕ). getD input at 0 ∷ r) (drop-cons input (suc at) 0 (omega arith))))
 
 -- one pair played by a key call
-pub ran-next : {input log : List ℕ} {first s : State} {i bench : ℕ} {r : Keyed} → Ran input first s i → 2 * i + 1 < length input
+pub ran-next : {input log : List ℕ} {first s : State} {i bench : ℕ} (r : Keyed) → Ran input first s i → 2 * i + 1 < length input
     → bench ≡ benchOf (getD input (2 * i) 0)
     → after r log ≡ keyOf (s .desk) (s .used) (s .log) bench (getD input (2 * i + 1) 0)
     → Ran input first (stateOf (r .desk) (r .used) log) (i + 1)
-ran-next {input} {log} {first} {s} {i} {bench} {r} ran h b e =
+ran-next {input} {log} {first} {s} {i} {bench} r ran h b e =
     let byte = getD input (2 * i + 1) 0 in
     let rest : List Call = pairsOf (drop (2 * i + 2) input) in
     let q = e ∙ ap (λ (n : ℕ). keyOf (s .desk) (s .used) (s .log) n byte) b in

@@ -4,7 +4,6 @@ use Prim.Native.Nat.{ℕ}
 use mathlib.Core.List.{List}
 use Rattle.sequence.specs.Calls.{State, freshState}
 use Rattle.cif_file.specs.Answers.{After, fileStep}
-use Rattle.file_answers.specs.Number.{fileNumber}
 use Rattle.session.specs.Play.{played}
 use Rattle.sheet_file.specs.declared.SheetFiled.{SheetFiled}
 
@@ -20,7 +19,7 @@ abbrev pub told : SheetFiled → List ℕ → List ℕ → SheetTold
 told r log out = record { answer = r .answer; count = r .count; log = log; out = out }
 
 abbrev pub numbered : List ℕ → After → SheetTold
-numbered log a = record { answer = fileNumber (a .answer); count = a .count; log = log; out = a .out }
+numbered log a = record { answer = a .answer; count = a .count; log = log; out = a .out }
 
 -- the file of what a session leaves
 abbrev pub filedFrom : State → List ℕ → List ℕ → SheetTold

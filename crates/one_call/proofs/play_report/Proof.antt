@@ -6,7 +6,7 @@ use Prim.Native.Nat.{ℕ}
 use Rattle.state.specs.declared.desk.Desk.{Desk}
 use Rattle.rows.specs.Rows.{noRows}
 use Rattle.alerts.specs.Sheet.{rowsOf}
-use Rattle.questions.specs.declared.report.Reported.{Reported}
+use Rattle.questions.specs.Report.{Report}
 use Rattle.sequence.specs.Calls.{reported, reportOf, stateOf}
 use Rattle.sequence.proofs.Desk.{report-is}
 use Rattle.one_call.specs.OneCall.{replyBytes, One}
@@ -22,7 +22,7 @@ returns : tie.Need-returns
 returns c =
     let a = c .before .before .args in
     let e : c .report-reply .result ≡ replyBytes (reportOf rowsOf noRows (a .d))
-    = c .report-reply .ensures ∙ ap (λ (r : Reported). replyBytes (reported (r .answer) (r .rows))) (c .before .report .ensures) ∙ ap replyBytes (sym (report-is (a .d))) in
+    = c .report-reply .ensures ∙ ap (λ (r : Report). replyBytes (reported (r .answer) (r .rows))) (c .before .report .ensures) ∙ ap replyBytes (sym (report-is (a .d))) in
     λ log. ap (with-state (a .d) (a .used) log) e
 
 pub play-report-spec : {M : Type 1} → statement M

@@ -4,8 +4,7 @@ use mathlib.Core.Path.{_≡_, _∙_, ap}
 use mathlib.Core.List.{List}
 use Prim.Native.Nat.{ℕ}
 use Rattle.state.specs.declared.desk.Desk.{Desk}
-use Rattle.questions.specs.Who.{whoOf}
-use Rattle.questions.specs.declared.who.Told.{Told}
+use Rattle.questions.specs.Who.{Who, whoOf}
 use Rattle.sequence.specs.Calls.{told, stateOf}
 use Rattle.one_call.specs.OneCall.{replyBytes, One}
 use borrow.Author.Needs.{needs}
@@ -19,7 +18,7 @@ with-state d used log b = record { reply = b; state = stateOf d used log }
 returns : tie.Need-returns
 returns c =
     let a = c .before .before .args in
-    let e : c .who-reply .result ≡ replyBytes (told (whoOf (a .d) (a .item))) = c .who-reply .ensures ∙ ap (λ (t : Told). replyBytes (told t)) (c .before .who .ensures) in
+    let e : c .who-reply .result ≡ replyBytes (told (whoOf (a .d) (a .item))) = c .who-reply .ensures ∙ ap (λ (t : Who). replyBytes (told t)) (c .before .who .ensures) in
     λ log. ap (with-state (a .d) (a .used) log) e
 
 pub play-who-spec : {M : Type 1} → statement M

@@ -5,7 +5,7 @@ use mathlib.Core.Path.{ap}
 use mathlib.Core.List.{[], _∷_, _++_}
 use Rattle.text.specs.Quote.{bytes}
 use Rattle.rows.specs.Rows.{rowCount}
-use Rattle.questions.specs.declared.report.Reported.{Reported}
+use Rattle.questions.specs.Report.{Report}
 use Rattle.copies.specs.Each.{linesFrom}
 use Rattle.printing.specs.Print.{line, twoDigits, rowLine, printedItem, printedOf}
 use Rattle.printing.proofs.Pages.{adds-as, adds-then, adds-first}
@@ -22,7 +22,7 @@ returns c =
     let n = e .before .before .before in
     let s = n .before in
     let rows = ap
-    (λ (x : Reported). line (bytes "REPORT " ∷ twoDigits rowCount ∷ []) ++ (linesFrom rowLine 1 (x .rows .rows) ++ linesFrom printedItem 1 (s .args .d .sheet .items)))
+    (λ (x : Report). line (bytes "REPORT " ∷ twoDigits rowCount ∷ []) ++ (linesFrom rowLine 1 (x .rows .rows) ++ linesFrom printedItem 1 (s .args .d .sheet .items)))
     (n .report .ensures) in
     let all = adds-then (h .put .ensures) (adds-then (r .put-rows .ensures .0) (c .put-items .ensures .0)) in
     let first = adds-first (e .empty-page .ensures .0) (e .empty-page .ensures .1) (adds-as rows all) in

@@ -3,7 +3,6 @@
 use mathlib.Core.Path.{sym, _∙_, ap}
 use borrow.Author.Tests.{not-true, not-false}
 use Rattle.questions.specs.Report.{reportedAs, reportedOf}
-use Rattle.answers.specs.declared.Asked.the-variants.{Answered, Unsound}
 use borrow.Author.Needs.{needs}
 use Rattle.questions.proofs.report.report.Statement.{statement}
 use Rattle.questions.proofs.report.report.Tie as tie
@@ -12,13 +11,13 @@ returns : tie.Need-returns
 unfolding reportedOf
 returns c =
     let e = c .before in
-    ap (reportedAs Unsound) (c .no-rows .ensures) ∙ simp (sym (e .before .is-sound .ensures) ∙ not-true _ (e .if1 .taken))
+    ap (reportedAs 2) (c .no-rows .ensures) ∙ simp (sym (e .before .is-sound .ensures) ∙ not-true _ (e .if1 .taken))
 
 returns-2 : tie.Need-returns-2
 unfolding reportedOf
 returns-2 c =
     let e = c .before .before in
-    ap (reportedAs Answered) (c .sheet-rows .ensures) ∙ simp (sym (e .before .is-sound .ensures) ∙ not-false _ (e .if1 .left))
+    ap (reportedAs 0) (c .sheet-rows .ensures) ∙ simp (sym (e .before .is-sound .ensures) ∙ not-false _ (e .if1 .left))
 
 pub report-spec : {M : Type 1} → statement M
 report-spec =

@@ -24,7 +24,7 @@ loop-again c =
     let k = c .before .before .before in
     let b = k .before .before .before in
     let l = b .before .before .before .loop in
-    (omega arith, omega arith, ran-next (l .inv .2) (omega arith) (b .bench-of .ensures) (k .key .ensures))
+    (omega arith, omega arith, ran-next (k .key .result) (l .inv .2) (omega arith) (b .bench-of .ensures) (k .key .ensures))
 
 returns : tie.Need-returns Inv-loop μ-loop
 returns c = ran-all _ (c .before .loop .inv .2) (omega arith)
