@@ -5,9 +5,9 @@
 
 use std::path::PathBuf;
 
-const LIBRARIES: [&str; 6] = ["wall", "probe", "probe_rows", "probe_keys", "play", "probe_file"];
+const LIBRARIES: [&str; 6] = ["export_wall", "test_probe", "test_probe_rows", "test_probe_keys", "test_play", "test_probe_file"];
 const PROGRAMS: [&str; 2] = ["desk", "sheet_cif"];
-const REQUIRED: &str = "wall probe";
+const REQUIRED: &str = "export_wall test_probe";
 
 fn main() {
     println!("cargo:rerun-if-env-changed=PROVED_LIBS");

@@ -14,7 +14,7 @@ esac
 need "$desk" "$sheet_cif"
 kit=${RATTLE_HOME:-/opt/rattle}
 own=$kit/on/$(uname -m)
-archives=(wall probe probe_rows probe_keys play probe_file)
+archives=(export_wall test_probe test_probe_rows test_probe_keys test_play test_probe_file)
 
 # toolchain FOLDER LEVEL: the kit's, but that it keeps each linked program there as 1, 2 and so on, and compiles a static library at this level.
 toolchain() {
@@ -108,8 +108,8 @@ write_caller() {
     cat <<'END'
 use libc::STDIN_FILENO;
 use libc::STDOUT_FILENO;
-use state::desk::Desk;
-use state::sheet::Sheet;
+use desk_state::desk::Desk;
+use desk_state::sheet::Sheet;
 
 const HEAD: usize = 17;
 
@@ -140,7 +140,7 @@ fn write(number: u64, answer: u8, log: &[u8], out: &[u8]) {
 
 // The desk after an input of pairs, a bench digit and a key each.
 fn desk_after(input: &[u8], log: &mut [u8]) -> Desk {
-    let mut desk = state::desk::fresh_desk();
+    let mut desk = desk_state::desk::fresh_desk();
     let mut used = 0;
     let mut i = 0;
     while i + 1 < input.len() {
@@ -149,7 +149,7 @@ fn desk_after(input: &[u8], log: &mut [u8]) -> Desk {
         if 48 <= digit && digit <= 57 {
             bench = (digit - 48) as u64;
         }
-        let keyed = calls::key::key(desk, used, log, bench, input[i + 1]);
+        let keyed = desk_keys::key::key(desk, used, log, bench, input[i + 1]);
         let next = keyed.desk;
         desk = next;
         used = keyed.used;
@@ -160,7 +160,7 @@ fn desk_after(input: &[u8], log: &mut [u8]) -> Desk {
 
 // The sheet that holds these values.
 fn sheet_of(texts: &[u8], lens: &[u8]) -> Sheet {
-    let fresh = state::desk::fresh_desk();
+    let fresh = desk_state::desk::fresh_desk();
     let mut sheet = fresh.sheet;
     let mut at = 0;
     let mut i = 0;
@@ -179,7 +179,7 @@ fn sheet_of(texts: &[u8], lens: &[u8]) -> Sheet {
 }
 
 fn put_rows(sheet: Sheet, out: &mut [u8]) {
-    let given = probe_rows::probe_rows(sheet);
+    let given = test_probe_rows::probe_rows(sheet);
     let mut i = 0;
     while i < 12 {
         out[2 * i] = given.rows[i].level;
@@ -198,8 +198,8 @@ fn answer(head: &[u8], first: &mut [u8], log: &mut [u8], name: &mut [u8], out: &
     }
     read(first, a);
     if head[0] == 2 {
-        let graded = wall::wall_grade(b as u64, &first[..a]);
-        let class = wall::wall_classify(&first[..a]) as u64;
+        let graded = export_wall::wall_grade(b as u64, &first[..a]);
+        let class = export_wall::wall_classify(&first[..a]) as u64;
         write(class, 16 * graded.answer + graded.level, &log[..0], &out[..0]);
         return true;
     }
@@ -207,11 +207,11 @@ fn answer(head: &[u8], first: &mut [u8], log: &mut [u8], name: &mut [u8], out: &
     read(name, c);
     read(out, room);
     if head[0] == 0 {
-        let played = play::play_sequence(&first[..a], &mut log[..b], &mut out[..room]);
+        let played = test_play::play_sequence(&first[..a], &mut log[..b], &mut out[..room]);
         write(played.written, played.answer, &log[..b], &out[..room]);
     } else if head[0] == 1 {
         let desk = desk_after(&first[..a], &mut log[..b]);
-        let filed = probe_file::probe_file(desk, &name[..c], &mut out[..room]);
+        let filed = test_probe_file::probe_file(desk, &name[..c], &mut out[..room]);
         write(filed.count as u64, filed.answer, &log[..b], &out[..room]);
     } else {
         let sheet = sheet_of(&first[..a], &name[..c]);
@@ -264,7 +264,7 @@ library_builds() {
     local -A number=([1]=400 [2]=2000 [3]=60)
     mkdir -p "$work/caller/src" "$work/examples" "$work/lists"
     write_caller >"$work/caller/src/main.rt"
-    crates="io libc wall play probe_rows probe_file $(for at in play probe_rows probe_file; do used_by $at; done)"
+    crates="io libc export_wall test_play test_probe_rows test_probe_file $(for at in test_play test_probe_rows test_probe_file; do used_by $at; done)"
     "$harness" example-frames "$work/examples" && "$harness" frames "$work/lists" || fail "frames" "not written"
     tried "library, four ways: measured examples" "$work/library" caller "$work/caller/src/main.rt" "$crates" "$work/examples/stdin" "$work/examples/stdout"
     for build in "${builds[@]}"; do

@@ -1,7 +1,7 @@
 /*
  * The sheet of a desk as a CIF file, exported for the comparison and the trace only.
  *
- * Link with libprobe_file.a. Neither name nor out may be NULL, not even where its length is 0, and
+ * Link with libtest_probe_file.a. Neither name nor out may be NULL, not even where its length is 0, and
  * the two may not overlap. Any values may stand in the desk's fields, those of an unsound desk too.
  */
 #ifndef FILE_H

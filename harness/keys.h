@@ -1,7 +1,7 @@
 /*
  * The key call on a whole desk, exported for the comparison only.
  *
- * Link with libprobe_keys.a. The log may not be NULL, not even where its length is 0. Any values may
+ * Link with libtest_probe_keys.a. The log may not be NULL, not even where its length is 0. Any values may
  * stand in the fields, those of an unsound desk too.
  */
 #ifndef KEYS_H

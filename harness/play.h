@@ -1,7 +1,7 @@
 /*
  * Whole sequences of calls on one desk, exported for the comparison and the trace only.
  *
- * Link with libplay.a. No pointer may be NULL, not even where its length is 0, and the three runs
+ * Link with libtest_play.a. No pointer may be NULL, not even where its length is 0, and the three runs
  * of bytes may not overlap. The function keeps no state. Numbers are little-endian.
  *
  * A call is 10 bytes:

@@ -1,7 +1,7 @@
 /*
  * Single readers of the proved library, exported for the comparison only.
  *
- * Link with libprobe.a. As in wall.h a pointer may not be NULL, not even where the length is 0,
+ * Link with libtest_probe.a. As in wall.h a pointer may not be NULL, not even where the length is 0,
  * and every function is pure.
  */
 #ifndef PROBE_H

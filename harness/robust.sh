@@ -96,8 +96,8 @@ unwatched() {
 # The C clients compiled with gcc's own checks of memory and arithmetic, which see their arrays too.
 sanitized() {
     local checks=(-std=c11 -O1 -g -Iinclude -fsanitize=address,undefined -fno-sanitize-recover=all) libraries=${PROVED_LIBS:-target/staticlib} input
-    if ! gcc "${checks[@]}" client/sheet_cif.c "$libraries/libsheet_file.a" -o "$work/sheet_cif" 2>/dev/null ||
-        ! gcc "${checks[@]}" client/wall_screen.c "$libraries/libwall.a" -o "$work/wall_screen" 2>/dev/null; then
+    if ! gcc "${checks[@]}" client/sheet_cif.c "$libraries/libexport_sheet_file.a" -o "$work/sheet_cif" 2>/dev/null ||
+        ! gcc "${checks[@]}" client/wall_screen.c "$libraries/libexport_wall.a" -o "$work/wall_screen" 2>/dev/null; then
         echo "skipped: the C clients with gcc's checks (its libraries for them are not there)"
         return
     fi
@@ -126,7 +126,7 @@ int main(void)
     return answer;
 }
 END
-    gcc -std=c11 -O1 -w -Iinclude "$work/fault.c" "${PROVED_LIBS:-target/staticlib}/libwall.a" -o "$work/fault"
+    gcc -std=c11 -O1 -w -Iinclude "$work/fault.c" "${PROVED_LIBS:-target/staticlib}/libexport_wall.a" -o "$work/fault"
     "${watched[@]}" "$work/fault"
     local status=$?
     rm -f "$work"/*.log

@@ -1,7 +1,7 @@
 /*
  * The twelve rows of a sheet, exported for the comparison only.
  *
- * Link with libprobe_rows.a. The function is pure.
+ * Link with libtest_probe_rows.a. The function is pure.
  */
 #ifndef ROWS_H
 #define ROWS_H

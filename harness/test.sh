@@ -54,10 +54,10 @@ there() {
 }
 
 libraries() {
-    local all='wall probe probe_rows probe_keys play probe_file desk sheet_cif' name
+    local all='export_wall test_probe test_probe_rows test_probe_keys test_play test_probe_file desk sheet_cif' name
     runs "libraries: an absent one is required" 1 $'REQUIRED libnothing.a\n' '' \
-        bash -c 'REQUIRE_LIBS="wall nothing" "$1" libraries | grep REQUIRED; exit "${PIPESTATUS[0]}"' - "$harness"
-    for name in ${REQUIRE_LIBS-wall probe}; do
+        bash -c 'REQUIRE_LIBS="export_wall nothing" "$1" libraries | grep REQUIRED; exit "${PIPESTATUS[0]}"' - "$harness"
+    for name in ${REQUIRE_LIBS-export_wall test_probe}; do
         if there "$name"; then ok "libraries: $name"; else fail "libraries: $name" "not there"; fi
     done
     for name in $all; do
@@ -335,20 +335,20 @@ trace_keys() {
     trace_table "reference's trace: questions" reference-trace < <(questions)
     trace_table "reference's trace: fresh desks" reference-trace < <(fresh_desks)
     trace_table "reference's trace: files" reference-trace < <(files)
-    if there play || there probe_keys; then
+    if there test_play || there test_probe_keys; then
         trace_table "trace: keys" < <(session)
     else
         trace_table "trace: keys are not there" < <(printf '%s|none\n' 'new 4096 1' 'k 0 10' dump)
     fi
-    if there play; then
+    if there test_play; then
         trace_table "trace: questions" < <(questions)
         trace_table "trace: fresh desks" < <(fresh_desks)
     else
         trace_table "trace: questions are not there" < <(printf '%s|none\n' 'report 0 0' 'who 0 1')
     fi
-    if ! there probe_file; then
+    if ! there test_probe_file; then
         trace_table "trace: files are not there" < <(printf '%s|none\n' 'cif 0 61 99' 'cif 0 61')
-    elif there play || there probe_keys; then
+    elif there test_play || there test_probe_keys; then
         trace_table "trace: files" < <(files)
     fi
 }
@@ -380,7 +380,7 @@ trace_generated() {
     runs "trace: as many answers as commands" 0 $'5000\n' '' grep -c '' "$work/answers"
     { head -c 5001 "$work/commands"; sleep 0.2; tail -c +5002 "$work/commands"; } | "$harness" trace >"$work/answers"
     same "trace: the same in two parts" "$work/want" "$work/answers"
-    if there play || there probe_keys; then
+    if there test_play || there test_probe_keys; then
         yes 'k 0 65' | head -n $keys | "$harness" reference-trace >"$work/want"
         yes 'k 0 65' | head -n $keys | timeout 60 "$harness" trace >"$work/answers"
         same "trace: $keys keys of one desk" "$work/want" "$work/answers"

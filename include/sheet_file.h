@@ -1,7 +1,7 @@
 /*
  * A session's sheet as a CIF file.
  *
- * Link with libsheet_file.a. The rules are those of document 01 and of document 02, No. 1.
+ * Link with libexport_sheet_file.a. The rules are those of document 01 and of document 02, No. 1.
  *
  * Bytes: a run of bytes is a pointer and a length. It may hold any bytes, NUL too, and needs no end
  * mark. No pointer may be NULL, not even where the length is 0; for an empty run pass the address of

@@ -1,7 +1,7 @@
 /*
  * The wall screen's two questions.
  *
- * Link with libwall.a. The rules are those of document 01, "A line, a number" and "The twelve rows".
+ * Link with libexport_wall.a. The rules are those of document 01, "A line, a number" and "The twelve rows".
  *
  * Bytes: a run of bytes is a pointer and a length. It may hold any bytes, NUL too, and needs no end
  * mark. The pointer may not be NULL, not even where the length is 0; for an empty run pass the

@@ -12,7 +12,7 @@ ensure_programs() {
 ensure_programs || exit 2
 
 # The proved libraries that C and Rust link.
-archives=(wall probe probe_rows probe_keys play probe_file)
+archives=(export_wall test_probe test_probe_rows test_probe_keys test_play test_probe_file)
 export REQUIRE_LIBS="${archives[*]} desk sheet_cif"
 
 # stale ARCHIVE: it is missing, or crates.txt or some file under crates/ is newer.
@@ -45,12 +45,12 @@ compile() {
 
 # The C client of the wall screen.
 build_client() {
-    compile client/wall_screen.c wall build/wall_screen
+    compile client/wall_screen.c export_wall build/wall_screen
 }
 
 # The program sheet_cif, the C client of the library sheet_file, in target/bin.
 build_sheet_cif() {
-    build_archive sheet_file && compile client/sheet_cif.c sheet_file target/bin/sheet_cif
+    build_archive export_sheet_file && compile client/sheet_cif.c export_sheet_file target/bin/sheet_cif
 }
 
 # The program desk, proved, in target/bin.

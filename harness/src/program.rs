@@ -23,7 +23,7 @@ impl Library {
         [Library::Wall, Library::Probe, Library::Rows, Library::Keys, Library::Play, Library::File];
 
     pub fn name(self) -> &'static str {
-        ["wall", "probe", "probe_rows", "probe_keys", "play", "probe_file"][self as usize]
+        ["export_wall", "test_probe", "test_probe_rows", "test_probe_keys", "test_play", "test_probe_file"][self as usize]
     }
 }
 

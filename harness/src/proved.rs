@@ -1,29 +1,29 @@
 //! The proved library through its C boundary: the archives that are there.
 
-#[cfg(proved = "probe_file")]
+#[cfg(proved = "test_probe_file")]
 use crate::boundary::Filed;
-#[cfg(proved = "wall")]
+#[cfg(proved = "export_wall")]
 use crate::boundary::Graded;
-#[cfg(proved = "probe_keys")]
+#[cfg(proved = "test_probe_keys")]
 use crate::boundary::KeyResult;
-#[cfg(proved = "play")]
+#[cfg(proved = "test_play")]
 use crate::boundary::PlayResult;
-#[cfg(proved = "probe_rows")]
+#[cfg(proved = "test_probe_rows")]
 use crate::boundary::Sheet;
 use crate::boundary::{Desk, RowsResult};
-#[cfg(proved = "probe")]
+#[cfg(proved = "test_probe")]
 use crate::boundary::{LineResult, NumberResult};
-#[cfg(proved = "probe_rows")]
+#[cfg(proved = "test_probe_rows")]
 use crate::program::Values;
 use crate::program::{Library, Program};
 
-#[cfg(proved = "wall")]
+#[cfg(proved = "export_wall")]
 extern "C" {
     fn wall_classify(line: *const u8, length: usize) -> u8;
     fn wall_grade(row: u64, value: *const u8, length: usize) -> Graded;
 }
 
-#[cfg(proved = "probe")]
+#[cfg(proved = "test_probe")]
 extern "C" {
     fn probe_number(text: *const u8, length: usize) -> NumberResult;
     fn probe_value(text: *const u8, length: usize) -> u64;
@@ -31,12 +31,12 @@ extern "C" {
     fn probe_item(name: *const u8, length: usize) -> u64;
 }
 
-#[cfg(proved = "probe_rows")]
+#[cfg(proved = "test_probe_rows")]
 extern "C" {
     fn probe_rows(sheet: Sheet) -> RowsResult;
 }
 
-#[cfg(proved = "probe_keys")]
+#[cfg(proved = "test_probe_keys")]
 extern "C" {
     fn probe_key(
         desk: Desk,
@@ -48,7 +48,7 @@ extern "C" {
     ) -> KeyResult;
 }
 
-#[cfg(proved = "play")]
+#[cfg(proved = "test_play")]
 extern "C" {
     fn play_sequence(
         calls: *const u8,
@@ -60,7 +60,7 @@ extern "C" {
     ) -> PlayResult;
 }
 
-#[cfg(proved = "probe_file")]
+#[cfg(proved = "test_probe_file")]
 extern "C" {
     fn probe_file(
         desk: Desk,
@@ -88,42 +88,42 @@ macro_rules! asks {
 impl Program for Proved {
     fn has(&self, library: Library) -> bool {
         match library {
-            Library::Wall => cfg!(proved = "wall"),
-            Library::Probe => cfg!(proved = "probe"),
-            Library::Rows => cfg!(proved = "probe_rows"),
-            Library::Keys => cfg!(proved = "probe_keys"),
-            Library::Play => cfg!(proved = "play"),
-            Library::File => cfg!(proved = "probe_file"),
+            Library::Wall => cfg!(proved = "export_wall"),
+            Library::Probe => cfg!(proved = "test_probe"),
+            Library::Rows => cfg!(proved = "test_probe_rows"),
+            Library::Keys => cfg!(proved = "test_probe_keys"),
+            Library::Play => cfg!(proved = "test_play"),
+            Library::File => cfg!(proved = "test_probe_file"),
         }
     }
 
-    asks!("wall", classify, wall_classify, u8);
-    asks!("probe", number, probe_number, NumberResult);
-    asks!("probe", value, probe_value, u64);
-    asks!("probe", line, probe_line, LineResult);
-    asks!("probe", item, probe_item, u64);
+    asks!("export_wall", classify, wall_classify, u8);
+    asks!("test_probe", number, probe_number, NumberResult);
+    asks!("test_probe", value, probe_value, u64);
+    asks!("test_probe", line, probe_line, LineResult);
+    asks!("test_probe", item, probe_item, u64);
 
-    #[cfg(proved = "wall")]
+    #[cfg(proved = "export_wall")]
     fn grade(&self, row: u64, value: &[u8]) -> Graded {
         unsafe { wall_grade(row, value.as_ptr(), value.len()) }
     }
 
-    #[cfg(proved = "probe_rows")]
+    #[cfg(proved = "test_probe_rows")]
     fn rows(&self, values: &Values) -> RowsResult {
         self.sheet_rows(&Sheet::from(values))
     }
 
-    #[cfg(proved = "probe_rows")]
+    #[cfg(proved = "test_probe_rows")]
     fn sheet_rows(&self, sheet: &Sheet) -> RowsResult {
         unsafe { probe_rows(*sheet) }
     }
 
-    #[cfg(proved = "probe_keys")]
+    #[cfg(proved = "test_probe_keys")]
     fn key(&self, desk: &Desk, log: &mut [u8], used: u64, bench: u64, byte: u8) -> KeyResult {
         unsafe { probe_key(*desk, log.as_mut_ptr(), log.len(), used, bench, byte) }
     }
 
-    #[cfg(proved = "play")]
+    #[cfg(proved = "test_play")]
     fn play(&self, calls: &[u8], log: &mut [u8], out: &mut [u8]) -> PlayResult {
         unsafe {
             play_sequence(
@@ -137,7 +137,7 @@ impl Program for Proved {
         }
     }
 
-    #[cfg(proved = "probe_file")]
+    #[cfg(proved = "test_probe_file")]
     fn file(&self, desk: &Desk, block: &[u8], out: &mut [u8]) -> Filed {
         unsafe { probe_file(*desk, block.as_ptr(), block.len(), out.as_mut_ptr(), out.len()) }
     }

@@ -6,11 +6,11 @@ use mathlib.Core.List.{List, [], _++_}
 use Prim.Native.Nat.{ℕ, _+_, _*_}
 use native.Mathlib.Omega.{arith}
 use lib.ListN.{length, length-append}
-use Rattle.sequence.specs.Calls.{State, freshState, stateOf}
-use Rattle.state.specs.Desks.{freshDesk}
-use Rattle.state.specs.declared.desk.Desk.{Desk}
-use Rattle.session.specs.Play.{stateLeft, played}
-use Rattle.session.proofs.Pairs.{played-in-parts}
+use Rattle.theorem_sequences.specs.Calls.{State, freshState, stateOf}
+use Rattle.desk_state.specs.Desks.{freshDesk}
+use Rattle.desk_state.specs.declared.desk.Desk.{Desk}
+use Rattle.desk_session.specs.Play.{stateLeft, played}
+use Rattle.desk_session.proofs.Pairs.{played-in-parts}
 use Rattle.desk.specs.Run.{PlaysPart, PlaysAll}
 use Rattle.desk.specs.declared.Turn.{Turn}
 

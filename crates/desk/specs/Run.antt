@@ -5,9 +5,9 @@ use mathlib.Core.Path.{_≡_}
 use mathlib.Core.Bool.{true}
 use mathlib.Core.List.{List}
 use lib.ListN.{length}
-use Rattle.state.specs.declared.desk.Desk.{Desk}
-use Rattle.sequence.specs.Calls.{State, freshState}
-use Rattle.session.specs.Play.{stateLeft, played}
+use Rattle.desk_state.specs.declared.desk.Desk.{Desk}
+use Rattle.theorem_sequences.specs.Calls.{State, freshState}
+use Rattle.desk_session.specs.Play.{stateLeft, played}
 use Rattle.desk.specs.declared.Turn.{Turn}
 
 -- the bytes of a part that is full

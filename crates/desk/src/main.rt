@@ -1,12 +1,12 @@
 // Plays the pairs of standard input, a bench digit and a key byte each, on a fresh desk, and prints its report (document 01, "Measured examples").
-ghost use Rattle.session.specs.Play.{stateLeft};
+ghost use Rattle.desk_session.specs.Play.{stateLeft};
 ghost use Rattle.desk.specs.Run.{PlaysPart, PlaysAll};
 use libc::STDIN_FILENO;
 use libc::STDOUT_FILENO;
-use printing::Printed;
-use printing::REPORT_MOST;
-use session::play::Played;
-use state::desk::Desk;
+use program_printing::Printed;
+use program_printing::REPORT_MOST;
+use desk_session::play::Played;
+use desk_state::desk::Desk;
 
 // The bytes of the log, and of a part of the input. The second is even, so that a part that is full ends with a whole pair.
 const LOG_LENGTH: usize = 4096;
@@ -26,7 +26,7 @@ fn play_part(before: Played, log: &mut [u8]) -> Turn
     let desk = before.desk;
     let mut part = [0u8; PART_LENGTH];
     let n = io::read_full(STDIN_FILENO, &mut part);
-    let played = session::play::play_pairs(desk, before.used, log, &part[..n]);
+    let played = desk_session::play::play_pairs(desk, before.used, log, &part[..n]);
     Turn {
         played,
         more: n == PART_LENGTH,
@@ -38,7 +38,7 @@ fn play_part(before: Played, log: &mut [u8]) -> Turn
 fn play_all(log: &mut [u8]) -> Desk
     ensures { λ r. ⌜ PlaysAll (now (log .entry)) r ⌝ }
 {
-    let fresh = state::desk::fresh_desk();
+    let fresh = desk_state::desk::fresh_desk();
     let mut played = Played {
         desk: fresh,
         used: 0,
@@ -61,7 +61,7 @@ fn play_all(log: &mut [u8]) -> Desk
 // Prints the report. Where it cannot be written nothing is left to do.
 fn print(d: Desk) {
     let mut out = [0u8; REPORT_MOST];
-    let Printed::Bytes(n) = printing::print_report(d, &mut out) else {
+    let Printed::Bytes(n) = program_printing::print_report(d, &mut out) else {
         return;
     };
     io::write_all(STDOUT_FILENO, &out[..n]);

@@ -3,14 +3,14 @@
 use Prim.Native.Nat.{ℕ}
 use mathlib.Core.Bool.{Bool, false, cond, _&&_}
 use mathlib.Core.List.{List}
-use Rattle.terms.specs.Terms.{termsOf, some}
-use Rattle.elements.specs.Elements.{sameSymbol, isMetal}
-use Rattle.terms.specs.declared.term.Term.{Term}
-use Rattle.terms.specs.declared.term.Term.the-variants.{Well, Ill}
+use Rattle.formula_terms.specs.Terms.{termsOf, some}
+use Rattle.formula_elements.specs.Elements.{sameSymbol, isMetal}
+use Rattle.formula_terms.specs.declared.term.Term.{Term}
+use Rattle.formula_terms.specs.declared.term.Term.the-variants.{Well, Ill}
 use Rattle.formula_class.specs.declared.Wanted.{Wanted}
 use Rattle.formula_class.specs.declared.Wanted.the-variants.{Symbol, AnyMetal}
-use Rattle.categories.specs.declared.Class.{Class}
-use Rattle.categories.specs.declared.Class.the-variants.{Inorganic, MetalOrganic, Organic}
+use Rattle.line_categories.specs.declared.Class.{Class}
+use Rattle.line_categories.specs.declared.Class.the-variants.{Inorganic, MetalOrganic, Organic}
 
 -- a term is well formed and is one that is looked for
 abbrev pub isWanted : Wanted → Term → Bool

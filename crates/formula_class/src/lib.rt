@@ -1,9 +1,9 @@
 // The class of a formula by its elements (document 01, "The twelve rows": row 3).
 ghost use mathlib.Core.Path.{_≡_};
 ghost use Rattle.formula_class.specs.Class.{isWanted, hasTerm, formulaClass};
-use categories::Class;
-use terms::Step;
-use terms::term::Term;
+use line_categories::Class;
+use formula_terms::Step;
+use formula_terms::term::Term;
 
 // What is looked for among the terms of a formula: a symbol, or that of any metal.
 pub enum Wanted {
@@ -19,8 +19,8 @@ fn is_wanted(t: Term, w: Wanted) -> bool
         return false;
     };
     match w {
-        Wanted::Symbol(a, b) => elements::same_symbol(x, y, a, b),
-        Wanted::AnyMetal => elements::is_metal(x, y),
+        Wanted::Symbol(a, b) => formula_elements::same_symbol(x, y, a, b),
+        Wanted::AnyMetal => formula_elements::is_metal(x, y),
     }
 }
 
@@ -30,7 +30,7 @@ fn has_term(s: &[u8], w: Wanted) -> bool
 {
     let mut from = 0;
     loop {
-        let Step::Next(term, next) = terms::step_at(s, from) else {
+        let Step::Next(term, next) = formula_terms::step_at(s, from) else {
             return false;
         };
         if is_wanted(term, w) {

@@ -6,9 +6,9 @@ use mathlib.Core.List.{List, [], _∷_}
 use Prim.Native.Nat.{ℕ}
 use lib.Dec.{ltb}
 use Rattle.formula_order.specs.Order.{orderKey, orderKeys, rising}
-use Rattle.terms.specs.declared.term.Term.{Term}
-use Rattle.terms.specs.declared.term.Term.the-variants.{Well, Ill}
-use Rattle.terms.proofs.Steps.{termsFrom, Stepped}
+use Rattle.formula_terms.specs.declared.term.Term.{Term}
+use Rattle.formula_terms.specs.declared.term.Term.the-variants.{Well, Ill}
+use Rattle.formula_terms.proofs.Steps.{termsFrom, Stepped}
 
 module _ {s : List ℕ} {from : ℕ} {t : Term} {n : ℕ} (h : Stepped s from t n) (low : ℕ) where
   -- an ill-formed term is left out

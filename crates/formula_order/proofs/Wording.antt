@@ -10,13 +10,13 @@ use borrow.Author.Tests.{ltb-true, ltb-false, lt-ltb, leb-true, eqb-true, eq-eqb
 use lib.Dec.{ltb, leb, eqb}
 use Rattle.text.specs.Run.{between}
 use Rattle.text.proofs.Bools.{and-both, not-holds}
-use Rattle.elements.specs.Elements.{sameSymbol}
-use Rattle.terms.specs.Term.{termOf}
-use Rattle.terms.specs.Terms.{cut, termsOf}
-use Rattle.terms.specs.Grammar.{SymbolText, capital, capital-small}
-use Rattle.terms.specs.declared.term.Term.{Term}
-use Rattle.terms.specs.declared.term.Term.the-variants.{Well, Ill}
-use Rattle.terms.proofs.Wording.{term-is}
+use Rattle.formula_elements.specs.Elements.{sameSymbol}
+use Rattle.formula_terms.specs.Term.{termOf}
+use Rattle.formula_terms.specs.Terms.{cut, termsOf}
+use Rattle.formula_terms.specs.Grammar.{SymbolText, capital, capital-small}
+use Rattle.formula_terms.specs.declared.term.Term.{Term}
+use Rattle.formula_terms.specs.declared.term.Term.the-variants.{Well, Ill}
+use Rattle.formula_terms.proofs.Wording.{term-is}
 use Rattle.formula_order.specs.Order.{rank, orderKey, orderKeys, rising, inOrder}
 use Rattle.formula_order.specs.Wording.{Symbol, carbon, hydrogen, Other, Before, symbolsOf, Ordered}
 

@@ -4,10 +4,10 @@ use Prim.Native.Nat.{ℕ, _+_, _*_}
 use mathlib.Core.Bool.{Bool, true, cond, _&&_}
 use mathlib.Core.List.{List, [], _∷_}
 use lib.Dec.{ltb}
-use Rattle.terms.specs.Terms.{termsOf}
-use Rattle.elements.specs.Elements.{sameSymbol}
-use Rattle.terms.specs.declared.term.Term.{Term}
-use Rattle.terms.specs.declared.term.Term.the-variants.{Well, Ill}
+use Rattle.formula_terms.specs.Terms.{termsOf}
+use Rattle.formula_elements.specs.Elements.{sameSymbol}
+use Rattle.formula_terms.specs.declared.term.Term.{Term}
+use Rattle.formula_terms.specs.declared.term.Term.the-variants.{Well, Ill}
 
 -- "C first, then H, then the others"
 unfoldable pub rank : ℕ → ℕ → ℕ

@@ -3,8 +3,8 @@
 use Prim.Native.Nat.{ℕ, _<_}
 use mathlib.Core.Path.{_≡_}
 use mathlib.Core.List.{List, [], _∷_, List·Memᴰ}
-use Rattle.terms.specs.declared.term.Term.{Term}
-use Rattle.terms.specs.declared.term.Term.the-variants.{Well, Ill}
+use Rattle.formula_terms.specs.declared.term.Term.{Term}
+use Rattle.formula_terms.specs.declared.term.Term.the-variants.{Well, Ill}
 
 -- the two bytes of a symbol; after a single letter the second is a space, 32
 pub record Symbol : Type 0 where

@@ -2,9 +2,9 @@
 ghost use mathlib.Core.Path.{_≡_};
 ghost use Prim.Native.Nat.{_≤_};
 ghost use Rattle.formula_order.specs.Order.{rank, orderKey, inOrder};
-use elements::same_symbol;
-use terms::Step;
-use terms::term::Term;
+use formula_elements::same_symbol;
+use formula_terms::Step;
+use formula_terms::term::Term;
 
 // The place of a symbol among the first: C, then H, then all others.
 fn rank_of(a: u8, b: u8) -> u32
@@ -33,7 +33,7 @@ pub fn in_order(s: &[u8]) -> bool
     let mut last: u32 = 0;
     let mut from = 0;
     loop {
-        let Step::Next(term, next) = terms::step_at(s, from) else {
+        let Step::Next(term, next) = formula_terms::step_at(s, from) else {
             return true;
         };
         from = next;

@@ -6,7 +6,7 @@ use lib.IntN.{ℤ, pos}
 use lib.Signed.{ltZ}
 use mir.Syntax.{w64}
 use mir.Val.{SFits, toZ, ofZ}
-use Rattle.signed.proofs.Signs.{back}
+use Rattle.number_signed.proofs.Signs.{back}
 
 -- a test against zero, as the machine makes it, is that of the number
 pub zero-test : (z : ℤ) (t : Bool) → SFits w64 z → ltZ (toZ w64 (ofZ w64 z)) (pos 0) ≡ t → ltZ z (pos 0) ≡ t

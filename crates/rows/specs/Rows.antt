@@ -6,7 +6,7 @@ use mathlib.Core.Bool.{Bool, _||_}
 use mathlib.Core.List.{List}
 use lib.Dec.{eqb}
 use lib.ListN.{length, replicate}
-use Rattle.values.specs.Value.{isUnassigned}
+use Rattle.line_values.specs.Value.{isUnassigned}
 use Rattle.rows.specs.declared.Row.{Row}
 use Rattle.rows.specs.declared.Rows.{Rows}
 

@@ -43,5 +43,5 @@ pub fn is_missing(v: &[u8]) -> bool
     if v.len() == 0 {
         return true;
     }
-    values::is_unassigned(v)
+    line_values::is_unassigned(v)
 }

@@ -5,7 +5,7 @@ use native.Mathlib.Omega.{arith}
 use mathlib.Core.Path.{_≡_}
 use borrow.Author.Tests.{not-false}
 use lib.ListN.{length}
-use Rattle.session.specs.Play.{stateLeft}
+use Rattle.desk_session.specs.Play.{stateLeft}
 use Rattle.desk.proofs.Parts.{Reached, reached-none, reached-next, reached-end, reached-all}
 use Rattle.desk.proofs.play_all.Statement.{statement}
 use Rattle.desk.proofs.play_all.Tie as tie

@@ -5,8 +5,8 @@ use Prim.Native.Nat.{_≤_}
 use mathlib.Core.Path.{sym, _∙_}
 use lib.ListN.{length}
 use lib.Seq.{length-take-le}
-use Rattle.printing.specs.Print.{printedOf}
-use Rattle.printing.proofs.Prints.{printed-within}
+use Rattle.program_printing.specs.Print.{printedOf}
+use Rattle.program_printing.proofs.Prints.{printed-within}
 use borrow.Author.Needs.{needs}
 use Rattle.desk.proofs.print.Statement.{statement}
 use Rattle.desk.proofs.print.Tie as tie

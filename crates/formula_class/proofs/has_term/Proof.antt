@@ -5,9 +5,9 @@ use mathlib.Core.Path.{_≡_, sym, ap, _∙_}
 use mathlib.Core.Bool.{true, false}
 use Prim.Native.Nat.{_+_, _-_}
 use lib.ListN.{length}
-use Rattle.terms.specs.Terms.{some}
+use Rattle.formula_terms.specs.Terms.{some}
 use Rattle.formula_class.specs.Class.{isWanted, hasTerm}
-use Rattle.terms.proofs.Steps.{termsFrom, from-start, Stepped, step-next, step-end, falls, some-next, some-end}
+use Rattle.formula_terms.proofs.Steps.{termsFrom, from-start, Stepped, step-next, step-end, falls, some-next, some-end}
 use Rattle.formula_class.proofs.has_term.Statement.{statement}
 use Rattle.formula_class.proofs.has_term.Tie as tie
 

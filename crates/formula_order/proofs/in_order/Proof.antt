@@ -8,8 +8,8 @@ use Prim.Native.Nat.{_+_, _-_}
 use borrow.Author.Tests.{lt-ltb, le-ltb}
 use lib.ListN.{length}
 use Rattle.formula_order.specs.Order.{orderKeys, rising, inOrder}
-use Rattle.terms.specs.declared.term.Term.{Term}
-use Rattle.terms.proofs.Steps.{termsFrom, from-start, Stepped, step-next, step-end, falls}
+use Rattle.formula_terms.specs.declared.term.Term.{Term}
+use Rattle.formula_terms.proofs.Steps.{termsFrom, from-start, Stepped, step-next, step-end, falls}
 use Rattle.formula_order.proofs.Orders.{order-skip, order-next, order-end}
 use Rattle.formula_order.proofs.in_order.Statement.{statement}
 use Rattle.formula_order.proofs.in_order.Tie as tie

@@ -1,0 +1,25 @@
+-- The numbers of the answers of a key call and of the two questions (document 01, "Keys and their refusals").
+-- Assumes nothing.
+use Prim.Native.Nat.{ℕ}
+use Rattle.desk_answers.specs.declared.Answer.{Answer}
+use Rattle.desk_answers.specs.declared.Answer.the-variants.{Accepted, NoBench, Unsound, NoKey, LineFull, BadForm, UnknownName, WrongKind, NoRoom}
+use Rattle.desk_answers.specs.declared.Asked.{Asked}
+use Rattle.desk_answers.specs.declared.Asked.the-variants as asked
+
+-- the numbers of "Keys and their refusals"
+abbrev pub answerNumber : Answer → ℕ
+answerNumber Accepted = 0
+answerNumber NoBench = 1
+answerNumber Unsound = 2
+answerNumber NoKey = 3
+answerNumber LineFull = 4
+answerNumber BadForm = 5
+answerNumber UnknownName = 6
+answerNumber WrongKind = 7
+answerNumber NoRoom = 8
+
+-- the numbers of "Two questions": "2 if unsound, else 6 if not 1 to 10; else 0"
+abbrev pub askedNumber : Asked → ℕ
+askedNumber asked.Answered = 0
+askedNumber asked.Unsound = 2
+askedNumber asked.NoItem = 6

@@ -1,0 +1,51 @@
+// The answers of a key call and of the two questions, and their numbers (document 01, "Keys and their refusals").
+ghost use mathlib.Core.Path.{_≡_};
+ghost use Rattle.desk_answers.specs.Number.{answerNumber, askedNumber};
+
+// The answers of a key call.
+pub enum Answer {
+    Accepted,
+    NoBench,
+    Unsound,
+    NoKey,
+    LineFull,
+    BadForm,
+    UnknownName,
+    WrongKind,
+    NoRoom,
+}
+
+// The number of an answer.
+pub fn answer_number(a: Answer) -> u8
+    ensures { λ r. ⌜ r ≡ answerNumber a ⌝ }
+{
+    match a {
+        Answer::Accepted => 0,
+        Answer::NoBench => 1,
+        Answer::Unsound => 2,
+        Answer::NoKey => 3,
+        Answer::LineFull => 4,
+        Answer::BadForm => 5,
+        Answer::UnknownName => 6,
+        Answer::WrongKind => 7,
+        Answer::NoRoom => 8,
+    }
+}
+
+// The answers of a question.
+pub enum Asked {
+    Answered,
+    Unsound,
+    NoItem,
+}
+
+// The number of a question's answer.
+pub fn asked_number(a: Asked) -> u8
+    ensures { λ r. ⌜ r ≡ askedNumber a ⌝ }
+{
+    match a {
+        Asked::Answered => 0,
+        Asked::Unsound => 2,
+        Asked::NoItem => 6,
+    }
+}

@@ -1,0 +1,15 @@
+-- What a sound desk gives to the step of a key.
+-- Assumes nothing.
+use Prim.Native.Nat.{ℕ, _<_, _≤_}
+use mathlib.Core.List.{List}
+use lib.ListN.{length}
+use Rattle.line_items.specs.Typed.{lineMost}
+use Rattle.desk_state.specs.Desks.{benchCount, lineAt}
+use Rattle.desk_sound_log.specs.SoundLog.{logMost}
+use Rattle.desk_state.specs.declared.desk.Desk.{Desk}
+
+pub record Ready (d : Desk) (used : ℕ) (log : List ℕ) (bench : ℕ) : Type 0 where
+  pub bench-in : bench < benchCount
+  pub short : lineAt d bench .len ≤ lineMost
+  pub few : d .sheet .count < logMost
+  pub room : used ≤ length log

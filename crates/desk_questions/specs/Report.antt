@@ -1,0 +1,27 @@
+-- The report (document 01, "Keys and their refusals", "Two questions").
+-- Assumes nothing.
+use Prim.Native.Nat.{ℕ}
+use mathlib.Core.Bool.{cond}
+use Rattle.desk_soundness.specs.Sound.{soundDesk}
+use Rattle.desk_state.specs.declared.desk.Desk.{Desk}
+use Rattle.rows.specs.Rows.{noRows}
+use Rattle.rows_sheet.specs.Sheet.{rowsOf}
+use Rattle.rows.specs.declared.Rows.{Rows}
+use Rattle.desk_answers.specs.Number.{askedNumber}
+use Rattle.desk_questions.specs.declared.report.Reported.{Reported}
+
+-- a report: the number of its answer, and rows
+pub record Report : Type 0 where
+  pub answer : ℕ
+  pub rows : Rows
+
+abbrev pub reportedAs : ℕ → Rows → Report
+reportedAs a rows = record { answer = a; rows = rows }
+
+-- the function's result
+abbrev pub reportIn : Reported → Report
+reportIn r = reportedAs (askedNumber (r .answer)) (r .rows)
+
+-- "Report gives twelve rows; on an unsound desk it gives 2 and rows all level 0, reason 0"
+unfoldable pub reportedOf : Desk → Report
+reportedOf d = cond (soundDesk d) (reportedAs 0 (rowsOf (d .sheet))) (reportedAs 2 noRows)

@@ -1,0 +1,36 @@
+-- Who typed an item (document 01, "Keys and their refusals", "Two questions").
+-- Assumes nothing.
+use Prim.Native.Nat.{ℕ}
+use mathlib.Core.Bool.{cond}
+use lib.Dec.{eqb}
+use Rattle.line_items.specs.Items.{isItem}
+use Rattle.desk_state.specs.Desks.{noBench}
+use Rattle.desk_state.specs.Sheets.{itemAt}
+use Rattle.desk_soundness.specs.Sound.{soundDesk}
+use Rattle.desk_state.specs.declared.sheet.Item.{Item}
+use Rattle.desk_state.specs.declared.desk.Desk.{Desk}
+use Rattle.desk_answers.specs.Number.{askedNumber}
+use Rattle.desk_questions.specs.declared.who.Told.{Told}
+
+-- what Who tells: the number of its answer, the item's last entry and its bench
+pub record Who : Type 0 where
+  pub answer : ℕ
+  pub entry : ℕ
+  pub bench : ℕ
+
+-- the function's result
+abbrev pub whoIn : Told → Who
+whoIn t = record { answer = askedNumber (t .answer); entry = t .entry; bench = t .bench }
+
+-- "For an empty item, and with any refusal, bench is 255 and entry 0"
+abbrev pub nobody : ℕ → Who
+nobody a = record { answer = a; entry = 0; bench = noBench }
+
+-- "bench and entry number" of an item
+unfoldable pub toldOf : Item → Who
+toldOf i = cond (eqb (i .len) 0) (nobody 0) (record { answer = 0; entry = i .entry; bench = i .bench })
+
+-- "Who takes an item number: 2 if unsound, else 6 if not 1 to 10; else 0 with bench and entry number"
+unfoldable pub whoOf : Desk → ℕ → Who
+whoOf d item =
+    cond (soundDesk d) (cond (isItem item) (toldOf (itemAt (d .sheet) item)) (nobody 6)) (nobody 2)

@@ -1,0 +1,35 @@
+-- `sound_log::is_sound_log` meets its contract: each return has the tests of `soundLog` on its way.
+-- Assumes nothing.
+use native.Mathlib.Omega.{arith}
+use Prim.Native.Nat.{_*_}
+use borrow.Author.Tests.{le-leb, lt-leb}
+use Rattle.desk_sound_log.specs.SoundLog.{logMost, soundLog}
+use Rattle.desk_sound_log.proofs.is_sound_log.Statement.{statement}
+use Rattle.desk_sound_log.proofs.is_sound_log.Tie as tie
+
+returns : tie.Need-returns
+unfolding soundLog
+returns c = simp (lt-leb _ logMost (c .if1 .taken))
+
+returns-2 : tie.Need-returns-2
+unfolding soundLog
+returns-2 c = simp (le-leb _ logMost (c .before .if1 .left), lt-leb _ _ (c .if2 .taken))
+
+returns-3 : tie.Need-returns-3
+unfolding soundLog
+returns-3 c =
+    let e2 = c .before .before .before in
+    let e1 = e2 .before in
+    let a = e1 .before .args in
+    simp (le-leb _ logMost (e1 .if1 .left), le-leb _ _ (e2 .if2 .left), lt-leb (6 * a .d .sheet .count) (a .used) (omega arith))
+
+returns-4 : tie.Need-returns-4
+unfolding soundLog
+returns-4 c =
+    let e2 = c .before .before .before in
+    let e1 = e2 .before in
+    let a = e1 .before .args in
+    simp (le-leb _ logMost (e1 .if1 .left), le-leb _ _ (e2 .if2 .left), le-leb (6 * a .d .sheet .count) (a .used) (omega arith))
+
+pub is-sound-log-spec : {M : Type 1} → statement M
+is-sound-log-spec = tie.close (tie.spec returns returns-2 returns-3 returns-4)

@@ -1,0 +1,32 @@
+-- Laws of `every`: a loop that has passed i elements has the rest of them before it.
+-- Assumes nothing.
+use mathlib.Core.Path.{_≡_}
+use mathlib.Core.Bool.{Bool, true, _&&_}
+use mathlib.Core.List.{List, [], _∷_}
+use Prim.Native.Nat.{ℕ, zero, suc, _+_, _≤_, _<_}
+use native.Mathlib.Omega.{arith}
+use native.Mathlib.Nat.{add-zero, not-suc-le-zero, le-of-suc-le-suc}
+use native.Mathlib.Numerals.{add-one}
+use lib.ListN.{length, getD, drop, drop-of-length-le}
+use lib.Seq.{drop-cons}
+use Rattle.text.proofs.Bools.{and-both}
+use Rattle.desk_soundness.specs.Sound.{every}
+
+module _ {A : Type 0} (p : ℕ → A → Bool) (s : List A) where
+  pub every-at : (i : ℕ) (d : A) → i < length s → every p i (drop i s) ≡ (p i (getD s i d) && every p (i + 1) (drop (i + 1) s))
+  unfolding every
+  every-at i d h = rw (add-one, drop-cons s i d h)
+
+  pub every-end : (i : ℕ) → length s ≤ i → every p i (drop i s) ≡ true
+  unfolding every
+  every-end i h = rw (drop-of-length-le s h)
+
+-- what holds of every element holds of each
+pub every-each : {A : Type 0} (p : ℕ → A → Bool) (s : List A) (n i : ℕ) (d : A) → every p n s ≡ true → i < length s → p (n + i) (getD s i d) ≡ true
+unfolding every
+every-each p [] n i d e h = absurd (not-suc-le-zero h)
+every-each p (x ∷ xs) n zero d e h = rw (add-zero n) (and-both (p n x) _ e .0)
+every-each p (x ∷ xs) n (suc i) d e h =
+    let k = every-each p xs (suc n) i d (and-both (p n x) _ e .1) (le-of-suc-le-suc h) in
+    let g : n + suc i ≡ suc n + i = omega arith in
+    rw g k

@@ -1,0 +1,54 @@
+-- When a desk is sound (document 01, "What the desk holds"); the part on the log is in specs/SoundLog.antt of sound_log.
+-- Assumes nothing.
+use Prim.Native.Nat.{ℕ, suc, _+_}
+use mathlib.Core.List.{List, [], _∷_}
+use mathlib.Core.Bool.{Bool, true, cond, _&&_}
+use lib.ListN.{drop}
+use lib.Dec.{ltb, leb, eqb}
+use Rattle.text.specs.Run.{all, between}
+use Rattle.line_items.specs.Typed.{lineMost, isTyped}
+use Rattle.line_kinds.specs.Kinds.{fits}
+use Rattle.desk_state.specs.Lines.{typed}
+use Rattle.desk_state.specs.Sheets.{valueIn}
+use Rattle.desk_state.specs.Desks.{benchCount}
+use Rattle.desk_state.specs.declared.line.Line.{Line}
+use Rattle.desk_state.specs.declared.sheet.Item.{Item}
+use Rattle.desk_state.specs.declared.sheet.Sheet.{Sheet}
+use Rattle.desk_state.specs.declared.desk.Desk.{Desk}
+
+-- a test of every element and its place, counted from i
+unfoldable pub every : {A : Type 0} → (ℕ → A → Bool) → ℕ → List A → Bool
+every p i [] = true
+every p i (x ∷ xs) = p i x && every p (suc i) xs
+
+-- zeros
+abbrev pub zeros : List ℕ → Bool
+zeros bs = all (between 0 0) bs
+
+-- "each line is at most 80 bytes, all 32 to 126", "unused bytes are zero"
+unfoldable pub soundLine : Line → Bool
+soundLine l = leb (l .len) lineMost && (all isTyped (typed l) && zeros (drop (l .len) (l .bytes)))
+
+-- "empty items are zero"
+unfoldable pub soundEmpty : Item → Bool
+soundEmpty i = eqb (i .bench) 0 && (eqb (i .entry) 0 && zeros (i .value))
+
+-- "each filled item has bench 0 to 3, an entry number from 1 to the count and a value .. " that its item, k, can hold; "unused bytes are zero"
+unfoldable pub soundFilled : ℕ → ℕ → Item → Bool
+soundFilled count k i =
+    ltb (i .bench) benchCount && (leb 1 (i .entry) && (leb (i .entry) count
+    && (leb (i .len) lineMost && (fits k (valueIn i) && zeros (drop (i .len) (i .value))))))
+
+-- an item at place k, counted from 0, of a sheet with that count; it is filled when it has a value
+unfoldable pub soundItem : ℕ → ℕ → Item → Bool
+soundItem count k i = cond (eqb (i .len) 0) (soundEmpty i) (soundFilled count (k + 1) i)
+
+unfoldable pub soundLines : Desk → Bool
+soundLines d = every (λ (k : ℕ) (l : Line). soundLine l) 0 (d .lines)
+
+unfoldable pub soundSheet : Sheet → Bool
+soundSheet s = every (soundItem (s .count)) 0 (s .items)
+
+-- "A desk is sound when .."
+unfoldable pub soundDesk : Desk → Bool
+soundDesk d = soundLines d && soundSheet (d .sheet)

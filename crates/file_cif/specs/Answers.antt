@@ -1,0 +1,40 @@
+-- What writing the file answers and leaves, for every desk, block name and lent bytes (document 02, No. 1).
+-- Assumes nothing.
+use Prim.Native.Nat.{ℕ}
+use mathlib.Core.Bool.{cond}
+use mathlib.Core.List.{List, _++_}
+use lib.Dec.{leb}
+use lib.ListN.{length, drop}
+use Rattle.desk_soundness.specs.Sound.{soundDesk}
+use Rattle.desk_state.specs.declared.desk.Desk.{Desk}
+use Rattle.file_block_name.specs.Block.{isBlockName}
+use Rattle.file_cif.specs.File.{fileOf}
+use Rattle.file_answers.specs.Number.{fileNumber}
+use Rattle.file_cif.specs.declared.file.Filed.{Filed}
+
+-- everything that writing leaves: the answer's number, "how many bytes it wrote", and the whole of the lent bytes
+pub record After : Type 0 where
+  pub answer : ℕ
+  pub count : ℕ
+  pub out : List ℕ
+
+-- the function's result and what the lent bytes then hold
+abbrev pub after : Filed → List ℕ → After
+after r out = record { answer = fileNumber (r .answer); count = r .count; out = out }
+
+-- "with a refusal, 0 and none at all"
+abbrev pub refused : ℕ → List ℕ → After
+refused a out = record { answer = a; count = 0; out = out }
+
+-- "It says how many bytes it wrote and touches none after them"
+abbrev pub written : List ℕ → List ℕ → After
+written file out = record { answer = 0; count = length file; out = file ++ drop (length file) out }
+
+-- the file in the lent bytes; no room "exactly when the whole file is longer than the lent bytes"
+abbrev pub writtenIn : List ℕ → List ℕ → After
+writtenIn file out = cond (leb (length file) (length out)) (written file out) (refused 10 out)
+
+-- "Refusal numbers .. each given exactly when its condition is the first that applies"
+unfoldable pub fileStep : Desk → List ℕ → List ℕ → After
+fileStep d name out =
+    cond (soundDesk d) (cond (isBlockName name) (writtenIn (fileOf name (d .sheet)) out) (refused 11 out)) (refused 2 out)

@@ -1,0 +1,85 @@
+-- The printed report (document 01, "Measured examples", the program `desk`).
+-- Assumes nothing.
+use Prim.Native.Nat.{ℕ, zero, suc, _+_, _-_, _/_, _%_}
+use mathlib.Core.Bool.{cond}
+use mathlib.Core.List.{List, [], _∷_, _++_}
+use lib.Dec.{ltb, leb, eqb}
+use lib.ListN.{length, getD}
+use Rattle.text.specs.Quote.{bytes}
+use Rattle.text_copies.specs.Each.{linesFrom}
+use Rattle.desk_state.specs.Sheets.{valueIn}
+use Rattle.desk_state.specs.declared.sheet.Item.{Item}
+use Rattle.desk_state.specs.declared.desk.Desk.{Desk}
+use Rattle.rows.specs.Rows.{rowCount}
+use Rattle.rows.specs.declared.Row.{Row}
+use Rattle.desk_questions.specs.Report.{reportedOf}
+use Rattle.program_printing.specs.Page.{decimalMost}
+use Rattle.program_printing.specs.declared.Printed.{Printed}
+use Rattle.program_printing.specs.declared.Printed.the-variants.{Bytes, NoRoom}
+
+-- the digit of a number below 10
+abbrev pub digit : ℕ → ℕ
+digit n = 48 + n
+
+-- a number below 100 in two digits
+abbrev pub twoDigits : ℕ → List ℕ
+twoDigits n = digit (n / 10) ∷ digit (n % 10) ∷ []
+
+-- the last digits of a number, at most so many, without leading zeros
+unfoldable pub lastDigits : ℕ → ℕ → List ℕ
+lastDigits zero n = []
+lastDigits (suc most) n = cond (ltb n 10) [] (lastDigits most (n / 10)) ++ (digit (n % 10) ∷ [])
+
+-- a number in decimal; one of 64 bits has at most 20 digits
+abbrev pub decimalText : ℕ → List ℕ
+decimalText n = lastDigits decimalMost n
+
+-- a line: some texts one after the other, ended by byte 10
+abbrev pub line : List (List ℕ) → List ℕ
+line [] = 10 ∷ []
+line (t ∷ ts) = t ++ line ts
+
+-- the names of the twelve rows; the first is row 1
+unfoldable pub rowNames : List (List ℕ)
+rowNames =
+    bytes "CHEMS_01s" ∷
+    bytes "CHEMS_01o" ∷
+    bytes "CHEMS_02" ∷
+    bytes "CHEMW_01r" ∷
+    bytes "CHEMW_01d" ∷
+    bytes "RFACG_01" ∷
+    bytes "RFACG_01g" ∷
+    bytes "RFACR_01" ∷
+    bytes "RFACR_01g" ∷
+    bytes "SHFSU_01" ∷
+    bytes "SHFSU_01g" ∷
+    bytes "REFLE_01" ∷ []
+
+abbrev pub rowName : ℕ → List ℕ
+rowName k = getD rowNames (k - 1) []
+
+-- "Level 0 none, 1 General, 2 C, 3 B, 4 A" in one letter; no row has another level
+abbrev pub levelLetter : ℕ → ℕ
+levelLetter level = getD (bytes "-GCBA") level 63
+
+-- `06 RFACG_01 B 0`: the row's number, its name, its level and its reason
+abbrev pub rowLine : ℕ → Row → List ℕ
+rowLine k r =
+    line (twoDigits k ∷ bytes " " ∷ rowName k ∷ bytes " " ∷ (levelLetter (r .level) ∷ []) ∷ bytes " " ∷ decimalText (r .reason) ∷ [])
+
+-- `ITEM 04 bench 0 entry 1 0.16`: the item's number, its bench, its entry number and its value as typed
+abbrev pub filledLine : ℕ → Item → List ℕ
+filledLine k i = line (
+    bytes "ITEM " ∷ twoDigits k ∷ bytes " bench " ∷ decimalText (i .bench) ∷ bytes " entry " ∷ decimalText (i .entry) ∷ bytes " " ∷ valueIn i ∷ [])
+
+-- nothing for an empty item
+unfoldable pub printedItem : ℕ → Item → List ℕ
+printedItem k i = cond (eqb (i .len) 0) [] (filledLine k i)
+
+-- the whole text: a head with the number of rows, the rows of the report, the filled items
+unfoldable pub printedOf : Desk → List ℕ
+printedOf d = line (bytes "REPORT " ∷ twoDigits rowCount ∷ []) ++ (linesFrom rowLine 1 (reportedOf d .rows .rows) ++ linesFrom printedItem 1 (d .sheet .items))
+
+-- what the printing of a text answers: how many bytes it is, or that `out` is shorter
+unfoldable pub printedIn : List ℕ → List ℕ → Printed
+printedIn out t = cond (leb (length t) (length out)) (Bytes (length t)) NoRoom

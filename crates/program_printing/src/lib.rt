@@ -1,0 +1,205 @@
+// The printed report (document 01, "Measured examples"): the twelve rows, and the filled items with their benches and entry numbers.
+// page: a text under way.
+ghost use mathlib.Core.Path.{_≡_};
+ghost use Prim.Native.Nat.{_+_, _*_, _≤_, _<_};
+ghost use lib.ListN.{length};
+ghost use Rattle.line_items.specs.Typed.{lineMost};
+ghost use Rattle.line_items.specs.Items.{itemCount};
+ghost use Rattle.desk_state.specs.Sheets.{valueIn};
+ghost use Rattle.rows.specs.Rows.{rowCount};
+ghost use Rattle.text_copies.specs.Each.{linesFrom};
+ghost use Rattle.program_printing.specs.Page.{pageMost, rowNameMost, rowLineMost, printedItemMost, written, Adds};
+ghost use Rattle.program_printing.specs.Print.{rowName, levelLetter, rowLine, filledLine, printedItem, printedOf, printedIn};
+ghost use Rattle.text_copies.specs.Copy.{copied};
+
+mod page;
+
+use crate::page::PAGE_MOST;
+use crate::page::Page;
+use crate::page::put;
+use crate::page::put_byte;
+use crate::page::put_decimal;
+use crate::page::put_two_digits;
+use line_items::ITEM_COUNT;
+use rows::ROW_COUNT;
+use rows::Row;
+use rows::Rows;
+use desk_state::desk::Desk;
+use desk_state::sheet::Item;
+use desk_state::sheet::Sheet;
+use desk_state::sheet::value_length;
+
+// How many bytes were printed, or that there was no room for them.
+pub enum Printed {
+    Bytes(usize),
+    NoRoom,
+}
+
+// The longest report.
+pub const REPORT_MOST: usize = PAGE_MOST;
+
+// The names of the rows one after the other, where each begins, and the letters of the levels.
+const ROW_NAMES: [u8; 103] = *b"CHEMS_01s\
+    CHEMS_01o\
+    CHEMS_02\
+    CHEMW_01r\
+    CHEMW_01d\
+    RFACG_01\
+    RFACG_01g\
+    RFACR_01\
+    RFACR_01g\
+    SHFSU_01\
+    SHFSU_01g\
+    REFLE_01";
+
+const STARTS: [usize; 13] = [0, 9, 18, 26, 35, 44, 52, 61, 69, 78, 86, 95, 103];
+
+const LEVEL_LETTERS: [u8; 5] = *b"-GCBA";
+
+// What stands for a level that no row has.
+const NO_LETTER: u8 = b'?';
+
+// The page with the name of row k + 1 more.
+fn put_name(p: Page, k: usize) -> Page
+    requires { ⌜ (p .len + rowNameMost ≤ pageMost) × (k < rowCount) ⌝ }
+    ensures { λ r. ⌜ Adds p (rowName (k + 1)) r × (r .len ≤ p .len + rowNameMost) ⌝ }
+{
+    let from = STARTS[k];
+    let to = STARTS[k + 1];
+    put(p, &ROW_NAMES[from..to])
+}
+
+fn letter_of(level: u8) -> u8
+    ensures { λ r. ⌜ r ≡ levelLetter level ⌝ }
+{
+    let at = level as usize;
+    if at < LEVEL_LETTERS.len() {
+        return LEVEL_LETTERS[at];
+    }
+    NO_LETTER
+}
+
+fn wide(x: u8) -> usize
+    ensures { λ r. ⌜ r ≡ x ⌝ }
+{
+    x as usize
+}
+
+// The page with the line of row k + 1 more.
+fn put_row(p: Page, k: usize, row: Row) -> Page
+    requires { ⌜ (p .len + rowLineMost ≤ pageMost) × (k < rowCount) ⌝ }
+    ensures { λ r. ⌜ Adds p (rowLine (k + 1) row) r × (r .len ≤ p .len + rowLineMost) ⌝ }
+{
+    let p1 = put_two_digits(p, k + 1);
+    let p2 = put(p1, b" ");
+    let p3 = put_name(p2, k);
+    let p4 = put(p3, b" ");
+    let p5 = put_byte(p4, letter_of(row.level));
+    let p6 = put(p5, b" ");
+    let p7 = put_decimal(p6, wide(row.reason));
+    put(p7, b"\n")
+}
+
+// The page with all rows more.
+fn put_rows(p: Page, rows: Rows) -> Page
+    requires { ⌜ p .len + rowLineMost * rowCount ≤ pageMost ⌝ }
+    ensures { λ r. ⌜ Adds p (linesFrom rowLine 1 (rows .rows)) r × (r .len ≤ p .len + rowLineMost * rowCount) ⌝ }
+{
+    let mut page = p;
+    let mut i = 0;
+    while i < ROW_COUNT {
+        let row = rows.rows[i];
+        let next = put_row(page, i, row);
+        page = next;
+        i += 1;
+    }
+    page
+}
+
+// The page with an item's value more.
+fn put_value(p: Page, item: Item) -> Page
+    requires { ⌜ p .len + lineMost ≤ pageMost ⌝ }
+    ensures { λ r. ⌜ Adds p (valueIn item) r × (r .len ≤ p .len + lineMost) ⌝ }
+{
+    let n = value_length(item);
+    let value = item.value;
+    put(p, &value[..n])
+}
+
+// The page with the line of the filled item k + 1 more.
+fn put_filled(p: Page, k: usize, item: Item) -> Page
+    requires { ⌜ (p .len + printedItemMost ≤ pageMost) × (k < itemCount) ⌝ }
+    ensures { λ r. ⌜ Adds p (filledLine (k + 1) item) r × (r .len ≤ p .len + printedItemMost) ⌝ }
+{
+    let p1 = put(p, b"ITEM ");
+    let p2 = put_two_digits(p1, k + 1);
+    let p3 = put(p2, b" bench ");
+    let p4 = put_decimal(p3, wide(item.bench));
+    let p5 = put(p4, b" entry ");
+    let p6 = put_decimal(p5, item.entry);
+    let p7 = put(p6, b" ");
+    let p8 = put_value(p7, item);
+    put(p8, b"\n")
+}
+
+// The page with the line of item k + 1 more, where the item is filled.
+fn put_item(p: Page, k: usize, item: Item) -> Page
+    requires { ⌜ (p .len + printedItemMost ≤ pageMost) × (k < itemCount) ⌝ }
+    ensures { λ r. ⌜ Adds p (printedItem (k + 1) item) r × (r .len ≤ p .len + printedItemMost) ⌝ }
+{
+    if item.len == 0 {
+        return p;
+    }
+    put_filled(p, k, item)
+}
+
+// The page with all filled items more.
+fn put_items(p: Page, sheet: Sheet) -> Page
+    requires { ⌜ p .len + printedItemMost * itemCount ≤ pageMost ⌝ }
+    ensures { λ r. ⌜ Adds p (linesFrom printedItem 1 (sheet .items)) r × (r .len ≤ p .len + printedItemMost * itemCount) ⌝ }
+{
+    let mut page = p;
+    let mut i = 0;
+    while i < ITEM_COUNT {
+        let item = sheet.items[i];
+        let next = put_item(page, i, item);
+        page = next;
+        i += 1;
+    }
+    page
+}
+
+// The page of a desk's report.
+fn report_page(d: Desk) -> Page
+    ensures { λ r. ⌜ (written r ≡ printedOf d) × (r .len ≡ length (printedOf d)) × (r .len ≤ pageMost) ⌝ }
+{
+    let reported = desk_questions::report::report(d);
+    let rows = reported.rows;
+    let sheet = d.sheet;
+    let empty = crate::page::empty_page();
+    let head = put(empty, b"REPORT 12\n");
+    let with_rows = put_rows(head, rows);
+    put_items(with_rows, sheet)
+}
+
+// Copies a page out, if there is room for it.
+fn copy_out(p: Page, out: &mut [u8]) -> Printed
+    requires { ⌜ p .len ≤ pageMost ⌝ }
+    ensures { λ r. ⌜ (r ≡ printedIn (now (out .entry)) (written p)) × (now (out .exit) ≡ copied (now (out .entry)) 0 (written p)) ⌝ }
+{
+    let n = p.len;
+    if out.len() < n {
+        return Printed::NoRoom;
+    }
+    let bytes = p.bytes;
+    text_copies::copy_in(out, 0, &bytes[..n]);
+    Printed::Bytes(n)
+}
+
+// Prints the report of a desk at the start of out and says how many bytes it is; with no room for all of it, nothing. REPORT_MOST bytes are always room.
+pub fn print_report(d: Desk, out: &mut [u8]) -> Printed
+    ensures { λ r. ⌜ (r ≡ printedIn (now (out .entry)) (printedOf d)) × (now (out .exit) ≡ copied (now (out .entry)) 0 (printedOf d)) × (length (printedOf d) ≤ pageMost) ⌝ }
+{
+    let page = report_page(d);
+    copy_out(page, out)
+}

@@ -1,0 +1,35 @@
+-- The rows that have bounds, where they apply and can be judged (document 01, rows 4, 6, 8, 10 and 12).
+-- `Judged a b c r`: the tests a, b and c are those of the bounds of A, B and C, and r is the row.
+-- Assumes nothing.
+use Prim.Native.Nat.{ℕ, _+_, _*_}
+use mathlib.Core.Path.{_≡_}
+use mathlib.Core.Bool.{Bool, true, false, _&&_}
+use mathlib.Core.List.{List}
+use lib.Dec.{leb}
+use lib.IntN.{ℤ}
+use Rattle.number_decimal.specs.Reading.{readingOf}
+use Rattle.number_decimal.specs.declared.Reading.the-variants.{Number}
+use Rattle.line_quotes.specs.Quoted.{textOf}
+use Rattle.formula_sum.specs.Recognised.{allRecognised}
+use Rattle.formula_sum.specs.Sum.{sumOf}
+use Rattle.formula_elements.specs.declared.Weight.the-variants.{Thousandths}
+use Rattle.rows_levels.specs.Bounds.{boundsPlace, judgedOf, above}
+use Rattle.rows_levels.specs.declared.Place.the-variants.{At}
+use Rattle.rows.specs.Rows.{missing}
+use Rattle.rows_weight.specs.WeightRows.{millionths, ratioOutside, row4}
+use Rattle.rows_graded.specs.GradedRows.{judgedValue, gradedRow}
+use Rattle.rows_threshold.specs.Threshold.{row12}
+use Rattle.rows_threshold.specs.Wording.{IsThreshold}
+use Rattle.rows.specs.declared.Row.{Row}
+
+pub data Judged : Bool → Bool → Bool → Row → Type 0 where
+  -- row 4: formula and weight are there, every term is recognised, and every symbol has a weight
+  ratio : (f w : List ℕ) (given : ℤ) (s : ℕ) → missing f ≡ false → missing w ≡ false → allRecognised (textOf f) ≡ true
+      → readingOf w ≡ Number given → sumOf (textOf f) ≡ Thousandths s
+      → Judged (ratioOutside 90 110 given (millionths s)) (ratioOutside 95 105 given (millionths s)) (ratioOutside 99 101 given (millionths s)) (row4 f w)
+  -- rows 6, 8 and 10: the new name or the old one is assigned
+  graded : (row place : ℕ) (new old : List ℕ) (z : ℤ) → boundsPlace row ≡ At place → (missing new && missing old) ≡ false → readingOf (judgedValue new old) ≡ Number z
+      → Judged (above (3 * place) (judgedOf place z)) (above (3 * place + 1) (judgedOf place z)) (above (3 * place + 2) (judgedOf place z)) (gradedRow row new old)
+  -- row 12: the text is one of the expressions, x in millionths
+  threshold : (t : List ℕ) (step x : ℕ) → missing t ≡ false → IsThreshold (textOf t) step x
+      → Judged (leb (6 * step * 1000000) x) (leb (5 * step * 1000000) x) (leb (4 * step * 1000000) x) (row12 t)

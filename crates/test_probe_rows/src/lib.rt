@@ -1,0 +1,13 @@
+// The twelve rows of a sheet by value, for the comparison program alone: harness/rows.h declares them.
+ghost use mathlib.Core.Path.{_≡_};
+ghost use Rattle.rows_sheet.specs.Sheet.{rowsOf};
+use rows::Rows;
+use desk_state::sheet::Sheet;
+
+// The rows of a sheet.
+#[no_mangle]
+pub extern "C" fn probe_rows(s: Sheet) -> Rows
+    ensures { λ r. ⌜ r ≡ rowsOf s ⌝ }
+{
+    rows_sheet::sheet_rows::sheet_rows(s)
+}

@@ -1,0 +1,100 @@
+-- The examples that document 01 marks with [P], as one table ("Measured examples"), and one of its "Errors a good programmer makes here".
+-- `examples-hold`, in proofs/Hold.antt, is the one statement about it.
+-- Assumes nothing.
+use Prim.Native.Nat.{ℕ, _-_}
+use Prim.Native.String.{String}
+use mathlib.Core.List.{List, [], _∷_, _++_}
+use lib.ListN.{getD, set, take, replicate}
+use Rattle.text.specs.Quote.{bytes}
+use Rattle.formula_sum.specs.Sum.{sumOf}
+use Rattle.formula_elements.specs.declared.Weight.{Weight}
+use Rattle.formula_elements.specs.declared.Weight.the-variants.{Thousandths, NoWeight}
+use Rattle.desk_state.specs.Sheets.{filled, emptySheet}
+use Rattle.desk_state.specs.declared.sheet.Item.{Item}
+use Rattle.rows.specs.Rows.{rowOf, noRows}
+use Rattle.rows_sheet.specs.Sheet.{rowsOf}
+use Rattle.rows.specs.declared.Row.{Row}
+use Rattle.theorem_sequences.specs.Calls.{Call, key, typing, State}
+use Rattle.theorem_sequences.specs.Sequences.{stateAfter}
+
+-- a value typed for an item
+pub record Typed : Type 0 where
+  pub item : ℕ
+  pub value : String
+
+-- what an example asks
+pub data Asked : Type 0 where
+  -- the sum of a formula's weights, in thousandths
+  sum : String → Asked
+  -- a row of the report on a sheet that holds these values
+  row : ℕ → List Typed → Asked
+  -- the log after a sequence of calls, from a fresh desk
+  played : List Call → Asked
+
+-- a sheet that holds these values
+unfoldable pub sheetWith : List Typed → List Item
+sheetWith [] = emptySheet .items
+sheetWith (t ∷ ts) = set (sheetWith ts) (t .item - 1) (filled 0 1 (bytes (t .value)))
+
+abbrev pub summed : Weight → List ℕ
+summed (Thousandths n) = n ∷ []
+summed NoWeight = []
+
+abbrev pub told : Row → List ℕ
+told r = r .level ∷ r .reason ∷ []
+
+abbrev pub used : State → List ℕ
+used s = take (s .used) (s .log)
+
+-- what the desk's definitions answer: the sum, the level and reason of a row, the used bytes of a log of 64
+unfoldable pub answerOf : Asked → List ℕ
+answerOf (sum formula) = summed (sumOf (bytes formula))
+answerOf (row n values) = told (getD (rowsOf (record { items = sheetWith values; count = 1 }) .rows) (n - 1) (rowOf 9 9))
+answerOf (played cs) = used (stateAfter rowsOf noRows (replicate 64 0) cs)
+
+pub record Example : Type 0 where
+  pub asked : Asked
+  pub answer : List ℕ
+
+abbrev typed : ℕ → String → Typed
+typed item value = record { item = item; value = value }
+
+abbrev example : Asked → List ℕ → Example
+example asked answer = record { asked = asked; answer = answer }
+
+-- 'C10 H20' with a weight
+abbrev weighed : String → List Typed
+weighed weight = typed 1 "'C10 H20'" ∷ typed 2 weight ∷ []
+
+-- a text typed at bench 0, and Enter
+abbrev entering : String → List Call
+entering text = typing 0 (bytes text) ++ (key 0 10 ∷ [])
+
+-- the table: a level is 0 none, 2 C, 3 B, 4 A, and each of these rows is judged, reason 0
+unfoldable pub examples : List Example
+examples =
+    -- "'C18 H19 N7 O8 S' sums to 493451; 'C10 H20' to 140270"
+    example (sum "C18 H19 N7 O8 S") (493451 ∷ []) ∷
+    example (sum "C10 H20") (140270 ∷ []) ∷
+    -- "'C10 H20' with weight: 138.8673 row 4 none; 138.8672 C; .. 126.243 B"
+    example (row 4 (weighed "138.8673")) (0 ∷ 0 ∷ []) ∷
+    example (row 4 (weighed "138.8672")) (2 ∷ 0 ∷ []) ∷
+    example (row 4 (weighed "126.243")) (3 ∷ 0 ∷ []) ∷
+    -- "Category FO: 141.27 row 5 none"
+    example (row 5 (typed 3 "FO" ∷ weighed "141.27")) (0 ∷ 0 ∷ []) ∷
+    -- "R .. 0.200001 A. Shift -0.05 none; -0.06 C."
+    example (row 6 (typed 4 "0.200001" ∷ [])) (4 ∷ 0 ∷ []) ∷
+    example (row 10 (typed 8 "-0.05" ∷ [])) (0 ∷ 0 ∷ []) ∷
+    example (row 10 (typed 8 "-0.06" ∷ [])) (2 ∷ 0 ∷ []) ∷
+    -- "'F > 6\s(F)' none; 'F^2^ > 6\s(F^2^)' A"
+    example (row 12 (typed 10 "'F > 6\\s(F)'" ∷ [])) (0 ∷ 0 ∷ []) ∷
+    example (row 12 (typed 10 "'F^2^ > 6\\s(F^2^)'" ∷ [])) (4 ∷ 0 ∷ []) ∷
+    -- "'H Br' row 2 none .. 'C10H20' row 1 A"
+    example (row 2 (typed 1 "'H Br'" ∷ [])) (0 ∷ 0 ∷ []) ∷
+    example (row 1 (typed 1 "'C10H20'" ∷ [])) (4 ∷ 0 ∷ []) ∷
+    -- "_refine_ls_R_factor_gt 0.16 from bench 0 logs 0A 00 01 00 00 04 30 2E 31 36 (hexadecimal)"
+    example (played (entering "_refine_ls_R_factor_gt 0.16")) (10 ∷ 0 ∷ 1 ∷ 0 ∷ 0 ∷ 4 ∷ 48 ∷ 46 ∷ 49 ∷ 54 ∷ []) ∷
+    -- "Taking the bench from the first key after a refused Enter of another": bench 0's Enter is refused, bench 1 is the first to type after it, and the
+    -- entry that bench 0 then corrects is bench 0's
+    example (played (entering "_refine_ls_R_factor_gt" ++ (key 1 56 ∷ entering " 0.16")))
+    (10 ∷ 0 ∷ 1 ∷ 0 ∷ 0 ∷ 4 ∷ 48 ∷ 46 ∷ 49 ∷ 54 ∷ []) ∷ []

@@ -1,0 +1,34 @@
+-- The room that a sound sheet's records take: at most 86 bytes for each item.
+-- Assumes nothing.
+use mathlib.Core.Path.{_≡_, refl}
+use mathlib.Core.Bool.{Bool, true, false}
+use mathlib.Core.List.{List, [], _∷_}
+use Prim.Native.Nat.{ℕ, suc, _+_, _*_, _≤_}
+use native.Mathlib.Omega.{arith}
+use lib.Dec.{eqb}
+use lib.ListN.{length}
+use Rattle.text.proofs.Bools.{and-both}
+use Rattle.line_items.specs.Typed.{lineMost}
+use Rattle.desk_log.specs.Record.{headLength}
+use Rattle.desk_state.specs.Sheets.{valueIn}
+use Rattle.desk_soundness.specs.Sound.{every, soundItem}
+use Rattle.desk_state.specs.declared.sheet.Item.{Item}
+use Rattle.theorem_round_trip.specs.RoundTrip.{recordRoom, roomFor}
+use Rattle.theorem_round_trip.proofs.Fitting.{fitting}
+use Rattle.theorem_round_trip.proofs.Items.{filled-fits}
+
+item-most : (n j : ℕ) (i : Item) → soundItem n j i ≡ true → recordRoom i ≤ headLength + lineMost
+item-most n j i h = go (eqb (i .len) 0) refl
+  where
+    go : (t : Bool) → eqb (i .len) 0 ≡ t → recordRoom i ≤ headLength + lineMost
+    go true e = rw e (omega arith)
+    go false e = let g = fitting (suc j) (valueIn i) (filled-fits n j i e h) in rw e (omega (arith, g .short))
+
+pub room-most : (n j : ℕ) (is : List Item) → every (soundItem n) j is ≡ true → roomFor is ≤ (headLength + lineMost) * length is
+unfolding every
+room-most n j [] h = omega arith
+room-most n j (i ∷ is) h =
+    let k = and-both (soundItem n j i) (every (soundItem n) (suc j) is) h in
+    let first = item-most n j i (k .0) in
+    let rest = room-most n (suc j) is (k .1) in
+    omega arith

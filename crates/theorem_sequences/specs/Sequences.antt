@@ -1,0 +1,112 @@
+-- Demand 3 (document 01, "Sequences of calls"): the single claim about every sequence of key calls, Report and Who, from a fresh desk and a log of any
+-- length and content. `Sequences log cs` is the claim about the sequence cs; that it holds is `demand-3` (proofs/Demand3.antt) for
+-- any rows, and `desk-sequences` (proofs/Desk.antt) for the twelve. The desk is read in
+-- specs/Calls.antt, the gathered order in specs/Gather.antt, and what was typed and entered, "the work", in specs/Work.antt.
+--
+-- What it shuts out, and by which part:
+-- - a desk that refuses everything or stays idle: `answers`, since the work accepts what document 01's table accepts, and `lines`, `items` and `used-log`,
+--   since every accepted key and entry is then on the desk and in the log;
+-- - one report for all sheets: `reports`, with the rows of the sheet that the entries before the question make;
+-- - a desk that stores only its first entry: `items`, which asks for the last entry that names an item, and `count`;
+-- - an invented entry number: `items` and `tells`, where a number is how many entries there are up to that one, and `entries`, by which these are the
+--   Enters to which the desk gave 0;
+-- - keys of benches that run together: `gathered-answers` and `gathered-state`, by which a bench's answers do not depend on the keys between its own;
+-- - an entry under another bench's number, as of the first to type after a refused Enter: `entry`, and `used-log` for its record.
+-- Assumes nothing.
+use Prim.Native.Nat.{ℕ, _≤_}
+use mathlib.Core.Path.{_≡_}
+use mathlib.Core.Bool.{true, cond, _&&_}
+use mathlib.Core.List.{List, [], _∷_, _++_, map}
+use lib.Dec.{leb, eqb}
+use lib.ListN.{length, take, drop, set}
+use Rattle.line_items.specs.Items.{itemCount, IsName}
+use Rattle.line_reader.specs.Wording.{IsLine}
+use Rattle.desk_state.specs.Lines.{lineOf}
+use Rattle.desk_state.specs.Sheets.{itemAt}
+use Rattle.desk_soundness.specs.Sound.{soundDesk}
+use Rattle.desk_sound_log.specs.SoundLog.{logMost, soundLog}
+use Rattle.desk_state.specs.declared.sheet.Sheet.{Sheet}
+use Rattle.theorem_sequences.specs.Calls.{Call, key, ask, report, who, Reply, keyed, reported, told, State, freshState, step, answered, final}
+use Rattle.theorem_sequences.specs.Gather.{gather, gatherAnswered, Regrouped}
+use Rattle.theorem_sequences.specs.Work.{Entry, Work, noWork, typedBy, recordsOf, lastOf, sheetOf, accepts, whoLast, workStep}
+
+-- an Enter of a bench that added an entry: "Its line, name and value, is what its bench had typed"
+pub record Entered (bench : ℕ) (before after : Work) : Type 0 where
+  pub new : Entry
+  pub added : after .entries ≡ new ∷ before .entries
+  pub of-bench : new .bench ≡ bench
+  pub line : new .line ≡ typedBy before bench
+  pub name : List ℕ
+  pub parts : IsLine (new .line) name (new .value)
+  pub item : IsName name (new .item)
+  -- "its Enter empties"
+  pub emptied : after .typed ≡ set (before .typed) bench []
+
+-- the bench of a call that is an Enter with answer 0, put before those of earlier calls; of any other call nothing
+abbrev pub enteredFirst : {Rows : Type 0} → Call → Reply Rows → List ℕ → List ℕ
+enteredFirst (key bench byte) (keyed a) bs = cond (eqb byte 10 && accepts a) (bench ∷ bs) bs
+enteredFirst (key bench byte) (reported a rows) bs = bs
+enteredFirst (key bench byte) (told t) bs = bs
+enteredFirst (ask q) r bs = bs
+
+-- the benches of the Enters with answer 0, the newest first; bs are those of earlier calls
+abbrev pub enteredBy : {Rows : Type 0} → List ℕ → List (Call × Reply Rows) → List ℕ
+enteredBy bs [] = bs
+enteredBy bs (p ∷ ps) = enteredBy (enteredFirst (p .0) (p .1) bs) ps
+
+module _ {Rows : Type 0} (rowsOf : Sheet → Rows) (noRows : Rows) where
+  -- the desk: each call with its answer, and what a sequence leaves
+  abbrev pub deskAnswers : List ℕ → List Call → List (Call × Reply Rows)
+  deskAnswers log cs = answered (step rowsOf noRows) (freshState log) cs
+
+  abbrev pub stateAfter : List ℕ → List Call → State
+  stateAfter log cs = final (step rowsOf noRows) (freshState log) cs
+
+  -- the answer of a call that comes after a sequence
+  abbrev pub answerAfter : List ℕ → List Call → Call → Reply Rows
+  answerAfter log cs c = step rowsOf noRows c (stateAfter log cs) .0
+
+  -- the work: each call with its answer, and what a sequence leaves
+  abbrev pub workAnswers : List ℕ → List Call → List (Call × Reply Rows)
+  workAnswers log cs = answered (workStep rowsOf (length log)) noWork cs
+
+  abbrev pub workAfter : List ℕ → List Call → Work
+  workAfter log cs = final (workStep rowsOf (length log)) noWork cs
+
+  pub record Sequences (log : List ℕ) (cs : List Call) : Type 0 where
+    -- `gather cs` is the sequence with each bench's keys moved directly before its next Enter; "Keys moved to one place keep the order they had"
+    pub regrouped : Regrouped cs (gather cs)
+    -- between the two, "Equal are each call's whole answer ..
+    pub gathered-answers : deskAnswers log (gather cs) ≡ gatherAnswered (deskAnswers log cs)
+    -- .. and, at the end, the whole desk, the used number and every byte of the log"
+    pub gathered-state : stateAfter log (gather cs) ≡ stateAfter log cs
+    -- "The desk gives the same answers" as the table with what was typed and entered
+    pub answers : deskAnswers log cs ≡ workAnswers log cs
+    -- each bench's line is what it has typed
+    pub lines : stateAfter log cs .desk .lines ≡ map lineOf (workAfter log cs .typed)
+    -- "An Enter with answer 0 is an accepted entry .. Its line, name and value, is what its bench had typed", wherever it stands in the sequence
+    pub entry : (before after : List Call) (bench : ℕ) → cs ≡ before ++ (key bench 10 ∷ after) → answerAfter log before (key bench 10) ≡ keyed 0
+        → Entered bench (workAfter log before) (workAfter log (before ++ (key bench 10 ∷ [])))
+    -- and nothing else is one
+    pub no-entry : (before after : List Call) (c : Call) → cs ≡ before ++ (c ∷ after) → enteredFirst c (answerAfter log before c) [] ≡ []
+        → workAfter log (before ++ (c ∷ [])) .entries ≡ workAfter log before .entries
+    -- so that the entries are, bench by bench, the Enters to which the desk gave 0
+    pub entries : map (λ (e : Entry). e .bench) (workAfter log cs .entries) ≡ enteredBy [] (deskAnswers log cs)
+    -- "After every sequence the used log is the accepted entries' records in order", and the rest of the log is as it was
+    pub used-log : take (stateAfter log cs .used) (stateAfter log cs .log) ≡ recordsOf (workAfter log cs .entries)
+    pub used : stateAfter log cs .used ≡ length (recordsOf (workAfter log cs .entries))
+    pub rest-of-log : drop (stateAfter log cs .used) (stateAfter log cs .log) ≡ drop (stateAfter log cs .used) log
+    pub log-length : length (stateAfter log cs .log) ≡ length log
+    -- "the count is their number"
+    pub count : stateAfter log cs .desk .sheet .count ≡ length (workAfter log cs .entries)
+    -- "each item holds value, bench and number of the last one that names it, or is empty"
+    pub items : (k : ℕ) → 1 ≤ k → k ≤ itemCount → itemAt (stateAfter log cs .desk .sheet) k ≡ lastOf (workAfter log cs .entries) k
+    pub all-items : length (stateAfter log cs .desk .sheet .items) ≡ itemCount
+    -- the desk is sound, and sound with its log but for the log's length: what the table of the work tests is all that can give 2
+    pub sound : soundDesk (stateAfter log cs .desk) ≡ true
+    pub log-sound : soundLog (stateAfter log cs .desk) (length (stateAfter log cs .log)) (stateAfter log cs .used) ≡ leb (length log) logMost
+    -- "Report and Who, when not refused, answer by the entries before them", wherever they stand; neither is ever refused with 2
+    pub reports : (before after : List Call) → cs ≡ before ++ (ask report ∷ after)
+        → answerAfter log before (ask report) ≡ reported 0 (rowsOf (sheetOf (workAfter log before .entries)))
+    pub tells : (before after : List Call) (item : ℕ) → cs ≡ before ++ (ask (who item) ∷ after)
+        → answerAfter log before (ask (who item)) ≡ told (whoLast (workAfter log before .entries) item)

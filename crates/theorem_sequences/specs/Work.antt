@@ -1,0 +1,136 @@
+-- The work: what each bench has typed and which entries were accepted, "worked out from the calls and the log's length alone"
+-- (document 01, "Sequences of calls"). No desk is mentioned here, and no byte of the log.
+-- Assumes nothing.
+use Prim.Native.Nat.{ℕ, zero, suc, _-_}
+use mathlib.Core.Bool.{Bool, cond}
+use mathlib.Core.List.{List, [], _∷_, _++_}
+use lib.Dec.{ltb, leb, eqb}
+use lib.ListN.{length, getD, take, drop, set, replicate}
+use Rattle.line_items.specs.Typed.{lineMost, isTyped}
+use Rattle.line_reader.specs.Line.{classOf}
+use Rattle.line_items.specs.Items.{itemCount, isItem}
+use Rattle.line_reader.specs.declared.line.Class.{Class}
+use Rattle.line_reader.specs.declared.line.Class.the-variants as class
+use Rattle.desk_log.specs.Record.{recordLength, recordOf}
+use Rattle.desk_state.specs.Sheets.{filled, emptyItem}
+use Rattle.desk_state.specs.Desks.{benchCount}
+use Rattle.desk_sound_log.specs.SoundLog.{logMost}
+use Rattle.desk_state.specs.declared.sheet.Item.{Item}
+use Rattle.desk_state.specs.declared.sheet.Sheet.{Sheet}
+use Rattle.desk_questions.specs.Who.{Who, nobody}
+use Rattle.theorem_sequences.specs.Calls.{Call, key, ask, report, who, Reply, keyed, reported, told}
+
+-- an accepted entry: its bench, the item that its name has, its value, and the whole line
+pub record Entry : Type 0 where
+  pub bench : ℕ
+  pub item : ℕ
+  pub value : List ℕ
+  pub line : List ℕ
+
+-- what each bench has typed, and the accepted entries, the newest first
+pub record Work : Type 0 where
+  pub typed : List (List ℕ)
+  pub entries : List Entry
+
+-- "At the start it is nothing"
+abbrev pub noWork : Work
+noWork = record { typed = replicate benchCount []; entries = [] }
+
+-- what a bench has typed; nothing for a bench that is not there
+abbrev pub typedBy : Work → ℕ → List ℕ
+typedBy w bench = getD (w .typed) bench []
+
+-- "the accepted entries' records in order"
+abbrev pub recordsOf : List Entry → List ℕ
+recordsOf [] = []
+recordsOf (e ∷ es) = recordsOf es ++ recordOf (e .bench) (e .item) (e .value)
+
+-- "value, bench and number of the last one that names it, or is empty"; an entry is "numbered by how many there are up to it"
+abbrev pub lastOf : List Entry → ℕ → Item
+lastOf [] item = emptyItem
+lastOf (e ∷ es) item = cond (eqb item (e .item)) (filled (e .bench) (length (e ∷ es)) (e .value)) (lastOf es item)
+
+-- n items, the first of them item k
+abbrev pub itemsFrom : (ℕ → Item) → ℕ → ℕ → List Item
+itemsFrom f k zero = []
+itemsFrom f k (suc n) = f k ∷ itemsFrom f (suc k) n
+
+-- the sheet of some entries: ten items and the count, which "is their number"
+abbrev pub sheetOf : List Entry → Sheet
+sheetOf es = record { items = itemsFrom (lastOf es) 1 itemCount; count = length es }
+
+-- ---- a key
+
+-- an Enter, by what the line t is, with so many bytes of the log unused
+abbrev pub enterAnswer : Class → List ℕ → ℕ → ℕ
+enterAnswer class.BadForm t free = 5
+enterAnswer class.UnknownName t free = 6
+enterAnswer class.WrongKind t free = 7
+enterAnswer (class.Entry item start) t free = cond (leb (recordLength (drop start t)) free) 0 8
+
+-- the table of "Keys and their refusals", "with typed for the line, the entries so far for sheet and count, and their records for the used log".
+-- Of what makes a desk sound only the log's length is tested: the rest holds after every sequence (`sound` and `log-sound` of specs/Sequences.antt), and the
+-- desk, which tests all of it, gives the same answers. Its arguments: the log's length, the used number, what the bench has typed, bench and byte.
+unfoldable pub tableAnswer : ℕ → ℕ → List ℕ → ℕ → ℕ → ℕ
+tableAnswer len used t bench byte =
+    cond (ltb bench benchCount)
+    (cond (leb len logMost)
+    (cond (isTyped byte) (cond (ltb (length t) lineMost) 0 4)
+    (cond (eqb byte 8) 0
+    (cond (eqb byte 24) 0
+    (cond (eqb byte 10) (enterAnswer (classOf t) t (len - used))
+    3))))
+    2)
+    1
+
+-- "with 0"
+abbrev pub accepts : ℕ → Bool
+accepts a = eqb a 0
+
+-- "its bench's key appends, erases or empties as above, and its Enter empties"
+abbrev pub editedText : ℕ → List ℕ → List ℕ
+editedText byte t = cond (isTyped byte) (t ++ (byte ∷ [])) (cond (eqb byte 8) (take (length t - 1) t) [])
+
+-- "all else leaves it"
+abbrev pub textAfter : ℕ → ℕ → List ℕ → List ℕ
+textAfter a byte t = cond (accepts a) (editedText byte t) t
+
+-- the entries with that of the line t, if it is one
+abbrev pub withEntryOf : Class → ℕ → List ℕ → List Entry → List Entry
+withEntryOf class.BadForm bench t es = es
+withEntryOf class.UnknownName bench t es = es
+withEntryOf class.WrongKind bench t es = es
+withEntryOf (class.Entry item start) bench t es = record { bench = bench; item = item; value = drop start t; line = t } ∷ es
+
+-- "An Enter with answer 0 is an accepted entry"
+abbrev pub entriesAfter : ℕ → ℕ → ℕ → List ℕ → List Entry → List Entry
+entriesAfter a bench byte t es = cond (accepts a) (cond (eqb byte 10) (withEntryOf (classOf t) bench t es) es) es
+
+-- the answer of a key, in a log of len bytes
+abbrev pub keyAnswer : ℕ → Work → ℕ → ℕ → ℕ
+keyAnswer len w bench byte = tableAnswer len (length (recordsOf (w .entries))) (typedBy w bench) bench byte
+
+-- the work after a key that got that answer
+abbrev pub keyWork : ℕ → ℕ → ℕ → Work → Work
+keyWork a bench byte w = record {
+  typed = set (w .typed) bench (textAfter a byte (typedBy w bench));
+  entries = entriesAfter a bench byte (typedBy w bench) (w .entries);
+}
+
+-- ---- a question
+
+-- bench and number of the last entry that names the item
+abbrev pub lastTold : List Entry → ℕ → Who
+lastTold [] item = nobody 0
+lastTold (e ∷ es) item = cond (eqb item (e .item)) (record { answer = 0; entry = length (e ∷ es); bench = e .bench }) (lastTold es item)
+
+-- "6 if not 1 to 10"
+abbrev pub whoLast : List Entry → ℕ → Who
+whoLast es item = cond (isItem item) (lastTold es item) (nobody 6)
+
+-- a call, in a log of len bytes; "Report and Who .. answer by the entries before them"
+module _ {Rows : Type 0} (rowsOf : Sheet → Rows) (len : ℕ) where
+  abbrev pub workStep : Call → Work → Reply Rows × Work
+  workStep (key bench byte) w = (keyed (keyAnswer len w bench byte), keyWork (keyAnswer len w bench byte) bench byte w)
+  workStep (ask report) w = (reported 0 (rowsOf (sheetOf (w .entries))), w)
+  workStep (ask (who item)) w = (told (whoLast (w .entries) item), w)
