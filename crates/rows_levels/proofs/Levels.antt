@@ -10,7 +10,7 @@ use lib.Dec.{eqb}
 use lib.IntN.{ℤ}
 use Rattle.rows_levels.specs.Level.{levelOf, brokenAt, Highest}
 use Rattle.rows_levels.specs.Bounds.{boundsPlace, judgedOf, above, gradeOf}
-use Rattle.rows_levels.specs.declared.Place.the-variants.{At, Nowhere}
+use Rattle.rows_levels.specs.declared.RowBounds.the-variants.{At, Nowhere}
 
 -- the bound of a level is broken only where it has one: it is a test that holds
 level-by : (a b c : Bool) (k : ℕ) (p q r : Bool) → eqb k 4 ≡ p → eqb k 3 ≡ q → eqb k 2 ≡ r → cond p a (cond q b (cond r c false)) ≡ true → k ≤ levelOf a b c

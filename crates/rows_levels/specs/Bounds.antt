@@ -13,8 +13,8 @@ use Rattle.number_decimal.specs.declared.Reading.the-variants.{Number, Nothing}
 use Rattle.rows_levels.specs.Level.{levelOf}
 use Rattle.rows_levels.specs.declared.Graded.{Graded}
 use Rattle.rows_levels.specs.declared.Graded.the-variants.{Level, NoRow, NoNumber}
-use Rattle.rows_levels.specs.declared.Place.{Place}
-use Rattle.rows_levels.specs.declared.Place.the-variants.{At, Nowhere}
+use Rattle.rows_levels.specs.declared.RowBounds.{RowBounds}
+use Rattle.rows_levels.specs.declared.RowBounds.the-variants.{At, Nowhere}
 
 -- the bounds of A, B and C of rows 6, 8 and 10, in millionths
 unfoldable pub bounds : List ℤ
@@ -27,7 +27,7 @@ bounds =
     pos 200000 ∷ pos 100000 ∷ pos 50000 ∷ []
 
 -- where the bounds of a row stand in the table, counted by threes; other rows have none
-abbrev pub boundsPlace : ℕ → Place
+abbrev pub boundsPlace : ℕ → RowBounds
 boundsPlace row = cond (eqb row 6) (At 0) (cond (eqb row 8) (At 1) (cond (eqb row 10) (At 2) Nowhere))
 
 -- what is judged of a number: in row 10 its absolute value, "negated where below zero"
@@ -48,7 +48,7 @@ abbrev pub readGrade : ℕ → Reading → Graded
 readGrade place (Number z) = Level (gradeOf place z)
 readGrade place Nothing = NoNumber
 
-abbrev pub placedGrade : Place → List ℕ → Graded
+abbrev pub placedGrade : RowBounds → List ℕ → Graded
 placedGrade (At place) t = readGrade place (readingOf t)
 placedGrade Nowhere t = NoRow
 

@@ -10,7 +10,7 @@ ghost use Rattle.rows_levels.specs.Bounds.{bounds, boundsPlace, judgedOf
 use number_decimal::Reading;
 
 // Where the three bounds of a row stand in the table, counted by threes.
-pub enum Place {
+pub enum RowBounds {
     At(usize),
     Nowhere,
 }
@@ -46,14 +46,14 @@ fn bound(n: usize) -> i64
 }
 
 // The place of a row's bounds.
-fn place_of(row: u64) -> Place
+fn place_of(row: u64) -> RowBounds
     ensures { λ r. ⌜ r ≡ boundsPlace row ⌝ }
 {
     match row {
-        6 => Place::At(0),
-        8 => Place::At(1),
-        10 => Place::At(2),
-        _ => Place::Nowhere,
+        6 => RowBounds::At(0),
+        8 => RowBounds::At(1),
+        10 => RowBounds::At(2),
+        _ => RowBounds::Nowhere,
     }
 }
 
@@ -100,7 +100,7 @@ fn grade(place: usize, v: i64) -> u8
 pub fn grade_value(row: u64, typed: &[u8]) -> Graded
     ensures { λ r. ⌜ r ≡ gradedOf row (now (typed .entry)) ⌝ }
 {
-    let Place::At(place) = place_of(row) else {
+    let RowBounds::At(place) = place_of(row) else {
         return Graded::NoRow;
     };
     let Reading::Number(v) = number_decimal::read_number(typed) else {

@@ -7,7 +7,7 @@ use mathlib.Core.List.{List}
 use Rattle.line_quotes.specs.Quoted.{textOf}
 use Rattle.rows_levels.specs.Level.{Highest}
 use Rattle.rows_levels.specs.Bounds.{gradeOf, readGrade, placedGrade, gradedOf}
-use Rattle.rows_levels.specs.declared.Place.{Place}
+use Rattle.rows_levels.specs.declared.RowBounds.{RowBounds}
 use Rattle.rows_levels.proofs.Levels.{level-highest, grade-highest}
 use Rattle.rows.specs.Rows.{rowOf, missing}
 use Rattle.rows_weight.specs.WeightRows.{millionths, ratioLevel, ratioRow}
@@ -43,6 +43,6 @@ highest-broken (judged.ratio f w given s p q k e g) =
     (level-highest _ _ _)
 highest-broken (judged.graded row place new old z p m e) =
     at-level (gradeOf place z)
-    (graded-is row new old m ∙ ap gradeRow (ap (λ (x : Place). placedGrade x (judgedValue new old)) p ∙ ap (readGrade place) e))
+    (graded-is row new old m ∙ ap gradeRow (ap (λ (x : RowBounds). placedGrade x (judgedValue new old)) p ∙ ap (readGrade place) e))
     (grade-highest place z)
 highest-broken (judged.threshold t step x m e) = at-level (thresholdLevel step x) (threshold-is t m ∙ threshold-taken (textOf t) step x e) (level-highest _ _ _)

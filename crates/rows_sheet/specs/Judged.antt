@@ -14,7 +14,7 @@ use Rattle.formula_sum.specs.Recognised.{allRecognised}
 use Rattle.formula_sum.specs.Sum.{sumOf}
 use Rattle.formula_elements.specs.declared.Weight.the-variants.{Thousandths}
 use Rattle.rows_levels.specs.Bounds.{boundsPlace, judgedOf, above}
-use Rattle.rows_levels.specs.declared.Place.the-variants.{At}
+use Rattle.rows_levels.specs.declared.RowBounds.the-variants.{At}
 use Rattle.rows.specs.Rows.{missing}
 use Rattle.rows_weight.specs.WeightRows.{millionths, ratioOutside, row4}
 use Rattle.rows_graded.specs.GradedRows.{judgedValue, gradedRow}

@@ -88,7 +88,7 @@ module _ {x : List ℕ} {m : ℕ} (h : IsMultiplier x m) where
       let s = h .is-size in
       ap (all (other 41)) (s .text)
       ∙ all-append (other 41) (s .before) (s .pointed ++ s .tail) (digits-lack (s .before) (s .before-digits))
-      (all-append (other 41) (s .pointed) (s .tail) (point-lacks (s .after-digits) (s .is-point)) (ap (all (other 41)) (h .certain)))
+      (all-append (other 41) (s .pointed) (s .tail) (point-lacks (s .fraction-digits) (s .is-point)) (ap (all (other 41)) (h .certain)))
 
   multiplier-taken : multiplierOf x ≡ Times m
   unfolding multiplierOf

@@ -9,8 +9,8 @@ use Rattle.number_decimal.specs.Reading.{readingOf}
 use Rattle.number_decimal.specs.declared.Reading.the-variants.{Number}
 use Rattle.number_decimal.proofs.Small.{number-small}
 use Rattle.rows_levels.specs.Bounds.{boundsPlace, gradeOf, readGrade, placedGrade, gradedOf}
-use Rattle.rows_levels.specs.declared.Place.{Place}
-use Rattle.rows_levels.specs.declared.Place.the-variants.{At}
+use Rattle.rows_levels.specs.declared.RowBounds.{RowBounds}
+use Rattle.rows_levels.specs.declared.RowBounds.the-variants.{At}
 use Rattle.rows_levels.specs.declared.Graded.the-variants.{Level}
 use Rattle.number_signed.proofs.Signs.{back, small-fits}
 use Rattle.rows_levels.proofs.Levels.{place-small}
@@ -24,7 +24,7 @@ placed c = sym (c .before .before .place-of .ensures) ∙ c .place .given .1
 -- the value is graded at the row's place
 graded : (c : tie.After-place) → let s = c .before .before .before .before in gradedOf (s .args .row) (s .args .typed .now) ≡ readGrade (c .place .given .0 .0) (readingOf (s .args .typed .now))
 unfolding gradedOf
-graded c = ap (λ (p : Place). placedGrade p (c .before .before .before .before .args .typed .now)) (placed c)
+graded c = ap (λ (p : RowBounds). placedGrade p (c .before .before .before .before .args .typed .now)) (placed c)
 
 read : (c : tie.After-v) → readingOf (c .before .before .before .before .before .before .before .before .args .typed .now) ≡ Number (c .v .given .0 .0)
 read c = sym (c .before .before .read-number .ensures) ∙ c .v .given .1
@@ -36,7 +36,7 @@ returns : tie.Need-returns
 unfolding gradedOf
 returns c =
     let s = c .before .before .before .before in
-    sym (ap (λ (p : Place). placedGrade p (s .args .typed .now)) (sym (c .before .before .place-of .ensures) ∙ c .enum-told .given .1))
+    sym (ap (λ (p : RowBounds). placedGrade p (s .args .typed .now)) (sym (c .before .before .place-of .ensures) ∙ c .enum-told .given .1))
 
 returns-2 : tie.Need-returns-2
 returns-2 c =
