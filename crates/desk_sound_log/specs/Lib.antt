@@ -1,1 +1,2 @@
 pub mod SoundLog
+pub mod Wording
