@@ -1,0 +1,30 @@
+-- Laws of what is read of memory: the numbers of an item, and a text that does not fit.
+-- Assumes nothing.
+use mathlib.Core.Path.{_≡_, refl, sym, ap, _∙_}
+use mathlib.Core.List.{List, []}
+use Prim.Native.Nat.{ℕ, _+_, _*_, _≤_, _<_}
+use native.Mathlib.Omega.{arith}
+use borrow.Author.Tests.{lt-leb}
+use lib.ListN.{length, getD, take, drop, length-take, drop-of-length-le, List·getD-eq-default}
+use lib.Seq.{take-nil}
+use Rattle.text_copies.specs.Copy.{copied}
+use Rattle.desk_memory.specs.Memory.{slot}
+use Rattle.desk_memory.proofs.Slots.{slot-get}
+
+module _ (w : ℕ) (t : List ℕ) (k i : ℕ) where
+  -- past a slot's width
+  pub get-past : w ≤ i → getD (slot w t k) i 0 ≡ 0
+  unfolding slot
+  get-past h = List·getD-eq-default (take w (drop (k * w) t)) 0 (simp length-take (omega arith))
+
+  -- past the list's end
+  pub get-none : i < w → length t ≤ k * w + i → getD (slot w t k) i 0 ≡ 0
+  get-none h l = slot-get w t k i h ∙ List·getD-eq-default t 0 l
+
+pub slot-none : (w : ℕ) (t : List ℕ) (k : ℕ) → length t ≤ k * w → slot w t k ≡ []
+unfolding slot
+slot-none w t k h = ap (take w) (drop-of-length-le t h) ∙ take-nil w
+
+pub copied-not : (d : List ℕ) (at : ℕ) (s : List ℕ) → length d < at + length s → copied d at s ≡ d
+unfolding copied
+copied-not d at s h = simp (lt-leb (at + length s) (length d) h)
