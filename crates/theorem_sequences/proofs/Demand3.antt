@@ -21,6 +21,7 @@ use Rattle.theorem_sequences.specs.Gather.{gather, gatherAnswered}
 use Rattle.theorem_sequences.specs.Work.{Work, noWork, recordsOf, keyAnswer, workStep}
 use Rattle.theorem_sequences.specs.Sequences.{Entered, enteredFirst, enteredBy, answerAfter, workAfter, Sequences}
 use Rattle.theorem_sequences.proofs.GatherChecks.{gather-regroups}
+use Rattle.theorem_sequences.proofs.OneRegrouping.{one-regrouping}
 use Rattle.theorem_sequences.proofs.Gathering.{final-append, gathered}
 use Rattle.theorem_sequences.proofs.Simulation.{Followed, followed}
 use Rattle.theorem_sequences.proofs.WorkLaws.{work-laws}
@@ -74,6 +75,7 @@ module _ {Rows : Type 0} (rowsOf : Sheet → Rows) (noRows : Rows) (log : List �
       let r = recordsOf es in
       record {
         regrouped = gather-regroups cs;
+        one-regrouping = λ ds r. one-regrouping cs ds (gather cs) r (gather-regroups cs);
         gathered-answers = follows (gather cs) .answers ∙ moved .0 ∙ ap gatherAnswered (sym (follows cs .answers));
         gathered-state = follows (gather cs) .end ∙ ap (workState log) (moved .1) ∙ sym end;
         answers = follows cs .answers;

@@ -4,8 +4,10 @@ pub mod LineLaws
 pub mod ItemLaws
 pub mod Kept
 pub mod Simulation
+pub mod EndOrder
 pub mod Gathering
 pub mod GatherChecks
+pub mod OneRegrouping
 pub mod WorkLaws
 pub mod DeskFollows
 pub mod EntryWords

@@ -76,6 +76,8 @@ module _ {Rows : Type 0} (rowsOf : Sheet → Rows) (noRows : Rows) where
   pub record Sequences (log : List ℕ) (cs : List Call) : Type 0 where
     -- `gather cs` is the sequence with each bench's keys moved directly before its next Enter; "Keys moved to one place keep the order they had"
     pub regrouped : Regrouped cs (gather cs)
+    -- and no other sequence is that
+    pub one-regrouping : (ds : List Call) → Regrouped cs ds → ds ≡ gather cs
     -- between the two, "Equal are each call's whole answer ..
     pub gathered-answers : deskAnswers log (gather cs) ≡ gatherAnswered (deskAnswers log cs)
     -- .. and, at the end, the whole desk, the used number and every byte of the log"
