@@ -1,20 +1,20 @@
 -- The test of soundness says what document 01's words say.
 -- Assumes nothing.
-use mathlib.Core.Path.{_≡_, refl, sym, ap, subst, _∙_}
-use mathlib.Core.Bool.{Bool, true, false, cond, _&&_}
+use mathlib.Core.Path.{_≡_, refl, ap, subst, _∙_}
+use mathlib.Core.Bool.{Bool, true, false, cond}
 use mathlib.Core.List.{List, [], _∷_}
 use Prim.Native.Nat.{ℕ, suc, _+_, _-_, _≤_, _<_}
 use native.Mathlib.Nat.{add-zero}
 use native.Mathlib.Omega.{arith}
 use borrow.Author.Tests.{leb-true, le-leb, ltb-true, lt-ltb, eqb-true, eqb-false, eq-eqb, ne-eqb}
 use lib.Dec.{leb, ltb, eqb}
-use lib.ListN.{length, getD, drop, replicate}
+use lib.ListN.{length, getD, drop}
 use Rattle.text.specs.Run.{all, between}
 use Rattle.text.proofs.Bools.{and-both}
 use Rattle.text.proofs.Runs.{all-replicate}
 use Rattle.line_values.specs.Value.{isValue}
 use Rattle.line_values.proofs.Values.{value-is, value-taken}
-use Rattle.line_items.specs.Items.{itemCount, itemRow}
+use Rattle.line_items.specs.Items.{itemRow}
 use Rattle.line_items.specs.Typed.{lineMost, isTyped}
 use Rattle.line_kinds.specs.Kinds.{passes, fits}
 use Rattle.line_kinds.proofs.Passes.{passes-known}

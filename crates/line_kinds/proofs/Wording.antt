@@ -1,19 +1,18 @@
 -- The test of kinds says what document 01's words say.
 -- Assumes nothing.
-use mathlib.Core.Path.{_≡_, refl, sym, ap, subst, _∙_}
-use mathlib.Core.Bool.{Bool, true, false, cond, _||_, or-true, false≢true}
+use mathlib.Core.Path.{_≡_, refl, sym, ap, _∙_}
+use mathlib.Core.Bool.{Bool, true, false, or-true, false≢true}
 use mathlib.Core.Logic.{⊎-elim}
 use mathlib.Core.List.{List, [], _∷_, map-id}
 use Prim.Native.Nat.{ℕ, _≤_}
 use native.Mathlib.Omega.{arith}
 use borrow.Author.Tests.{le-leb, eqb-true}
-use lib.Dec.{leb, eqb}
+use lib.Dec.{eqb}
 use lib.ListN.{length, getD}
 use Rattle.text.specs.Quote.{bytes}
 use Rattle.text.proofs.Bools.{and-both, or-either}
 use Rattle.text_equality.specs.Same.{exact, sameBy}
 use Rattle.text_equality.proofs.Sames.{same→map}
-use Rattle.number_decimal.specs.Grammar.{ReadAs}
 use Rattle.number_decimal.specs.Reading.{readingOf, isFound, isNumber}
 use Rattle.number_decimal.specs.declared.Reading.{Reading}
 use Rattle.number_decimal.specs.declared.Reading.the-variants.{Number, Nothing}

@@ -1,5 +1,5 @@
--- The rows that have bounds, where they apply and can be judged (document 01, rows 4, 6, 8, 10 and 12).
--- `Judged a b c r`: the tests a, b and c are those of the bounds of A, B and C, and r is the row.
+-- The rows that have bounds, where they apply and can be judged (document 01, rows 4, 5, 6, 8, 10 and 12).
+-- `Judged a b c r`: the tests a, b and c are those of the bounds of A, B and C, and r is the row; a test that a row does not have fails.
 -- Assumes nothing.
 use Prim.Native.Nat.{ℕ, _+_, _*_}
 use mathlib.Core.Path.{_≡_}
@@ -16,7 +16,7 @@ use Rattle.formula_elements.specs.declared.Weight.the-variants.{Thousandths}
 use Rattle.rows_levels.specs.Bounds.{boundsPlace, judgedOf, above}
 use Rattle.rows_levels.specs.declared.RowBounds.the-variants.{At}
 use Rattle.rows.specs.Rows.{missing}
-use Rattle.rows_weight.specs.WeightRows.{millionths, ratioOutside, row4}
+use Rattle.rows_weight.specs.WeightRows.{millionths, ratioOutside, row4, farApart, isWeighedCategory, row5}
 use Rattle.rows_graded.specs.GradedRows.{judgedValue, gradedRow}
 use Rattle.rows_threshold.specs.Threshold.{row12}
 use Rattle.rows_threshold.specs.Wording.{IsThreshold}
@@ -27,6 +27,9 @@ pub data Judged : Bool → Bool → Bool → Row → Type 0 where
   ratio : (f w : List ℕ) (given : ℤ) (s : ℕ) → missing f ≡ false → missing w ≡ false → allRecognised (textOf f) ≡ true
       → readingOf w ≡ Number given → sumOf (textOf f) ≡ Thousandths s
       → Judged (ratioOutside 90 110 given (millionths s)) (ratioOutside 95 105 given (millionths s)) (ratioOutside 99 101 given (millionths s)) (row4 f w)
+  -- row 5: the category is there too; `farApart` is "|given − sum| above 1.0" by `far-is` and `far-taken` of rows_weight
+  difference : (f w c : List ℕ) (given : ℤ) (s : ℕ) → missing f ≡ false → missing w ≡ false → missing c ≡ false → readingOf w ≡ Number given → sumOf (textOf f) ≡ Thousandths s
+      → Judged false false (farApart given (millionths s) && isWeighedCategory (textOf c)) (row5 f w c)
   -- rows 6, 8 and 10: the new name or the old one is assigned
   graded : (row place : ℕ) (new old : List ℕ) (z : ℤ) → boundsPlace row ≡ At place → (missing new && missing old) ≡ false → readingOf (judgedValue new old) ≡ Number z
       → Judged (above (3 * place) (judgedOf place z)) (above (3 * place + 1) (judgedOf place z)) (above (3 * place + 2) (judgedOf place z)) (gradedRow row new old)
