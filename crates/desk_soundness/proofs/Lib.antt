@@ -1,1 +1,3 @@
 pub mod Everys
+pub mod Turns
+pub mod Memories
