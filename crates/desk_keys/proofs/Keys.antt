@@ -21,7 +21,7 @@ use Rattle.desk_log.proofs.Records.{free-written, tail-back, tail-lent, wrote-n
 use Rattle.desk_state.specs.Lines.{padded}
 use Rattle.desk_state.specs.Desks.{benchCount, noLine, lineAt}
 use Rattle.desk_soundness.specs.Sound.{soundLine, soundLines, soundDesk}
-use Rattle.desk_sound_log.specs.SoundLog.{logMost, soundLog}
+use Rattle.desk_soundness.specs.SoundLog.{logMost, soundLog}
 use Rattle.desk_state.specs.declared.line.Line.{Line}
 use Rattle.desk_state.specs.declared.desk.Desk.{Desk}
 use Rattle.desk_soundness.proofs.Everys.{every-each}

@@ -14,7 +14,7 @@ use Rattle.desk_state.specs.Lines.{typed, emptyLine, appended, erased}
 use Rattle.desk_state.specs.Sheets.{filled}
 use Rattle.desk_state.specs.Desks.{benchCount, lineAt, withLine}
 use Rattle.desk_soundness.specs.Sound.{soundDesk}
-use Rattle.desk_sound_log.specs.SoundLog.{soundLog}
+use Rattle.desk_soundness.specs.SoundLog.{soundLog}
 use Rattle.desk_state.specs.declared.line.Line.{Line}
 use Rattle.desk_state.specs.declared.sheet.Sheet.{Sheet}
 use Rattle.desk_state.specs.declared.desk.Desk.{Desk}

@@ -5,7 +5,7 @@ use mathlib.Core.List.{List}
 use lib.ListN.{length}
 use Rattle.line_items.specs.Typed.{lineMost}
 use Rattle.desk_state.specs.Desks.{benchCount, lineAt}
-use Rattle.desk_sound_log.specs.SoundLog.{logMost}
+use Rattle.desk_soundness.specs.SoundLog.{logMost}
 use Rattle.desk_state.specs.declared.desk.Desk.{Desk}
 
 pub record Ready (d : Desk) (used : ℕ) (log : List ℕ) (bench : ℕ) : Type 0 where

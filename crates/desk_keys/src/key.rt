@@ -8,18 +8,18 @@ ghost use Rattle.line_reader.specs.Line.{classOf};
 ghost use Rattle.line_items.specs.Items.{itemCount};
 ghost use Rattle.desk_state.specs.Lines.{typed};
 ghost use Rattle.desk_state.specs.Desks.{benchCount, lineAt};
-ghost use Rattle.desk_sound_log.specs.SoundLog.{logMost};
+ghost use Rattle.desk_soundness.specs.SoundLog.{logMost};
 ghost use Rattle.desk_keys.specs.Key.{after, edited, withEntry, entered, stored, enteredAs, appendKey, keyStep, keyOf};
 ghost use Rattle.desk_keys.specs.Ready.{Ready};
 use desk_answers::Answer;
-use line_reader::line::Class;
-use line_items::LINE_MOST;
 use desk_log::Written;
 use desk_state::desk::BENCH_COUNT;
 use desk_state::desk::Desk;
 use desk_state::line::Line;
 use desk_state::sheet::Item;
 use desk_state::sheet::Sheet;
+use line_items::LINE_MOST;
+use line_reader::line::Class;
 
 // What a key call leaves beside the log: the desk, the used number and the answer.
 pub struct Keyed {
@@ -176,14 +176,14 @@ pub fn key(d: Desk, used: usize, log: &mut [u8], bench: u64, byte: u8) -> Keyed
             answer: Answer::NoBench,
         };
     }
-    if !desk_soundness::is_sound(d) {
+    if !desk_soundness::by_value::is_sound(d) {
         return Keyed {
             desk: d,
             used,
             answer: Answer::Unsound,
         };
     }
-    if !desk_sound_log::is_sound_log(d, log.len(), used) {
+    if !desk_soundness::by_value::is_sound_log(d, log.len(), used) {
         return Keyed {
             desk: d,
             used,

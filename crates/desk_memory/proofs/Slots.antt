@@ -61,6 +61,13 @@ module _ (w : ℕ) where
         let l : e - a ≡ w = omega arith in
         ap (λ (n : ℕ). take n (drop a t)) l ∙ ap (λ (n : ℕ). take w (drop n t)) p
 
+    -- the slot of what is left after b elements, as it is lent
+    pub block-lent : (b a e : ℕ) → a ≡ b + k * w → e ≡ a + w → take (e - a) (drop a t) ≡ slot w (drop b t) k
+    unfolding slot
+    block-lent b a e p q =
+        let l : e - a ≡ w = omega arith in
+        ap (λ (n : ℕ). take n (drop a t)) l ∙ ap (take w) (ap (λ (n : ℕ). drop n t) p ∙ sym (drop-drop (k * w) b t))
+
     pub slot-long : k * w + w ≤ length t → length (slot w t k) ≡ w
     unfolding slot
     slot-long h = length-take-le w (drop (k * w) t) (simp length-drop (omega arith))

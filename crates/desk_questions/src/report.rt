@@ -15,7 +15,7 @@ pub struct Reported {
 pub fn report(d: Desk) -> Reported
     ensures { λ r. ⌜ reportIn r ≡ reportedOf d ⌝ }
 {
-    if !desk_soundness::is_sound(d) {
+    if !desk_soundness::by_value::is_sound(d) {
         let none = rows::no_rows();
         return Reported {
             answer: Asked::Unsound,

@@ -44,7 +44,7 @@ fn tell(i: Item) -> Told
 pub fn who(d: Desk, item: u64) -> Told
     ensures { λ r. ⌜ whoIn r ≡ whoOf d item ⌝ }
 {
-    if !desk_soundness::is_sound(d) {
+    if !desk_soundness::by_value::is_sound(d) {
         return tell_nobody(Asked::Unsound);
     }
     if item < 1 {

@@ -1,4 +1,4 @@
--- When a desk is sound (document 01, "What the desk holds"); the part on the log is in specs/SoundLog.antt of sound_log.
+-- When a desk is sound (document 01, "What the desk holds"); the part on the log is in SoundLog.
 -- Assumes nothing.
 use Prim.Native.Nat.{ℕ, suc, _+_}
 use mathlib.Core.List.{List, [], _∷_}

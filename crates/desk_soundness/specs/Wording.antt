@@ -1,6 +1,6 @@
--- A sound desk in document 01's words ("What the desk holds"); the part on the log is in specs/Wording.antt of desk_sound_log.
+-- A sound desk in document 01's words ("What the desk holds").
 -- Assumes nothing.
-use Prim.Native.Nat.{ℕ, _+_, _≤_, _<_}
+use Prim.Native.Nat.{ℕ, _+_, _*_, _≤_, _<_}
 use mathlib.Core.Path.{_≡_}
 use mathlib.Core.Bool.{true}
 use mathlib.Core.List.{List}
@@ -16,6 +16,7 @@ use Rattle.desk_state.specs.Desks.{benchCount, lineAt}
 use Rattle.desk_state.specs.declared.line.Line.{Line}
 use Rattle.desk_state.specs.declared.sheet.Item.{Item}
 use Rattle.desk_state.specs.declared.desk.Desk.{Desk}
+use Rattle.desk_soundness.specs.SoundLog.{logMost}
 
 -- ".. are zero"
 abbrev pub AreZero : List ℕ → Type 0
@@ -57,3 +58,9 @@ pub data SoundItem (count k : ℕ) (i : Item) : Type 0 where
 pub record Sound (d : Desk) : Type 0 where
   pub lines : (bench : ℕ) → bench < length (d .lines) → SoundLine (lineAt d bench)
   pub items : (k : ℕ) → 1 ≤ k → k ≤ length (d .sheet .items) → SoundItem (d .sheet .count) k (itemAt (d .sheet) k)
+
+-- "For key calls also: the log is at most 65,536 bytes long, used is not more than its length, and six times the count is not more than used"
+pub record SoundWith (d : Desk) (len used : ℕ) : Type 0 where
+  pub most : len ≤ logMost
+  pub within : used ≤ len
+  pub counted : 6 * d .sheet .count ≤ used

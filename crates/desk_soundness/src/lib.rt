@@ -1,26 +1,42 @@
-// The test of soundness (document 01, "What the desk holds"); its part on the log is in sound_log.
+// The test of soundness of a desk in lent memory (document 01, "What the desk holds").
 ghost use mathlib.Core.Path.{_≡_};
 ghost use Prim.Native.Nat.{_<_};
+ghost use lib.ListN.{length};
+ghost use Rattle.line_items.specs.Typed.{lineMost};
 ghost use Rattle.line_items.specs.Items.{itemCount};
-ghost use Rattle.desk_soundness.specs.Sound.{soundLine, soundEmpty, soundFilled, soundItem, soundLines, soundSheet, soundDesk};
+ghost use Rattle.desk_state.specs.declared.desk.Desk.{Desk};
+ghost use Rattle.desk_memory.specs.Memory.{itemNumbers, sheetTexts, sheetNumbers, Sized, lineFrom, itemFrom, sheetFrom, deskOf};
+ghost use Rattle.desk_soundness.specs.Sound.{soundLine, soundEmpty, soundFilled, soundItem, soundLines, soundSheet};
+ghost use Rattle.desk_soundness.specs.SoundLog.{soundLog};
+ghost use Rattle.desk_soundness.specs.SoundMemory.{soundMemory, soundForKeys};
+use desk_memory::BENCH_AT;
+use desk_memory::COUNT_AT;
+use desk_memory::ENTRY_AT;
+use desk_memory::ITEM_NUMBERS;
+use desk_memory::LEN_AT;
+use desk_memory::SHEETS_AT;
+use desk_memory::TEXTS;
+use desk_memory::USED_AT;
+use desk_state::desk::BENCH_COUNT;
 use line_items::FIRST_TYPED;
 use line_items::ITEM_COUNT;
 use line_items::LAST_TYPED;
 use line_items::LINE_MOST;
-use desk_state::desk::BENCH_COUNT;
-use desk_state::desk::Desk;
-use desk_state::line::Line;
-use desk_state::sheet::Item;
-use desk_state::sheet::Sheet;
 
-fn is_sound_line(l: Line) -> bool
-    ensures { λ r. ⌜ r ≡ soundLine l ⌝ }
+pub mod by_value;
+
+// The longest log, and the least that a record takes of it.
+pub const LOG_MOST: usize = 65536;
+
+pub(crate) const RECORD_LEAST: usize = 6;
+
+fn is_sound_line(bytes: &[u8], n: usize) -> bool
+    requires { ⌜ length (now bytes) ≡ lineMost ⌝ }
+    ensures { λ r. ⌜ r ≡ soundLine (lineFrom (now (bytes .entry)) n) ⌝ }
 {
-    let n = l.len;
     if LINE_MOST < n {
         return false;
     }
-    let bytes = l.bytes;
     if text::all_between(&bytes[..n], FIRST_TYPED, LAST_TYPED) {
         text::all_between(&bytes[n..], 0, 0)
     } else {
@@ -28,37 +44,38 @@ fn is_sound_line(l: Line) -> bool
     }
 }
 
-fn is_sound_empty(i: Item) -> bool
-    ensures { λ r. ⌜ r ≡ soundEmpty i ⌝ }
+fn is_sound_empty(value: &[u8], numbers: &[usize]) -> bool
+    requires { ⌜ length (now numbers) ≡ itemNumbers ⌝ }
+    ensures { λ r. ⌜ r ≡ soundEmpty (itemFrom (now (value .entry)) (now (numbers .entry))) ⌝ }
 {
-    if i.bench != 0 {
+    if numbers[BENCH_AT] != 0 {
         return false;
     }
-    if i.entry != 0 {
+    if numbers[ENTRY_AT] != 0 {
         return false;
     }
-    let value = i.value;
-    text::all_between(&value, 0, 0)
+    text::all_between(value, 0, 0)
 }
 
 // Whether the filled item k of a sheet with that count is sound.
-fn is_sound_filled(count: usize, k: usize, i: Item) -> bool
-    ensures { λ r. ⌜ r ≡ soundFilled count k i ⌝ }
+fn is_sound_filled(count: usize, k: usize, value: &[u8], numbers: &[usize]) -> bool
+    requires { ⌜ (length (now value) ≡ lineMost) × (length (now numbers) ≡ itemNumbers) ⌝ }
+    ensures { λ r. ⌜ r ≡ soundFilled count k (itemFrom (now (value .entry)) (now (numbers .entry))) ⌝ }
 {
-    if BENCH_COUNT <= i.bench as usize {
+    if BENCH_COUNT <= numbers[BENCH_AT] {
         return false;
     }
-    if i.entry < 1 {
+    let entry = numbers[ENTRY_AT];
+    if entry < 1 {
         return false;
     }
-    if count < i.entry {
+    if count < entry {
         return false;
     }
-    let n = i.len;
+    let n = numbers[LEN_AT];
     if LINE_MOST < n {
         return false;
     }
-    let value = i.value;
     if line_kinds::fits_item(k, &value[..n]) {
         text::all_between(&value[n..], 0, 0)
     } else {
@@ -66,24 +83,26 @@ fn is_sound_filled(count: usize, k: usize, i: Item) -> bool
     }
 }
 
-fn is_sound_item(count: usize, k: usize, i: Item) -> bool
-    requires { ⌜ k < itemCount ⌝ }
-    ensures { λ r. ⌜ r ≡ soundItem count k i ⌝ }
+fn is_sound_item(count: usize, k: usize, value: &[u8], numbers: &[usize]) -> bool
+    requires { ⌜ (k < itemCount) × (length (now value) ≡ lineMost) × (length (now numbers) ≡ itemNumbers) ⌝ }
+    ensures { λ r. ⌜ r ≡ soundItem count k (itemFrom (now (value .entry)) (now (numbers .entry))) ⌝ }
 {
-    if i.len == 0 {
-        is_sound_empty(i)
+    if numbers[LEN_AT] == 0 {
+        is_sound_empty(value, numbers)
     } else {
-        is_sound_filled(count, k + 1, i)
+        is_sound_filled(count, k + 1, value, numbers)
     }
 }
 
-fn are_sound_lines(d: Desk) -> bool
-    ensures { λ r. ⌜ r ≡ soundLines d ⌝ }
+fn are_sound_lines(texts: &[u8], numbers: &[usize]) -> bool
+    requires { ⌜ Sized (now texts) (now numbers) ⌝ }
+    ensures { λ r. ⌜ r ≡ soundLines (deskOf (now (texts .entry)) (now (numbers .entry))) ⌝ }
 {
     let mut i = 0;
     while i < BENCH_COUNT {
-        let l = d.lines[i];
-        if !is_sound_line(l) {
+        let at = i * LINE_MOST;
+        let end = at + LINE_MOST;
+        if !is_sound_line(&texts[at..end], numbers[i]) {
             return false;
         }
         i += 1;
@@ -91,14 +110,19 @@ fn are_sound_lines(d: Desk) -> bool
     true
 }
 
-fn is_sound_sheet(s: Sheet) -> bool
-    ensures { λ r. ⌜ r ≡ soundSheet s ⌝ }
+// Whether the sheet in a block is sound.
+fn is_sound_sheet(texts: &[u8], numbers: &[usize]) -> bool
+    requires { ⌜ (length (now texts) ≡ sheetTexts) × (length (now numbers) ≡ sheetNumbers) ⌝ }
+    ensures { λ r. ⌜ r ≡ soundSheet (sheetFrom (now (texts .entry)) (now (numbers .entry))) ⌝ }
 {
-    let count = s.count;
+    let count = numbers[COUNT_AT];
     let mut i = 0;
     while i < ITEM_COUNT {
-        let item = s.items[i];
-        if !is_sound_item(count, i, item) {
+        let at = i * LINE_MOST;
+        let end = at + LINE_MOST;
+        let from = i * ITEM_NUMBERS;
+        let to = from + ITEM_NUMBERS;
+        if !is_sound_item(count, i, &texts[at..end], &numbers[from..to]) {
             return false;
         }
         i += 1;
@@ -106,13 +130,42 @@ fn is_sound_sheet(s: Sheet) -> bool
     true
 }
 
-// Whether a desk is sound, the log's part left out: what a question asks.
-pub fn is_sound(d: Desk) -> bool
-    ensures { λ r. ⌜ r ≡ soundDesk d ⌝ }
+// Whether memory holds a sound desk, the log's part left out: what a question asks.
+pub fn is_sound(texts: &[u8], numbers: &[usize]) -> bool
+    ensures { λ r. ⌜ r ≡ soundMemory (now (texts .entry)) (now (numbers .entry)) ⌝ }
 {
-    if are_sound_lines(d) {
-        let s = d.sheet;
-        is_sound_sheet(s)
+    if !desk_memory::is_desk(texts, numbers) {
+        return false;
+    }
+    if are_sound_lines(texts, numbers) {
+        is_sound_sheet(&texts[SHEETS_AT..TEXTS], &numbers[BENCH_COUNT..USED_AT])
+    } else {
+        false
+    }
+}
+
+// Whether a desk of that count goes with a log of len bytes, used of them used.
+fn is_sound_log(count: usize, len: usize, used: usize) -> bool
+    ensures { λ r. ⌜ ((d : Desk) → d .sheet .count ≡ count → r ≡ soundLog d len used) ⌝ }
+{
+    if LOG_MOST < len {
+        return false;
+    }
+    if len < used {
+        return false;
+    }
+    if used / RECORD_LEAST < count {
+        return false;
+    }
+    true
+}
+
+// Whether memory holds a sound desk that goes with a log of len bytes: what a key call asks.
+pub fn is_sound_for_keys(texts: &[u8], numbers: &[usize], len: usize) -> bool
+    ensures { λ r. ⌜ r ≡ soundForKeys (now (texts .entry)) (now (numbers .entry)) len ⌝ }
+{
+    if is_sound(texts, numbers) {
+        is_sound_log(numbers[BENCH_COUNT + COUNT_AT], len, numbers[USED_AT])
     } else {
         false
     }

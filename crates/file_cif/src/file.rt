@@ -92,7 +92,7 @@ fn put_file(out: &mut [u8], name: &[u8], sheet: Sheet)
 pub fn write_file(d: Desk, name: &[u8], out: &mut [u8]) -> Filed
     ensures { λ r. ⌜ filingOf r (now (out .exit)) ≡ fileStep d (now (name .entry)) (now (out .entry)) ⌝ }
 {
-    if !desk_soundness::is_sound(d) {
+    if !desk_soundness::by_value::is_sound(d) {
         return refuse(FileAnswer::Unsound);
     }
     if !file_block_name::is_block_name(name) {

@@ -25,7 +25,7 @@ use Rattle.rows_weight.specs.WeightRows.{weighedOf, ratioLevel, row4, farApart,
 use Rattle.rows_graded.specs.GradedRows.{gradedRow, oldNameRow}
 use Rattle.rows_threshold.specs.Threshold.{hasShape, multiplierOf, thresholdLevel, thresholdRow, row12}
 use Rattle.desk_soundness.specs.Sound.{every, soundLine, soundEmpty, soundFilled, soundItem, soundLines, soundSheet, soundDesk}
-use Rattle.desk_sound_log.specs.SoundLog.{soundLog}
+use Rattle.desk_soundness.specs.SoundLog.{soundLog}
 use Rattle.line_categories.specs.Categories.{isCategory}
 use Rattle.line_kinds.specs.Kinds.{passes, fits}
 use Rattle.desk_keys.specs.Key.{stored, keyStep, keyOf}

@@ -23,9 +23,9 @@ use Rattle.desk_state.specs.Desks.{benchCount, noLine, lineAt}
 use Rattle.desk_soundness.specs.Sound.{soundDesk}
 use Rattle.desk_soundness.specs.Wording.{Sound, SoundLine}
 use Rattle.desk_soundness.proofs.Wording.{sound-is, sound-taken}
-use Rattle.desk_sound_log.specs.SoundLog.{soundLog}
-use Rattle.desk_sound_log.specs.Wording.{SoundWith}
-use Rattle.desk_sound_log.proofs.Wording.{log-is, log-taken}
+use Rattle.desk_soundness.specs.SoundLog.{soundLog}
+use Rattle.desk_soundness.specs.Wording.{SoundWith}
+use Rattle.desk_soundness.proofs.LogWording.{log-is, log-taken}
 use Rattle.desk_state.specs.declared.line.Line.{Line}
 use Rattle.desk_state.specs.declared.desk.Desk.{Desk}
 use Rattle.desk_keys.specs.Key.{After, stored, enteredAs, keyStep, keyOf}

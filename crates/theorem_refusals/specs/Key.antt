@@ -9,8 +9,7 @@ use Rattle.line_items.specs.Typed.{lineMost}
 use Rattle.desk_log.specs.Record.{recordLength}
 use Rattle.desk_state.specs.Lines.{typed}
 use Rattle.desk_state.specs.Desks.{benchCount, lineAt}
-use Rattle.desk_soundness.specs.Wording.{Sound}
-use Rattle.desk_sound_log.specs.Wording.{SoundWith}
+use Rattle.desk_soundness.specs.Wording.{Sound, SoundWith}
 use Rattle.desk_state.specs.declared.desk.Desk.{Desk}
 use Rattle.theorem_refusals.specs.Table.{Refusal, _when_}
 use Rattle.theorem_refusals.specs.Line.{OfItem, BadForm, UnknownName, WrongKind}

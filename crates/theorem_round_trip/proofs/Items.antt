@@ -19,7 +19,7 @@ use Rattle.desk_log.proofs.Records.{record-length}
 use Rattle.desk_state.specs.Sheets.{emptyItem, noItem, valueIn}
 use Rattle.desk_state.specs.Desks.{benchCount}
 use Rattle.desk_soundness.specs.Sound.{every, zeros, soundFilled, soundItem}
-use Rattle.desk_sound_log.specs.SoundLog.{logMost}
+use Rattle.desk_soundness.specs.SoundLog.{logMost}
 use Rattle.desk_state.specs.declared.sheet.Item.{Item}
 use Rattle.theorem_sequences.specs.Calls.{key, typing}
 use Rattle.theorem_sequences.specs.Work.{Entry, recordsOf, lastOf}

@@ -23,7 +23,7 @@ use Rattle.line_items.proofs.NameTable.{name-of}
 use Rattle.line_items.proofs.Names.{name-typed}
 use Rattle.desk_log.specs.Record.{recordLength}
 use Rattle.desk_state.specs.Desks.{benchCount}
-use Rattle.desk_sound_log.specs.SoundLog.{logMost}
+use Rattle.desk_soundness.specs.SoundLog.{logMost}
 use Rattle.rows_sheet.specs.Sheet.{rowsOf}
 use Rattle.rows.specs.declared.Rows.{Rows}
 use Rattle.theorem_sequences.specs.Calls.{Call, key, Reply, keyed, answered, final, typing}

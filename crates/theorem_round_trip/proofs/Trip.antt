@@ -16,7 +16,7 @@ use Rattle.line_items.specs.Items.{itemCount}
 use Rattle.desk_state.specs.Sheets.{itemAt, valueIn}
 use Rattle.desk_state.specs.Desks.{benchCount}
 use Rattle.desk_soundness.specs.Sound.{every, soundItem, soundLines, soundSheet, soundDesk}
-use Rattle.desk_sound_log.specs.SoundLog.{logMost}
+use Rattle.desk_soundness.specs.SoundLog.{logMost}
 use Rattle.desk_state.specs.declared.desk.Desk.{Desk}
 use Rattle.file_cif.specs.File.{itemLine}
 use Rattle.file_cif.specs.Answers.{fileStep}

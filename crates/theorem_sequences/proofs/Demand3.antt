@@ -12,7 +12,7 @@ use Rattle.desk_state.specs.Lines.{lineOf}
 use Rattle.desk_state.specs.Sheets.{emptyItem, noItem, itemAt}
 use Rattle.desk_state.specs.Desks.{benchCount, noLine}
 use Rattle.desk_soundness.specs.Sound.{every, soundLine, soundEmpty, soundItem, soundLines, soundSheet, soundDesk}
-use Rattle.desk_sound_log.specs.SoundLog.{soundLog}
+use Rattle.desk_soundness.specs.SoundLog.{soundLog}
 use Rattle.desk_state.specs.declared.line.Line.{Line}
 use Rattle.desk_state.specs.declared.sheet.Item.{Item}
 use Rattle.desk_state.specs.declared.sheet.Sheet.{Sheet}

@@ -24,7 +24,7 @@ use Rattle.line_reader.specs.declared.line.Class.the-variants as class
 use Rattle.line_items.proofs.Names.{name-found}
 use Rattle.line_reader.proofs.Wording.{line-is}
 use Rattle.desk_state.specs.Desks.{benchCount}
-use Rattle.desk_sound_log.specs.SoundLog.{logMost}
+use Rattle.desk_soundness.specs.SoundLog.{logMost}
 use Rattle.theorem_sequences.specs.Work.{enterAnswer, tableAnswer, accepts}
 
 -- the line t, with its name and its value, for item k

@@ -26,7 +26,7 @@ use Rattle.line_reader.specs.Wording.{IsLine}
 use Rattle.desk_state.specs.Lines.{lineOf}
 use Rattle.desk_state.specs.Sheets.{itemAt}
 use Rattle.desk_soundness.specs.Sound.{soundDesk}
-use Rattle.desk_sound_log.specs.SoundLog.{logMost, soundLog}
+use Rattle.desk_soundness.specs.SoundLog.{logMost, soundLog}
 use Rattle.desk_state.specs.declared.sheet.Sheet.{Sheet}
 use Rattle.theorem_sequences.specs.Calls.{Call, key, ask, report, who, Reply, keyed, reported, told, State, freshState, step, answered, final}
 use Rattle.theorem_sequences.specs.Gather.{own, gather, gatherAnswered, Regrouped}

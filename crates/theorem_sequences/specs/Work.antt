@@ -14,7 +14,7 @@ use Rattle.line_reader.specs.declared.line.Class.the-variants as class
 use Rattle.desk_log.specs.Record.{recordLength, recordOf}
 use Rattle.desk_state.specs.Sheets.{filled, emptyItem}
 use Rattle.desk_state.specs.Desks.{benchCount}
-use Rattle.desk_sound_log.specs.SoundLog.{logMost}
+use Rattle.desk_soundness.specs.SoundLog.{logMost}
 use Rattle.desk_state.specs.declared.sheet.Item.{Item}
 use Rattle.desk_state.specs.declared.sheet.Sheet.{Sheet}
 use Rattle.desk_questions.specs.Who.{Who, nobody}

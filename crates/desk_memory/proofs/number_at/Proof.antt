@@ -11,7 +11,7 @@ use Rattle.desk_memory.proofs.number_at.Statement.{statement}
 use Rattle.desk_memory.proofs.number_at.Tie as tie
 
 returns : tie.Need-returns
-returns c = let a = c .before .args in sym (get-past itemNumbers (now (a .numbers)) (a .k) (a .i) (c .if1 .taken))
+returns c = let a = c .before .args in sym (get-past itemNumbers (now (a .numbers)) (a .k) (a .i) (omega arith))
 
 returns-2 : tie.Need-returns-2
 returns-2 c = let a = c .before .before .args in sym (get-none itemNumbers (now (a .numbers)) (a .k) (a .i) (omega arith) (omega arith))

@@ -1,4 +1,4 @@
--- `soundness::is_sound_empty` meets its contract: each return has the tests of `soundEmpty` on its way.
+-- `desk_soundness::is_sound_empty` meets its contract: each return has the tests of `soundEmpty` on its way.
 -- Assumes nothing.
 use mathlib.Core.Path.{_∙_}
 use borrow.Author.Tests.{eq-eqb, ne-eqb}
@@ -17,11 +17,7 @@ returns-2 c = simp (eq-eqb _ 0 (c .before .before .if1 .left), ne-eqb _ 0 (c .if
 
 returns-3 : tie.Need-returns-3
 unfolding soundEmpty
-returns-3 c =
-    let e2 = c .before .before .before in
-    c .all-between .ensures ∙ simp (eq-eqb _ 0 (e2 .before .before .if1 .left), eq-eqb _ 0 (e2 .if2 .left))
+returns-3 c = c .all-between .ensures ∙ simp (eq-eqb _ 0 (c .before .before .before .if1 .left), eq-eqb _ 0 (c .before .if2 .left))
 
 pub is-sound-empty-spec : {M : Type 1} → statement M
-is-sound-empty-spec =
-    tie.close
-    (tie.spec returns returns-2 (λ c. search needs) (λ c κs. search needs) returns-3)
+is-sound-empty-spec = tie.close (tie.spec (λ c. search needs) returns (λ c. search needs) returns-2 (λ c κs. search needs) returns-3)

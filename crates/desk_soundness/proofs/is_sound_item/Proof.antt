@@ -1,4 +1,4 @@
--- `soundness::is_sound_item` meets its contract: an item with no value is empty.
+-- `desk_soundness::is_sound_item` meets its contract: an item with no value is empty.
 -- Assumes nothing.
 use mathlib.Core.Path.{_∙_}
 use borrow.Author.Tests.{eq-eqb, ne-eqb}
@@ -19,6 +19,7 @@ pub is-sound-item-spec : {M : Type 1} → statement M
 is-sound-item-spec =
     tie.close
     (tie.spec
+    (λ c. search needs)
     (λ c κs. search needs)
     (λ c. search needs)
     (λ c κs. search needs)

@@ -1,52 +1,60 @@
--- `soundness::is_sound_sheet` meets its contract. The loop's invariant: the items passed are sound, so the rest decides.
+-- `desk_soundness::is_sound_sheet` meets its contract. The loop's invariant: the items passed are sound, so the rest decides.
 -- The measure is what is left of the items. Assumes nothing.
-use borrow.Author.Needs.{needs}
 use native.Mathlib.Omega.{arith}
 use mathlib.Core.Path.{_≡_, refl, sym, _∙_}
-use mathlib.Core.Bool.{true, false}
-use Prim.Native.Nat.{_≤_, _-_}
+use mathlib.Core.Bool.{_&&_}
+use Prim.Native.Nat.{_≤_, _-_, _+_, _*_}
 use borrow.Author.Tests.{not-true, not-false}
-use lib.ListN.{length, getD, drop, length-map}
+use lib.ListN.{length-take, length-drop}
+use denote.Ref.{now}
+use Rattle.line_items.specs.Typed.{lineMost}
 use Rattle.line_items.specs.Items.{itemCount}
-use Rattle.desk_state.specs.Sheets.{noItem}
-use Rattle.desk_soundness.specs.Sound.{every, soundItem, soundSheet}
-use Rattle.desk_soundness.proofs.Everys.{every-at, every-end}
+use Rattle.desk_memory.specs.Memory.{itemNumbers}
+use Rattle.desk_soundness.proofs.Turns.{itemsFrom, items-all, items-end, item-turn}
 use Rattle.desk_soundness.proofs.is_sound_sheet.Statement.{statement}
 use Rattle.desk_soundness.proofs.is_sound_sheet.Tie as tie
 
 abbrev Inv-loop : tie.InvT-loop
-Inv-loop s count i₀ i = (i ≤ itemCount) × (every (soundItem (s .count)) 0 (s .items) ≡ every (soundItem (s .count)) i (drop i (s .items)))
+Inv-loop texts numbers count i₀ i = (i ≤ itemCount) × (itemsFrom texts numbers 0 ≡ itemsFrom texts numbers i)
 
 abbrev μ-loop : tie.MeasureT-loop
-μ-loop s count i₀ i = itemCount - i
-
-all-items : (c : tie.Start Inv-loop μ-loop) → length (c .args .t1 .items) ≡ itemCount
-all-items c = sym (length-map (c .args .t1 .items) _) ∙ c .good .0 .1 .1 .0 .1 .0 .1
+μ-loop texts numbers count i₀ i = itemCount - i
 
 loop-holds : tie.Need-loop-holds Inv-loop μ-loop
 loop-holds c = (omega arith, refl)
 
+is-sound-item-requires : tie.Need-is-sound-item-requires Inv-loop μ-loop
+is-sound-item-requires c κs = (omega arith, simp (length-take, length-drop) (omega arith), simp (length-take, length-drop) (omega arith))
+
+-- what the test of an item makes of the rest
+turn : (c : tie.After-is-sound-item Inv-loop μ-loop)
+    → (let l = c .before .before .before .before in
+    let a = l .before .before .before .before .args in
+    let i = l .loop .i in
+    itemsFrom (now (a .texts)) (now (a .numbers)) i ≡ (c .is-sound-item .result && itemsFrom (now (a .texts)) (now (a .numbers)) (i + 1)))
+turn c =
+    let l = c .before .before .before .before in
+    let a = l .before .before .before .before .args in
+    let i = l .loop .i in
+    item-turn (now (a .texts)) (now (a .numbers)) i (i * lineMost) (i * lineMost + lineMost) (i * itemNumbers) (i * itemNumbers + itemNumbers) _ (omega arith) refl refl refl refl
+    (c .is-sound-item .ensures)
+
 returns : tie.Need-returns Inv-loop μ-loop
-unfolding soundSheet
 returns c =
-    let l = c .before .before .before .before .loop in
-    let b = c .before .before .before .before .before in
-    let s = b .args .t1 in
-    let e : soundItem (s .count) (l .i) (getD (s .items) (l .i) noItem) ≡ false = sym (c .before .is-sound-item .ensures) ∙ not-true _ (c .if1 .taken) in
-    sym (l .inv .1 ∙ every-at (soundItem (s .count)) (s .items) (l .i) noItem (omega (arith, all-items b)) ∙ rw e)
+    let l = c .before .before .before .before .before in
+    let a = l .before .before .before .before .args in
+    sym (items-all (now (a .texts)) (now (a .numbers)) ∙ l .loop .inv .1 ∙ turn (c .before) ∙ simp (not-true (c .before .is-sound-item .result) (c .if1 .taken)))
 
 loop-again : tie.Need-loop-again Inv-loop μ-loop
-unfolding soundSheet
 loop-again c =
-    let l = c .before .before .before .before .loop in
-    let b = c .before .before .before .before .before in
-    let s = b .args .t1 in
-    let e : soundItem (s .count) (l .i) (getD (s .items) (l .i) noItem) ≡ true = sym (c .before .is-sound-item .ensures) ∙ not-false _ (c .if1 .left) in
-    (omega arith, l .inv .1 ∙ every-at (soundItem (s .count)) (s .items) (l .i) noItem (omega (arith, all-items b)) ∙ rw e)
+    let l = c .before .before .before .before .before in
+    (omega arith, l .loop .inv .1 ∙ turn (c .before) ∙ simp (not-false (c .before .is-sound-item .result) (c .if1 .left)))
 
 returns-2 : tie.Need-returns-2 Inv-loop μ-loop
-unfolding soundSheet
-returns-2 c = sym (c .before .loop .inv .1 ∙ every-end _ (c .before .before .args .t1 .items) (c .before .loop .i) (omega (arith, all-items (c .before .before))))
+returns-2 c =
+    let l = c .before in
+    let a = l .before .before .before .before .args in
+    sym (items-all (now (a .texts)) (now (a .numbers)) ∙ l .loop .inv .1 ∙ items-end (now (a .texts)) (now (a .numbers)) (l .loop .i) (omega arith))
 
 pub is-sound-sheet-spec : {M : Type 1} → statement M
 is-sound-sheet-spec =
@@ -54,10 +62,20 @@ is-sound-sheet-spec =
     (tie.spec
     Inv-loop
     μ-loop
+    (λ c. omega arith)
     loop-holds
-    (λ c. search needs)
-    (λ c. search needs)
-    (λ c κs. omega arith)
+    (λ c. omega arith)
+    (λ c. omega arith)
+    (λ c. omega arith)
+    (λ c. omega arith)
+    (λ c. omega arith)
+    (λ c. omega arith)
+    (λ c. omega arith)
+    (λ c. omega arith)
+    (λ c. omega arith)
+    (λ c. omega arith)
+    (λ c. omega arith)
+    is-sound-item-requires
     returns
     (λ c. omega arith)
     (λ c. omega arith)

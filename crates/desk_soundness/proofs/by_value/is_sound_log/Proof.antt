@@ -1,11 +1,11 @@
--- `sound_log::is_sound_log` meets its contract: each return has the tests of `soundLog` on its way.
+-- `desk_soundness::by_value::is_sound_log` meets its contract: each return has the tests of `soundLog` on its way.
 -- Assumes nothing.
 use native.Mathlib.Omega.{arith}
 use Prim.Native.Nat.{_*_}
 use borrow.Author.Tests.{le-leb, lt-leb}
-use Rattle.desk_sound_log.specs.SoundLog.{logMost, soundLog}
-use Rattle.desk_sound_log.proofs.is_sound_log.Statement.{statement}
-use Rattle.desk_sound_log.proofs.is_sound_log.Tie as tie
+use Rattle.desk_soundness.specs.SoundLog.{logMost, soundLog}
+use Rattle.desk_soundness.proofs.by_value.is_sound_log.Statement.{statement}
+use Rattle.desk_soundness.proofs.by_value.is_sound_log.Tie as tie
 
 returns : tie.Need-returns
 unfolding soundLog

@@ -7,8 +7,8 @@ use borrow.Author.Tests.{leb-true, le-leb}
 use lib.Dec.{leb}
 use Rattle.text.proofs.Bools.{and-both}
 use Rattle.desk_state.specs.declared.desk.Desk.{Desk}
-use Rattle.desk_sound_log.specs.SoundLog.{logMost, soundLog}
-use Rattle.desk_sound_log.specs.Wording.{SoundWith}
+use Rattle.desk_soundness.specs.SoundLog.{logMost, soundLog}
+use Rattle.desk_soundness.specs.Wording.{SoundWith}
 
 module _ (d : Desk) (len used : ℕ) where
   pub log-is : soundLog d len used ≡ true → SoundWith d len used

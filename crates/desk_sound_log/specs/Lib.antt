@@ -1,2 +1,0 @@
-pub mod SoundLog
-pub mod Wording

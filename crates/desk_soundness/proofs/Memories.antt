@@ -1,0 +1,36 @@
+-- What the tests of a desk in lent memory say of its soundness.
+-- Assumes nothing.
+use mathlib.Core.Path.{_≡_, refl, sym, ap, _∙_}
+use mathlib.Core.Bool.{Bool, true, false}
+use mathlib.Core.List.{List}
+use Prim.Native.Nat.{ℕ, _+_, _*_, _-_}
+use native.Mathlib.Nat.{zero-mul, add-zero}
+use native.Mathlib.Omega.{arith}
+use lib.ListN.{getD, take, drop}
+use lib.Seq.{getD-drop}
+use Rattle.desk_state.specs.Desks.{benchCount}
+use Rattle.desk_state.specs.declared.sheet.Sheet.{Sheet}
+use Rattle.desk_memory.specs.Memory.{sheetTexts, sheetNumbers, sheetsAt, countAt, usedAt, textsLength, isDesk, sheetFrom, textsOf, numbersOf, deskOf}
+use Rattle.desk_memory.proofs.Slots.{slot-get, block-lent}
+use Rattle.desk_memory.proofs.Desks.{sheet-of, count-of}
+use Rattle.desk_soundness.specs.Sound.{soundLines, soundSheet, soundDesk}
+use Rattle.desk_soundness.specs.SoundMemory.{soundMemory}
+
+module _ (t n : List ℕ) (d : isDesk t n ≡ true) where
+  pub sound-lines : soundLines (deskOf t n) ≡ false → false ≡ soundMemory t n
+  unfolding soundMemory soundDesk
+  sound-lines e = simp (d, e)
+
+  pub sound-sheet : soundLines (deskOf t n) ≡ true → {r : Bool}
+      → r ≡ soundSheet (sheetFrom (take (textsLength - sheetsAt) (drop sheetsAt t)) (take (usedAt - benchCount) (drop benchCount n))) → r ≡ soundMemory t n
+  unfolding soundMemory soundDesk
+  sound-sheet e s =
+      let x : take (textsLength - sheetsAt) (drop sheetsAt t) ≡ textsOf t 0 = block-lent sheetTexts t 0 sheetsAt sheetsAt textsLength refl refl in
+      let y : take (usedAt - benchCount) (drop benchCount n) ≡ numbersOf n 0 = block-lent sheetNumbers n 0 benchCount benchCount usedAt refl refl in
+      s ∙ ap soundSheet (ap (λ (l : List ℕ). sheetFrom l (take (usedAt - benchCount) (drop benchCount n))) x ∙ ap (sheetFrom (textsOf t 0)) y ∙ sym (sheet-of t n)) ∙ simp (d, e)
+
+-- the count, where it stands in the memory
+pub count-in : (t n : List ℕ) → deskOf t n .sheet .count ≡ getD n (benchCount + countAt) 0
+count-in t n =
+    ap (λ (s : Sheet). s .count) (sheet-of t n) ∙ count-of (textsOf t 0) (numbersOf n 0) ∙ slot-get sheetNumbers (drop benchCount n) 0 countAt (omega arith)
+    ∙ getD-drop benchCount n countAt 0

@@ -1,0 +1,27 @@
+-- `soundness::is_sound_empty` meets its contract: each return has the tests of `soundEmpty` on its way.
+-- Assumes nothing.
+use mathlib.Core.Path.{_∙_}
+use borrow.Author.Tests.{eq-eqb, ne-eqb}
+use Rattle.desk_soundness.specs.Sound.{soundEmpty}
+use borrow.Author.Needs.{needs}
+use Rattle.desk_soundness.proofs.by_value.is_sound_empty.Statement.{statement}
+use Rattle.desk_soundness.proofs.by_value.is_sound_empty.Tie as tie
+
+returns : tie.Need-returns
+unfolding soundEmpty
+returns c = simp (ne-eqb _ 0 (c .if1 .taken))
+
+returns-2 : tie.Need-returns-2
+unfolding soundEmpty
+returns-2 c = simp (eq-eqb _ 0 (c .before .before .if1 .left), ne-eqb _ 0 (c .if2 .taken))
+
+returns-3 : tie.Need-returns-3
+unfolding soundEmpty
+returns-3 c =
+    let e2 = c .before .before .before in
+    c .all-between .ensures ∙ simp (eq-eqb _ 0 (e2 .before .before .if1 .left), eq-eqb _ 0 (e2 .if2 .left))
+
+pub is-sound-empty-spec : {M : Type 1} → statement M
+is-sound-empty-spec =
+    tie.close
+    (tie.spec returns returns-2 (λ c. search needs) (λ c κs. search needs) returns-3)
