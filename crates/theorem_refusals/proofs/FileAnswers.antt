@@ -14,12 +14,12 @@ use Rattle.desk_state.specs.declared.desk.Desk.{Desk}
 use Rattle.file_block_name.specs.Block.{isBlockName}
 use Rattle.file_block_name.proofs.Wording.{block-is, block-taken}
 use Rattle.file_cif.specs.File.{fileOf}
-use Rattle.file_cif.specs.Answers.{After, fileStep}
+use Rattle.file_cif.specs.Answers.{Filing, fileStep}
 use Rattle.theorem_refusals.specs.Table.{Answers}
 use Rattle.theorem_refusals.specs.File.{fileTable}
 use Rattle.theorem_refusals.proofs.Firsts.{First, this, next, answers, fails}
 
-file-cond : (b : Bool) (x y : After) → cond b x y .answer ≡ cond b (x .answer) (y .answer)
+file-cond : (b : Bool) (x y : Filing) → cond b x y .answer ≡ cond b (x .answer) (y .answer)
 file-cond true x y = refl
 file-cond false x y = refl
 
