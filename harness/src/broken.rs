@@ -1,7 +1,7 @@
 //! Ways to break a sound desk, each in one place.
 
-use crate::boundary::{ItemState, TextLine};
-use crate::desks::{item_state, longest_value, Desks, State};
+use crate::boundary::{item_state, ItemState, TextLine};
+use crate::desks::{longest_value, Desks, State};
 use crate::random::Random;
 use reference::desk::{BENCHES, LOG_LIMIT, RECORD_HEAD};
 use reference::line::LIMIT;

@@ -1,6 +1,6 @@
 //! Sessions of the programs `desk` and `sheet_cif` by readable scripts, and what each must print.
 
-use crate::program::Library;
+use crate::by_reference::told;
 use crate::tally::Tally;
 use reference::desk::{key, report, FRESH, LOG_FULL, NOT_SOUND, RECORD_HEAD};
 use reference::line::LIMIT;
@@ -335,10 +335,10 @@ fn left_out(scripts: &[Script]) -> Vec<String> {
         for (bench, byte) in keys(input) {
             seen[usize::from(key(&mut desk, &mut log, &mut used, bench, byte))] = true;
         }
-        tally.note_rows(&report(&desk).1.into());
+        tally.note_rows(&told(&report(&desk).1));
     }
     let answers =
         (0..=LOG_FULL).filter(|&answer| answer != NOT_SOUND && !seen[usize::from(answer)]);
     let answers = answers.map(|answer| format!("answer {answer}"));
-    answers.chain(tally.missing(|library| library == Library::Rows)).collect()
+    answers.chain(tally.missing_rows()).collect()
 }
