@@ -504,6 +504,12 @@ comparison() {
     summary "self-check of the comparison" "$harness" self-check
     summary "comparison with the reference" "$harness" compare
     grep -a '^fixed seed' "$work/out"
+    if command -v python3 >/dev/null; then
+        summary "comparison with mutants of the reference" python3 harness/mutants/mutants.py
+        grep -a ' mutants, ' "$work/out"
+    else
+        echo "skipped: mutants of the reference (no python3)"
+    fi
 }
 
 headers

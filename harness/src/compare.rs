@@ -106,7 +106,8 @@ pub fn compare<'a>(
 /// What unwinds a run that its first difference ends.
 struct Difference(String);
 
-/// The first difference, or that a program panicked; none where both programs agree on everything.
+/// The first difference, or that a program panicked, or an answer that was never seen; none where the
+/// comparison passes.
 pub fn first_difference(
     tested: &dyn Program,
     expected: &dyn Program,
@@ -117,11 +118,12 @@ pub fn first_difference(
         let mut run = Comparison::new(tested, expected, gather, plan);
         run.ends = true;
         run.whole(plan);
+        run.missing().first().map(|answer| format!("never seen: {answer}"))
     });
-    match catch_unwind(run).err()?.downcast::<Difference>() {
+    catch_unwind(run).unwrap_or_else(|panic| match panic.downcast::<Difference>() {
         Ok(difference) => Some(difference.0),
         Err(_) => Some("a panic".into()),
-    }
+    })
 }
 
 /// The names of a check from the fixed seed and from the new one.
@@ -172,11 +174,11 @@ impl<'a> Comparison<'a> {
         self.some_sequences(plan);
         self.some_files(plan);
         if plan.lists {
-            self.listed_texts();
             self.listed_sheets();
             self.listed_keys(plan);
             self.listed_sequences();
             self.listed_files();
+            self.listed_texts();
         }
     }
 
@@ -189,17 +191,17 @@ impl<'a> Comparison<'a> {
     }
 
     fn listed_texts(&mut self) {
-        self.values("short texts as values", lists::short_texts(lists::SHORT_VALUE));
-        self.lines(
-            "short texts in lines",
-            lists::in_lines(lists::short_texts(lists::SHORT_IN_LINE)),
-        );
-        self.values("reserved words as values", lists::reserved_words());
-        self.lines("reserved words in lines", lists::in_lines(lists::reserved_words()));
         self.values("numbers at the limits", lists::numbers_at_limits());
         self.values("numbers at the bounds", lists::numbers_at_bounds());
         self.lines("items with values", lists::items_with_values());
         self.lines("names one byte off", lists::names_one_byte_off());
+        self.values("reserved words as values", lists::reserved_words());
+        self.lines("reserved words in lines", lists::in_lines(lists::reserved_words()));
+        self.lines(
+            "short texts in lines",
+            lists::in_lines(lists::short_texts(lists::SHORT_IN_LINE)),
+        );
+        self.values("short texts as values", lists::short_texts(lists::SHORT_VALUE));
     }
 
     pub fn differences(&self) -> u64 {

@@ -16,7 +16,6 @@ impl Comparison<'_> {
     }
 
     pub(super) fn listed_sheets(&mut self) {
-        self.sheets("mixtures of missing items", sheet_lists::missing_mixtures());
         self.sheets("symbols", sheet_lists::symbols());
         self.sheets("symbols with categories", sheet_lists::classes());
         self.sheets("symbols in pairs", sheet_lists::pairs());
@@ -25,6 +24,7 @@ impl Comparison<'_> {
         self.sheets("numbers on sheets", sheet_lists::numbers());
         self.sheets("thresholds at the bounds", sheet_lists::thresholds_at_bounds());
         self.sheets("texts one byte off", sheet_lists::texts_one_byte_off());
+        self.sheets("mixtures of missing items", sheet_lists::missing_mixtures());
     }
 
     fn generated_sheets(&mut self, name: &'static str, seed: u64, count: u64) {
