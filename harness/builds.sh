@@ -302,9 +302,9 @@ archive_builds() {
     done
     PROVED_LIBS=$work/archives CARGO_TARGET_DIR=$PWD/build/cargo$level cargo build --release --offline --quiet --manifest-path harness/Cargo.toml ||
         { fail "archives at $level" "the harness is not built"; return; }
-    REQUIRE_LIBS="${archives[*]}" summary "archives at $level" "build/cargo$level/release/harness" compare --count $count
+    summary "archives at $level" "build/cargo$level/release/harness" compare --count $count
     grep -a -E '^(fixed seed|measured|sequences)' "$work/out"
-    REQUIRE_LIBS="${archives[*]}" summary "archives as proved, at -O3" "$harness" compare --count $count
+    summary "archives as proved, at -O3" "$harness" compare --count $count
     grep -a -E '^(fixed seed|measured|sequences)' "$work/out"
 }
 

@@ -1,10 +1,10 @@
 #!/usr/bin/env bash
 # Tests the C boundary, headers, client, trace and comparison, and the programs desk and sheet_cif.
-# What needs an archive, or one of the programs, that is not there is left out, or fails where REQUIRE_LIBS names it.
-# Needs the built harness and client (build/cargo/release/harness, build/wall_screen).
+# Needs the built harness, client and programs (build/cargo/release/harness, build/wall_screen, target/bin).
 # Prints one line for each check and at the end 'N passed, M failed'.
 set -u
 . "$(dirname "$0")/checks.sh"
+need "$desk" "$sheet_cif"
 warnings=(-Wall -Wextra -Werror -pedantic)
 
 # same NAME EXPECTED ACTUAL: two files are equal, and not empty.
@@ -43,26 +43,6 @@ compiles() {
     local name=$1 words
     shift
     if words=$("$@" 2>&1) && [ -z "$words" ]; then ok "$name"; else fail "$name" "$(head -n 1 <<<"$words")"; fi
-}
-
-# there NAME: the harness is linked with that archive; the program desk or sheet_cif is there.
-there() {
-    case $1 in
-        desk | sheet_cif) [ -x "target/bin/$1" ] ;;
-        *) "$harness" libraries 2>/dev/null | grep -qx "there: lib$1.a" ;;
-    esac
-}
-
-libraries() {
-    local all='export_wall test_probe test_probe_rows test_probe_keys test_play test_probe_file desk sheet_cif' name
-    runs "libraries: an absent one is required" 1 $'REQUIRED libnothing.a\n' '' \
-        bash -c 'REQUIRE_LIBS="export_wall nothing" "$1" libraries | grep REQUIRED; exit "${PIPESTATUS[0]}"' - "$harness"
-    for name in ${REQUIRE_LIBS-export_wall test_probe}; do
-        if there "$name"; then ok "libraries: $name"; else fail "libraries: $name" "not there"; fi
-    done
-    for name in $all; do
-        there "$name" || echo "not there: $name"
-    done
 }
 
 headers() {
@@ -335,22 +315,10 @@ trace_keys() {
     trace_table "reference's trace: questions" reference-trace < <(questions)
     trace_table "reference's trace: fresh desks" reference-trace < <(fresh_desks)
     trace_table "reference's trace: files" reference-trace < <(files)
-    if there test_play || there test_probe_keys; then
-        trace_table "trace: keys" < <(session)
-    else
-        trace_table "trace: keys are not there" < <(printf '%s|none\n' 'new 4096 1' 'k 0 10' dump)
-    fi
-    if there test_play; then
-        trace_table "trace: questions" < <(questions)
-        trace_table "trace: fresh desks" < <(fresh_desks)
-    else
-        trace_table "trace: questions are not there" < <(printf '%s|none\n' 'report 0 0' 'who 0 1')
-    fi
-    if ! there test_probe_file; then
-        trace_table "trace: files are not there" < <(printf '%s|none\n' 'cif 0 61 99' 'cif 0 61')
-    elif there test_play || there test_probe_keys; then
-        trace_table "trace: files" < <(files)
-    fi
+    trace_table "trace: keys" < <(session)
+    trace_table "trace: questions" < <(questions)
+    trace_table "trace: fresh desks" < <(fresh_desks)
+    trace_table "trace: files" < <(files)
 }
 
 # The answers come whenever the input pauses, in the middle of a line too.
@@ -380,11 +348,9 @@ trace_generated() {
     runs "trace: as many answers as commands" 0 $'5000\n' '' grep -c '' "$work/answers"
     { head -c 5001 "$work/commands"; sleep 0.2; tail -c +5002 "$work/commands"; } | "$harness" trace >"$work/answers"
     same "trace: the same in two parts" "$work/want" "$work/answers"
-    if there test_play || there test_probe_keys; then
-        yes 'k 0 65' | head -n $keys | "$harness" reference-trace >"$work/want"
-        yes 'k 0 65' | head -n $keys | timeout 60 "$harness" trace >"$work/answers"
-        same "trace: $keys keys of one desk" "$work/want" "$work/answers"
-    fi
+    yes 'k 0 65' | head -n $keys | "$harness" reference-trace >"$work/want"
+    yes 'k 0 65' | head -n $keys | timeout 60 "$harness" trace >"$work/answers"
+    same "trace: $keys keys of one desk" "$work/want" "$work/answers"
     runs "trace: last command without newline" 0 $'none\n5\n' '' "$harness" trace < <(printf '\xff\nline -')
     runs "tools/trace from another folder" 0 $'5\n0 3\n' '' \
         bash -c 'cd "$1" && "$2/tools/trace" more words 2>/dev/null' - "$work" "$PWD" < <(printf 'line -\ngrade 6 302e3230\n')
@@ -400,10 +366,6 @@ desk_sessions() {
     mkdir "$work/sessions"
     runs "desk: sessions recomputed" 0 '' '' "$harness" desk-sessions "$work/sessions"
     runs "desk: sessions as they are kept" 0 '' '' diff -r harness/desk-sessions "$work/sessions"
-    if ! there desk; then
-        echo "skipped: desk (not there)"
-        return
-    fi
     for input in harness/desk-sessions/*.in; do
         name=$(basename "$input" .in)
         desk_prints "desk: $name" "$input" "${input%.in}.out"
@@ -415,7 +377,6 @@ desk_sessions() {
 
 # What the tools tell a person: the refused keys of a session, and wrong arguments.
 tools_tell() {
-    there desk || return
     runs "tools/refusals: the sample session" 0 $'0 of 57 keys refused\n' '' tools/refusals
     runs "tools/refusals: refused lines" 1 "$(cat <<'END'
 pair 1, bench 0, Enter after ``: 5, not a name, a space and a value
@@ -479,10 +440,6 @@ holds() {
 
 sheet_cif_runs() {
     local first=harness/desk-sessions/document_01 folder=$work/cif input name word
-    if ! there sheet_cif; then
-        echo "skipped: sheet_cif (not there)"
-        return
-    fi
     for input in harness/desk-sessions/*.in; do
         name=$(basename "$input" .in)
         runs "sheet_cif: $name" 0 "$(cat "${input%.in}.cif")"$'\n' '' "$sheet_cif" camp-1 <"$input"
@@ -546,10 +503,15 @@ sheet_cif_runs() {
 comparison() {
     summary "self-check of the comparison" "$harness" self-check
     summary "comparison with the reference" "$harness" compare
-    grep -a -e '^fixed seed' -e '^not there' "$work/out"
+    grep -a '^fixed seed' "$work/out"
+    if command -v python3 >/dev/null; then
+        summary "comparison with mutants of the reference" python3 harness/mutants/mutants.py
+        grep -a ' mutants, ' "$work/out"
+    else
+        echo "skipped: mutants of the reference (no python3)"
+    fi
 }
 
-libraries
 headers
 layout
 runs "client: sample" 0 "$(cat client/sample.out)"$'\n' '' "$client" <client/sample.txt

@@ -15,7 +15,6 @@ ensure_programs || exit 2
 
 # The proved libraries that C and Rust link.
 archives=(export_wall test_probe test_probe_rows test_probe_keys test_play test_probe_file)
-export REQUIRE_LIBS="${archives[*]} desk sheet_cif"
 
 # stale ARCHIVE: it is missing, or crates.txt or some file under crates/ is newer.
 stale() {

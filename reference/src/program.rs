@@ -36,7 +36,7 @@ fn played(input: &[u8]) -> Desk {
 /// byte"; "a last odd byte" is passed over.
 pub fn keys(input: &[u8]) -> impl Iterator<Item = (u64, u8)> + '_ {
     input.chunks_exact(2).map(|pair| match pair[0] {
-        digit @ b'0'..=b'9' => (u64::from(digit - b'0'), pair[1]),
+        digit @ b'0'..=b'3' => (u64::from(digit - b'0'), pair[1]),
         _ => (OTHER_BENCH, pair[1]),
     })
 }
