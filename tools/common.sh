@@ -37,10 +37,10 @@ build_harness() {
     cargo build --release --offline --quiet --manifest-path harness/Cargo.toml
 }
 
-# compile SOURCE ARCHIVE PROGRAM: a C client of a proved library.
+# compile SOURCES ARCHIVE PROGRAM: a C client of a proved library; the sources may be a pattern.
 compile() {
     mkdir -p "$(dirname "$3")"
-    gcc -std=c11 -O2 -Wall -Wextra -Werror -pedantic -Iinclude "$1" "${PROVED_LIBS:-target/staticlib}/lib$2.a" -o "$3"
+    gcc -std=c11 -O2 -Wall -Wextra -Werror -pedantic -Iinclude $1 "${PROVED_LIBS:-target/staticlib}/lib$2.a" -o "$3"
 }
 
 # The C client of the wall screen.
@@ -51,6 +51,11 @@ build_client() {
 # The program sheet_cif, the C client of the library sheet_file, in target/bin.
 build_sheet_cif() {
     build_archive export_sheet_file && compile client/sheet_cif.c export_sheet_file target/bin/sheet_cif
+}
+
+# The program camp, the C client of the library export_desk, in target/bin.
+build_camp() {
+    build_archive export_desk && compile 'client/camp/*.c' export_desk target/bin/camp
 }
 
 # The program desk, proved, in target/bin.
