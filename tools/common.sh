@@ -15,9 +15,12 @@ ensure_programs || exit 2
 archives=(export_wall test_probe test_probe_rows test_probe_keys test_play test_probe_file)
 export REQUIRE_LIBS="${archives[*]} desk sheet_cif"
 
-# stale ARCHIVE: it is missing, or crates.txt or some file under crates/ is newer.
+# stale FILE [SOURCE..]: it is missing, or some file of these sources is newer; without them, of crates/ or crates.txt.
 stale() {
-    [ ! -e "$1" ] || [ -n "$(find crates crates.txt -type f -newer "$1" -print -quit)" ]
+    local built=$1
+    shift
+    [ $# -gt 0 ] || set -- crates crates.txt
+    [ ! -e "$built" ] || [ -n "$(find "$@" -type f -newer "$built" -print -quit)" ]
 }
 
 # build_archive NAME: a proved static library, in target/staticlib, or that of the folder PROVED_LIBS as it is.
@@ -55,7 +58,8 @@ build_sheet_cif() {
 
 # The program camp, the C client of the library export_desk, in target/bin.
 build_camp() {
-    build_archive export_desk && compile 'client/camp/*.c' export_desk target/bin/camp
+    build_archive export_desk || return 1
+    ! stale target/bin/camp client/camp include "${PROVED_LIBS:-target/staticlib}/libexport_desk.a" || compile 'client/camp/*.c' export_desk target/bin/camp
 }
 
 # The program desk, proved, in target/bin.
