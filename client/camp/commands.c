@@ -4,7 +4,10 @@
 #include <string.h>
 
 #define COMMAND_LISTED(name, summary) {#name, summary, name##_usage, name##_run},
-const command commands[] = {COMMANDS(COMMAND_LISTED){NULL, NULL, NULL, NULL}};
+const command commands[] = {
+    COMMANDS(COMMAND_LISTED)
+    {NULL, NULL, NULL, NULL},
+};
 #undef COMMAND_LISTED
 
 const command *command_named(const char *name)

@@ -12,7 +12,7 @@
     COMMAND(help, "tell what a command does, with an example")               \
     COMMAND(refusals, "tell each key of a session that is refused, and why")
 
-/* NAME_usage is what 'camp help NAME' prints; NAME_run takes what follows the name, and returns the exit status. */
+/* NAME_usage is what 'camp help NAME' prints; NAME_run takes what follows, and returns the status. */
 #define COMMAND_DECLARED(name, summary) \
     extern const char name##_usage[];   \
     int name##_run(int count, char **arguments);

@@ -57,7 +57,8 @@ int misused(const char *command, const char *argument, const char *why)
         show_text(stderr, argument);
         fputs("' ", stderr);
     }
-    fprintf(stderr, "%s; see 'camp help%s%s'\n", why, command != NULL ? " " : "", command != NULL ? command : "");
+    fprintf(stderr, "%s; see 'camp help%s%s'\n", why, command != NULL ? " " : "",
+            command != NULL ? command : "");
     return STATUS_MISUSED;
 }
 

@@ -8,7 +8,10 @@
 #include <stddef.h>
 #include <stdio.h>
 
-/* Exit status: done, and nothing found; something found, refused, or not to be read or written; wrong use. */
+/*
+ * Exit status: done, and nothing found; something found or refused, or a file that cannot be read or
+ * written; wrong use.
+ */
 enum { STATUS_DONE = 0, STATUS_FOUND = 1, STATUS_MISUSED = 2 };
 
 /* Prints bytes in one line: those outside 32 to 126 as \xNN, two hexadecimal digits. */
