@@ -7,37 +7,6 @@ set -u
 need "$desk" "$sheet_cif"
 warnings=(-Wall -Wextra -Werror -pedantic)
 
-# same NAME EXPECTED ACTUAL: two files are equal, and not empty.
-same() {
-    local difference
-    if [ ! -s "$2" ]; then
-        fail "$1" "nothing to compare"
-    elif difference=$(diff -a "$2" "$3" 2>&1); then
-        ok "$1"
-    else
-        fail "$1" "$(head -n 4 <<<"$difference" | tr '\n' ' ')"
-    fi
-}
-
-# runs NAME STATUS EXPECTED-OUT EXPECTED-ERR COMMAND..: exit status and both outputs, to the byte.
-runs() {
-    local name=$1 status=$2
-    printf %s "$3" >"$work/want.out"
-    printf %s "$4" >"$work/want.err"
-    shift 4
-    "$@" >"$work/out" 2>"$work/err"
-    local got=$?
-    if [ $got -ne "$status" ]; then
-        fail "$name" "exit $got, not $status"
-    elif ! cmp -s "$work/want.out" "$work/out"; then
-        fail "$name" "standard output is '$(tr '\0\n' '  ' <"$work/out" | head -c 200)'"
-    elif ! cmp -s "$work/want.err" "$work/err"; then
-        fail "$name" "standard error is '$(head -c 200 "$work/err")'"
-    else
-        ok "$name"
-    fi
-}
-
 # compiles NAME COMMAND..: the compiler takes it without a word.
 compiles() {
     local name=$1 words
@@ -424,17 +393,6 @@ cif_refuses() {
         fail "$name" "standard error is '$(head -c 200 "$work/err")'"
     else
         ok "$name"
-    fi
-}
-
-# holds NAME FOLDER FILE CONTENT: the folder holds that file alone, with the content of another; without FILE it is empty.
-holds() {
-    if [ "$(ls -A "$2")" != "${3-}" ]; then
-        fail "$1" "the folder holds '$(ls -A "$2" | tr '\n' ' ')'"
-    elif [ $# -eq 2 ]; then
-        ok "$1"
-    else
-        same "$1" "$4" "$2/$3"
     fi
 }
 

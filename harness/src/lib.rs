@@ -60,6 +60,8 @@ const USAGE: &str = "usage: harness MODE
                                   what they must print for each, NAME.out and NAME.cif
   desk-runs PROGRAM SEED COUNT    run the program desk on generated inputs
   cif-runs PROGRAM SEED COUNT     run the program sheet_cif on generated inputs and block names
+  cif-runs PROGRAM COMMAND SEED COUNT
+                                  run that command of the program camp on them
   desk-input SEED                 write one such input
   frames FOLDER, frames SEED COUNT FOLDER, example-frames FOLDER
                                   write calls for a program that reads them, fixed ones, generated ones or
@@ -131,7 +133,11 @@ fn run(words: &[&str]) -> Outcome {
         }
         ["cif-runs", program, seed, count] => {
             let (seed, count) = (number(3, seed)?, number(4, count)?);
-            Ok(counted(desk_runs::run_cif(Path::new(program), seed, count)))
+            Ok(counted(desk_runs::run_cif(Path::new(program), None, seed, count)))
+        }
+        ["cif-runs", program, command, seed, count] => {
+            let (seed, count) = (number(4, seed)?, number(5, count)?);
+            Ok(counted(desk_runs::run_cif(Path::new(program), Some(command), seed, count)))
         }
         ["desk-input", seed] => {
             let input = Sequences::new(number(2, seed)?).desk_input();
