@@ -1,12 +1,14 @@
 # Sourced by the tools: finds the toolchain and builds what is missing or older than its sources.
+. "$(dirname "${BASH_SOURCE[0]}")/help.sh"
+tool=tools/$(basename "$0")
 cd "$(dirname "${BASH_SOURCE[0]}")/.." || exit 2
 PATH=$PATH:/opt/rattle/bin
 export CARGO_TARGET_DIR=$PWD/build/cargo
 
 # The C compiler is installed if it is missing; the toolchain and cargo have to be there.
 ensure_programs() {
-    command -v rt >/dev/null || { echo "the Rattle toolchain is not under /opt/rattle" >&2; return 1; }
-    command -v cargo >/dev/null || { echo "cargo is missing (README, \"Two commands\")" >&2; return 1; }
+    command -v rt >/dev/null || { echo "$tool: the Rattle toolchain is not under /opt/rattle" >&2; return 1; }
+    command -v cargo >/dev/null || { echo "$tool: cargo is missing (README.md, \"Two commands\")" >&2; return 1; }
     command -v gcc >/dev/null || { apt-get update && apt-get install -y gcc libc6-dev; } >&2
 }
 ensure_programs || exit 2
@@ -20,16 +22,78 @@ stale() {
     [ ! -e "$1" ] || [ -n "$(find crates crates.txt -type f -newer "$1" -print -quit)" ]
 }
 
-# build_archive NAME: a proved static library, in target/staticlib, or that of the folder PROVED_LIBS as it is.
+# with_used NAME..: these crates and all that they use, by crates.txt.
+with_used() {
+    awk -v wanted="$*" '
+    function visit(n,    k, m, a) {
+        if (!(n in uses) || n in seen) return
+        seen[n]
+        m = split(uses[n], a, " ")
+        for (k = 1; k <= m; k++) visit(a[k])
+        print n
+    }
+    { sub(/#.*/, "") }
+    split($0, part, ":") == 2 { gsub(/[ \t]/, "", part[1]); uses[part[1]] = part[2] }
+    END {
+        m = split(wanted, a, " ")
+        for (k = 1; k <= m; k++) visit(a[k])
+    }' crates.txt
+}
+
+# run_rt check NAME, run_rt staticlib NAME..: static libraries one by one, after a check of all that
+# they use, since a check takes as many crates at a time as there are processors.
+run_rt() {
+    local name used
+    [ "$1" = staticlib ] || { rt "$@"; return; }
+    shift
+    used=$(with_used "$@" | grep -vxF -f <(printf '%s\n' "$@"))
+    # shellcheck disable=SC2086
+    [ -z "$used" ] || rt check $used || return
+    for name in "$@"; do
+        rt staticlib "$name" || { echo "rt: $name NOT PROVED"; return 1; }
+    done
+}
+
+# count_proved TOTAL: reads what rt prints and tells on standard error how many crates are proved: on
+# a terminal in one line that is rewritten, otherwise at the start and at the end.
+count_proved() {
+    local line names=' ' number=0
+    if [ -t 2 ]; then printf '%s: 0 of %d crates proved' "$tool" "$1" >&2; else echo "$tool: proving $1 crates, which takes minutes the first time; build/prove.log has what the prover says" >&2; fi
+    while IFS= read -r line; do
+        [[ $line =~ ^'rt: '([a-z_0-9]+)' proved' || $line =~ ^'rt: target/staticlib/lib'([a-z_0-9]+)'.a has' ]] || continue
+        [[ $names != *" ${BASH_REMATCH[1]} "* ]] || continue
+        names+="${BASH_REMATCH[1]} "
+        number=$((number + 1))
+        [ ! -t 2 ] || printf '\r%s: %d of %d crates proved' "$tool" "$number" "$1" >&2
+    done
+    if [ -t 2 ]; then echo >&2; else echo "$tool: $number of $1 crates proved" >&2; fi
+}
+
+# prove check NAME, prove staticlib NAME..: runs rt, and tells how far it is. All that rt prints goes to
+# build/prove.log, which an error names.
+prove() {
+    local status name
+    mkdir -p build
+    run_rt "$@" 2>&1 | tee build/prove.log | count_proved "$(with_used "${@:2}" | wc -l)"
+    status=${PIPESTATUS[0]}
+    [ "$status" -ne 0 ] || return 0
+    name=$(sed -n '/^rt: [a-z_0-9]* \(NOT PROVED\|proved, and its run FAILED\)/{s/^rt: \([a-z_0-9]*\).*/\1/p;q;}' build/prove.log)
+    echo "$tool: ${name:-$2} was not proved; see build/prove.log" >&2
+    return 1
+}
+
+# build_archive NAME..: proved static libraries, in target/staticlib, or those of the folder PROVED_LIBS as they are.
 build_archive() {
-    [ -n "${PROVED_LIBS-}" ] || ! stale "target/staticlib/lib$1.a" || rt staticlib "$1"
+    local name old=()
+    [ -z "${PROVED_LIBS-}" ] || return 0
+    for name in "$@"; do
+        ! stale "target/staticlib/lib$name.a" || old+=("$name")
+    done
+    [ ${#old[@]} -eq 0 ] || prove staticlib "${old[@]}"
 }
 
 build_archives() {
-    local name
-    for name in "${archives[@]}"; do
-        build_archive "$name" || return 1
-    done
+    build_archive "${archives[@]}"
 }
 
 # The comparison program.
@@ -43,7 +107,7 @@ compile() {
     gcc -std=c11 -O2 -Wall -Wextra -Werror -pedantic -Iinclude "$1" "${PROVED_LIBS:-target/staticlib}/lib$2.a" -o "$3"
 }
 
-# The C client of the wall screen.
+# The C client of the wall screen, of a library that is there.
 build_client() {
     compile client/wall_screen.c export_wall build/wall_screen
 }
@@ -53,9 +117,18 @@ build_sheet_cif() {
     build_archive export_sheet_file && compile client/sheet_cif.c export_sheet_file target/bin/sheet_cif
 }
 
-# The program desk, proved, in target/bin.
+# The program desk, proved, in target/bin. One that is unchanged is not built again, so its time is set.
 build_desk() {
-    if stale target/bin/desk; then rt check desk || return 1; fi
+    ! stale target/bin/desk || { prove check desk && touch -c target/bin/desk; }
+}
+
+# build STEP..: what a tool needs, by these functions; they print to standard error and read nothing.
+build() {
+    local step
+    for step in "$@"; do
+        # shellcheck disable=SC2086
+        $step >&2 </dev/null || return 1
+    done
 }
 
 # from FOLDER NAME: standard input is from now on the file that a person named from that folder; - leaves it as it is. Fails where the file cannot be read.

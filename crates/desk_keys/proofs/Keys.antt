@@ -15,9 +15,9 @@ use Rattle.text_copies.specs.Copy.{copied}
 use Rattle.text.proofs.Bools.{and-both}
 use Rattle.text_copies.proofs.Copies.{copied-fits}
 use Rattle.line_items.specs.Typed.{lineMost}
-use Rattle.desk_log.specs.Record.{recordLength, recordMost, recordOf, hasRoom, writtenOf, freeAfter}
+use Rattle.desk_log.specs.Record.{recordLength, recordMost, recordOf, withRecord, hasRoom, writtenOf, freeAfter}
 use Rattle.desk_log.specs.declared.Written.the-variants.{Bytes, NoRoom}
-use Rattle.desk_log.proofs.Records.{tail-back, tail-lent, wrote-none, wrote-bytes, room-left}
+use Rattle.desk_log.proofs.Records.{free-written, tail-back, tail-lent, wrote-none, wrote-bytes, room-left}
 use Rattle.desk_state.specs.Lines.{padded}
 use Rattle.desk_state.specs.Desks.{benchCount, noLine, lineAt}
 use Rattle.desk_soundness.specs.Sound.{soundLine, soundLines, soundDesk}
@@ -63,14 +63,15 @@ module _ (d : Desk) (used : ℕ) (log : List ℕ) (bench item : ℕ) (v last : L
   -- it had room: the record stands at the first unused byte
   pub stored-some : (n : ℕ) (next : Desk) → next ≡ entered d bench item v → writtenOf (midOf used (length log - used) log) v ≡ Bytes n
       → _≡_ {A = After} (record { answer = 0; desk = next; used = used + n; log = putMid used (length log - used) log last }) (stored d used log bench item v)
-  unfolding stored freeAfter
+  unfolding stored
   stored-some n next e w =
       let k = wrote-bytes (midOf used (length log - used) log) v n w in
       let yes = k .0 in
-      let bytes : putMid used (length log - used) log last ≡ take used log ++ (recordOf bench item v ++ drop (used + recordLength v) log)
+      let bytes : putMid used (length log - used) log last ≡ withRecord used log bench item v
       = tail-back used log last
       ∙ ap (λ (f : List ℕ). take used log ++ f)
-      (back ∙ simp yes (ap (λ (f : List ℕ). recordOf bench item v ++ drop (recordLength v) f) (tail-lent used log) ∙ ap (λ (f : List ℕ). recordOf bench item v ++ f) (drop-drop (recordLength v) used log))) in
+      (back ∙ free-written (midOf used (length log - used) log) bench item v yes
+      ∙ ap (λ (f : List ℕ). recordOf bench item v ++ drop (recordLength v) f) (tail-lent used log) ∙ ap (λ (f : List ℕ). recordOf bench item v ++ f) (drop-drop (recordLength v) used log)) in
       let l = k .1 in
       simp (room true yes) (cc)
 

@@ -2,14 +2,14 @@
 -- Assumes nothing.
 use Prim.Native.Nat.{ℕ, _+_, _-_}
 use mathlib.Core.Bool.{cond, _&&_}
-use mathlib.Core.List.{List, _++_}
-use lib.Dec.{ltb, leb, eqb}
-use lib.ListN.{length, take, drop, set}
+use mathlib.Core.List.{List}
+use lib.Dec.{ltb, eqb}
+use lib.ListN.{length, drop, set}
 use Rattle.line_items.specs.Typed.{lineMost, isTyped}
 use Rattle.line_reader.specs.Line.{classOf}
 use Rattle.line_reader.specs.declared.line.Class.{Class}
 use Rattle.line_reader.specs.declared.line.Class.the-variants as class
-use Rattle.desk_log.specs.Record.{recordLength, recordOf}
+use Rattle.desk_log.specs.Record.{recordLength, recordFits, withRecord}
 use Rattle.desk_state.specs.Lines.{typed, emptyLine, appended, erased}
 use Rattle.desk_state.specs.Sheets.{filled}
 use Rattle.desk_state.specs.Desks.{benchCount, lineAt, withLine}
@@ -51,12 +51,12 @@ entered d bench item v = record { lines = set (d .lines) bench emptyLine; sheet 
 -- "Each accepted entry adds one record at the first unused byte"; 8 when "the record is longer than the unused part of the log"
 unfoldable pub stored : Desk → ℕ → List ℕ → ℕ → ℕ → List ℕ → After
 stored d used log bench item v =
-    cond (leb (recordLength v) (length log - used))
+    cond (recordFits (length log - used) v)
     (record {
       answer = 0;
       desk = entered d bench item v;
       used = used + recordLength v;
-      log = take used log ++ (recordOf bench item v ++ drop (used + recordLength v) log);
+      log = withRecord used log bench item v;
     })
     (refused 8 d used log)
 

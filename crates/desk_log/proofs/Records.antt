@@ -1,9 +1,10 @@
 -- Laws of records: the head and then the value, the length, and a tail of the log that was lent and came back.
 -- Assumes nothing.
-use mathlib.Core.Path.{_≡_, _∙_}
+use mathlib.Core.Path.{_≡_, _∙_, ap}
 use mathlib.Core.Bool.{true, false, and-true, and-false}
 use mathlib.Core.List.{List, [], _++_, append-nil}
 use Prim.Native.Nat.{ℕ, _+_, _-_, _≤_, _<_}
+use native.Mathlib.Nat.{zero-add}
 use native.Mathlib.Omega.{arith}
 use borrow.Author.Tests.{le-leb, lt-leb}
 use lib.Dec.{leb}
@@ -13,7 +14,7 @@ use lib.Seq.{take-all, drop-append-add, drop-drop}
 use Rattle.text_copies.specs.Copy.{copied}
 use Rattle.text.proofs.Bools.{not-holds, cond-first}
 use Rattle.text_copies.proofs.Copies.{copied-fits}
-use Rattle.desk_log.specs.Record.{headLength, recordLength, recordMost, headOf, recordOf, hasRoom, writtenOf}
+use Rattle.desk_log.specs.Record.{headLength, recordLength, recordMost, headOf, recordOf, hasRoom, writtenOf, freeAfter}
 use Rattle.desk_log.specs.declared.Written.the-variants.{Bytes, NoRoom}
 
 pub record-length : (bench item : ℕ) (v : List ℕ) → length (recordOf bench item v) ≡ recordLength v
@@ -26,6 +27,12 @@ record-written bench item v f h =
     let head = headOf (length v) bench item in
     let l : headLength + length v ≤ length (head ++ drop headLength f) = simp length-drop (omega arith) in
     copied-fits (head ++ drop headLength f) headLength v l ∙ rw (drop-append-add head (drop headLength f) (length v), drop-drop)
+
+-- with room, the record stands before the rest of the free part
+pub free-written : (free : List ℕ) (bench item : ℕ) (v : List ℕ) → hasRoom free v ≡ true
+    → freeAfter free bench item v ≡ recordOf bench item v ++ drop (recordLength v) free
+unfolding freeAfter
+free-written free bench item v h = simp h (ap (λ (n : ℕ). recordOf bench item v ++ drop n free) (zero-add (recordLength v)))
 
 pub has-room : (free v : List ℕ) → recordLength v ≤ length free → recordLength v ≤ recordMost → hasRoom free v ≡ true
 unfolding hasRoom

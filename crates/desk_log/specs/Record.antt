@@ -4,7 +4,7 @@ use Prim.Native.Nat.{ℕ, _+_}
 use mathlib.Core.Bool.{Bool, cond, _&&_}
 use mathlib.Core.List.{List, [], _∷_, _++_}
 use lib.Dec.{leb}
-use lib.ListN.{length, drop}
+use lib.ListN.{length, take, drop}
 use Rattle.text.specs.Little.{little}
 use Rattle.desk_log.specs.declared.Written.{Written}
 use Rattle.desk_log.specs.declared.Written.the-variants.{Bytes, NoRoom}
@@ -29,14 +29,22 @@ headOf n bench item = little 2 (headLength + n) ++ (little 2 1 ++ (bench ∷ ite
 abbrev pub recordOf : ℕ → ℕ → List ℕ → List ℕ
 recordOf bench item value = headOf (length value) bench item ++ value
 
--- the record is not longer than the free part, nor than the longest
+-- the record is not "longer than the unused part of the log", of so many bytes
+abbrev pub recordFits : ℕ → List ℕ → Bool
+recordFits unused value = leb (recordLength value) unused
+
+-- the record at the byte `used`, "the first unused byte" of a log; "all other bytes stay"
+abbrev pub withRecord : ℕ → List ℕ → ℕ → ℕ → List ℕ → List ℕ
+withRecord used log bench item value = take used log ++ (recordOf bench item value ++ drop (used + recordLength value) log)
+
+-- what the writer can write in the free part: a record that fits it and is not longer than the longest
 unfoldable pub hasRoom : List ℕ → List ℕ → Bool
-hasRoom free value = leb (recordLength value) (length free) && leb (recordLength value) recordMost
+hasRoom free value = recordFits (length free) value && leb (recordLength value) recordMost
 
 -- what the writer answers: how many bytes it wrote, or that it had no room
 unfoldable pub writtenOf : List ℕ → List ℕ → Written
 writtenOf free value = cond (hasRoom free value) (Bytes (recordLength value)) NoRoom
 
--- the free part with the record at its first byte; "all other bytes stay"
+-- the free part with the record at its first byte
 unfoldable pub freeAfter : List ℕ → ℕ → ℕ → List ℕ → List ℕ
-freeAfter free bench item value = cond (hasRoom free value) (recordOf bench item value ++ drop (recordLength value) free) free
+freeAfter free bench item value = cond (hasRoom free value) (withRecord 0 free bench item value) free

@@ -1,3 +1,5 @@
 pub mod Everys
+pub mod Wording
+pub mod LogWording
 pub mod Turns
 pub mod Memories

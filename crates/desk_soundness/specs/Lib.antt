@@ -1,3 +1,4 @@
 pub mod Sound
 pub mod SoundLog
 pub mod SoundMemory
+pub mod Wording

@@ -5,7 +5,7 @@ use mathlib.Core.Bool.{Bool, _&&_}
 use lib.Dec.{leb}
 use Rattle.desk_state.specs.declared.desk.Desk.{Desk}
 
--- "The log: .. at most 65,536"
+-- "A log: .. at most 65,536"
 abbrev pub logMost : ℕ
 logMost = 65536
 

@@ -1,6 +1,6 @@
 // A session's sheet as a CIF file, for C: include/sheet_file.h declares it.
 ghost use mathlib.Core.Path.{_≡_};
-ghost use Rattle.export_sheet_file.specs.Told.{told, filedOf};
+ghost use Rattle.export_sheet_file.specs.SheetFiling.{sheetFiling, filedOf};
 
 // How many bytes were written, and the number of the answer.
 #[repr(C)]
@@ -17,7 +17,7 @@ pub extern "C" fn sheet_file(
     name: &[u8],
     out: &mut [u8],
 ) -> SheetFiled
-    ensures { λ r. ⌜ told r (now (log .exit)) (now (out .exit)) ≡ filedOf (now (input .entry)) (now (log .entry)) (now (name .entry)) (now (out .entry)) ⌝ }
+    ensures { λ r. ⌜ sheetFiling r (now (log .exit)) (now (out .exit)) ≡ filedOf (now (input .entry)) (now (log .entry)) (now (name .entry)) (now (out .entry)) ⌝ }
 {
     let fresh = desk_state::desk::fresh_desk();
     let played = desk_session::play::play_pairs(fresh, 0, log, input);

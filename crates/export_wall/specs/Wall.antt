@@ -12,9 +12,9 @@ abbrev pub lineNumber : List ℕ → ℕ
 lineNumber t = classNumber (classOf t)
 
 -- the number and the level of a graded value
-abbrev pub told : Graded → WallGraded
-told g = record { answer = gradedNumber g; level = gradedLevel g }
+abbrev pub wallAnswer : Graded → WallGraded
+wallAnswer g = record { answer = gradedNumber g; level = gradedLevel g }
 
 -- "for row 6, 8 or 10 and one typed value, the answer 0 with the level it earns, or 6 .., then 7 .., both with level 0"
 abbrev pub wallGrade : ℕ → List ℕ → WallGraded
-wallGrade row t = told (gradedOf row t)
+wallGrade row t = wallAnswer (gradedOf row t)

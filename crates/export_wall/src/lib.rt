@@ -1,6 +1,6 @@
 // The wall screen's two questions, for a program in C: include/wall.h declares them.
 ghost use mathlib.Core.Path.{_≡_};
-ghost use Rattle.export_wall.specs.Wall.{lineNumber, told, wallGrade};
+ghost use Rattle.export_wall.specs.Wall.{lineNumber, wallAnswer, wallGrade};
 use rows_levels::Graded;
 
 // The answer's number, and the level that goes with it.
@@ -19,7 +19,7 @@ pub extern "C" fn wall_classify(line: &[u8]) -> u8
 }
 
 fn tell(g: Graded) -> WallGraded
-    ensures { λ r. ⌜ r ≡ told g ⌝ }
+    ensures { λ r. ⌜ r ≡ wallAnswer g ⌝ }
 {
     match g {
         Graded::Level(level) => WallGraded { answer: 0, level },

@@ -12,34 +12,34 @@ use Rattle.desk_soundness.specs.Sound.{soundDesk}
 use Rattle.desk_state.specs.declared.desk.Desk.{Desk}
 use Rattle.file_block_name.specs.Block.{isBlockName}
 use Rattle.file_cif.specs.File.{fileOf}
-use Rattle.file_cif.specs.Answers.{after, refused, fileStep}
+use Rattle.file_cif.specs.Answers.{filingOf, noFile, fileStep}
 use Rattle.file_answers.specs.Number.{fileNumber}
 use Rattle.file_answers.specs.declared.FileAnswer.{FileAnswer}
 use Rattle.file_answers.specs.declared.FileAnswer.the-variants.{Written, Unsound, BadBlockName, NoRoom}
 use Rattle.file_cif.specs.declared.file.Filed.{Filed}
 
 -- a refusal's result
-refused-is : (r : Filed) (a : FileAnswer) (out : List ℕ) → (r .answer ≡ a) × (r .count ≡ 0) → after r out ≡ refused (fileNumber a) out
-refused-is r a out e =
+no-file : (r : Filed) (a : FileAnswer) (out : List ℕ) → (r .answer ≡ a) × (r .count ≡ 0) → filingOf r out ≡ noFile (fileNumber a) out
+no-file r a out e =
     ap (λ (x : FileAnswer). record { answer = fileNumber x; count = r .count; out = out }) (e .0) ∙ ap (λ (n : ℕ). record { answer = fileNumber a; count = n; out = out }) (e .1)
 
 module _ (d : Desk) (name out : List ℕ) (r : Filed) where
-  pub step-unsound : soundDesk d ≡ false → (r .answer ≡ Unsound) × (r .count ≡ 0) → after r out ≡ fileStep d name out
+  pub step-unsound : soundDesk d ≡ false → (r .answer ≡ Unsound) × (r .count ≡ 0) → filingOf r out ≡ fileStep d name out
   unfolding fileStep
-  step-unsound s e = refused-is r Unsound out e ∙ simp s
+  step-unsound s e = no-file r Unsound out e ∙ simp s
 
   module _ (s : soundDesk d ≡ true) where
-    pub step-bad-name : isBlockName name ≡ false → (r .answer ≡ BadBlockName) × (r .count ≡ 0) → after r out ≡ fileStep d name out
+    pub step-bad-name : isBlockName name ≡ false → (r .answer ≡ BadBlockName) × (r .count ≡ 0) → filingOf r out ≡ fileStep d name out
     unfolding fileStep
-    step-bad-name b e = refused-is r BadBlockName out e ∙ simp (s, b)
+    step-bad-name b e = no-file r BadBlockName out e ∙ simp (s, b)
 
     module _ (b : isBlockName name ≡ true) where
-      pub step-no-room : length out < length (fileOf name (d .sheet)) → (r .answer ≡ NoRoom) × (r .count ≡ 0) → after r out ≡ fileStep d name out
+      pub step-no-room : length out < length (fileOf name (d .sheet)) → (r .answer ≡ NoRoom) × (r .count ≡ 0) → filingOf r out ≡ fileStep d name out
       unfolding fileStep
-      step-no-room h e = refused-is r NoRoom out e ∙ simp (s, b, lt-leb (length (fileOf name (d .sheet))) (length out) h)
+      step-no-room h e = no-file r NoRoom out e ∙ simp (s, b, lt-leb (length (fileOf name (d .sheet))) (length out) h)
 
       pub step-written : {last : List ℕ} → length (fileOf name (d .sheet)) ≤ length out → last ≡ copied out 0 (fileOf name (d .sheet)) → r .answer ≡ Written
-          → r .count ≡ length (fileOf name (d .sheet)) → after r last ≡ fileStep d name out
+          → r .count ≡ length (fileOf name (d .sheet)) → filingOf r last ≡ fileStep d name out
       unfolding fileStep
       step-written {last} h e a n =
           let file = fileOf name (d .sheet) in

@@ -13,28 +13,28 @@ use Rattle.file_answers.specs.Number.{fileNumber}
 use Rattle.file_cif.specs.declared.file.Filed.{Filed}
 
 -- everything that writing leaves: the answer's number, "how many bytes it wrote", and the whole of the lent bytes
-pub record After : Type 0 where
+pub record Filing : Type 0 where
   pub answer : ℕ
   pub count : ℕ
   pub out : List ℕ
 
 -- the function's result and what the lent bytes then hold
-abbrev pub after : Filed → List ℕ → After
-after r out = record { answer = fileNumber (r .answer); count = r .count; out = out }
+abbrev pub filingOf : Filed → List ℕ → Filing
+filingOf r out = record { answer = fileNumber (r .answer); count = r .count; out = out }
 
 -- "with a refusal, 0 and none at all"
-abbrev pub refused : ℕ → List ℕ → After
-refused a out = record { answer = a; count = 0; out = out }
+abbrev pub noFile : ℕ → List ℕ → Filing
+noFile a out = record { answer = a; count = 0; out = out }
 
 -- "It says how many bytes it wrote and touches none after them"
-abbrev pub written : List ℕ → List ℕ → After
-written file out = record { answer = 0; count = length file; out = file ++ drop (length file) out }
+abbrev pub wholeFile : List ℕ → List ℕ → Filing
+wholeFile file out = record { answer = 0; count = length file; out = file ++ drop (length file) out }
 
 -- the file in the lent bytes; no room "exactly when the whole file is longer than the lent bytes"
-abbrev pub writtenIn : List ℕ → List ℕ → After
-writtenIn file out = cond (leb (length file) (length out)) (written file out) (refused 10 out)
+abbrev pub fileWithin : List ℕ → List ℕ → Filing
+fileWithin file out = cond (leb (length file) (length out)) (wholeFile file out) (noFile 10 out)
 
 -- "Refusal numbers .. each given exactly when its condition is the first that applies"
-unfoldable pub fileStep : Desk → List ℕ → List ℕ → After
+unfoldable pub fileStep : Desk → List ℕ → List ℕ → Filing
 fileStep d name out =
-    cond (soundDesk d) (cond (isBlockName name) (writtenIn (fileOf name (d .sheet)) out) (refused 11 out)) (refused 2 out)
+    cond (soundDesk d) (cond (isBlockName name) (fileWithin (fileOf name (d .sheet)) out) (noFile 11 out)) (noFile 2 out)

@@ -28,6 +28,6 @@ itemLineMost = nameMost + 1 + lineMost + 1
 unfoldable pub itemLine : ℕ → Item → List ℕ
 itemLine k i = cond (eqb (i .len) 0) [] (ended (itemText k (valueIn i)))
 
--- "a line data_ with a block name, then each filled item in item order"
+-- "a line data_ with a block name .., then each filled item in item order"
 unfoldable pub fileOf : List ℕ → Sheet → List ℕ
 fileOf name s = ended (bytes "data_" ++ name) ++ linesFrom itemLine 1 (s .items)

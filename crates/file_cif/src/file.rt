@@ -7,14 +7,14 @@ ghost use Rattle.text_copies.specs.Each.{linesFrom};
 ghost use Rattle.line_items.specs.Items.{itemCount};
 ghost use Rattle.desk_state.specs.Sheets.{valueIn};
 ghost use Rattle.file_cif.specs.File.{ended, itemText, itemLine, fileOf};
-ghost use Rattle.file_cif.specs.Answers.{after, fileStep};
+ghost use Rattle.file_cif.specs.Answers.{filingOf, fileStep};
 use crate::length::lines_length;
-use file_answers::FileAnswer;
-use line_items::ITEM_COUNT;
 use desk_state::desk::Desk;
 use desk_state::sheet::Item;
 use desk_state::sheet::Sheet;
 use desk_state::sheet::value_length;
+use file_answers::FileAnswer;
+use line_items::ITEM_COUNT;
 
 // The answer, and how many bytes were written.
 pub struct Filed {
@@ -90,7 +90,7 @@ fn put_file(out: &mut [u8], name: &[u8], sheet: Sheet)
 
 // Writes the sheet of a desk as a CIF file at the start of out and says how many bytes it is; with a refusal, nothing.
 pub fn write_file(d: Desk, name: &[u8], out: &mut [u8]) -> Filed
-    ensures { λ r. ⌜ after r (now (out .exit)) ≡ fileStep d (now (name .entry)) (now (out .entry)) ⌝ }
+    ensures { λ r. ⌜ filingOf r (now (out .exit)) ≡ fileStep d (now (name .entry)) (now (out .entry)) ⌝ }
 {
     if !desk_soundness::by_value::is_sound(d) {
         return refuse(FileAnswer::Unsound);

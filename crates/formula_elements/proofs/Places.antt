@@ -11,7 +11,7 @@ use lib.Dec.{eqb}
 use lib.ListN.{length, getD, drop, length-drop}
 use lib.Seq.{drop-cons}
 use Rattle.text.proofs.Bools.{and-both}
-use Rattle.formula_elements.specs.Elements.{sameSymbol, after, placeOf}
+use Rattle.formula_elements.specs.Elements.{sameSymbol, nextPlace, placeOf}
 use Rattle.formula_elements.specs.declared.Place.{Place}
 use Rattle.formula_elements.specs.declared.Place.the-variants.{At, Nowhere}
 
@@ -24,7 +24,7 @@ beyond-zero : (p : Place) → p ≡ beyond 0 p
 beyond-zero (At n) = let e : n ≡ 0 + n = omega arith in ap At e
 beyond-zero Nowhere = refl
 
-beyond-after : (k : ℕ) (p : Place) → beyond k (after p) ≡ beyond (k + 1) p
+beyond-after : (k : ℕ) (p : Place) → beyond k (nextPlace p) ≡ beyond (k + 1) p
 beyond-after k (At n) = let e : k + suc n ≡ k + 1 + n = omega arith in ap At e
 beyond-after k Nowhere = refl
 
@@ -45,7 +45,7 @@ module _ (table : List ℕ) (a b : ℕ) where
 
   module _ {k : ℕ} (h : Searched table a b k) where
     at : 2 * k + 1 < length table → (t : Bool) → sameSymbol (getD table (2 * k) 0) (getD table (2 * k + 1) 0) a b ≡ t
-        → placeOf table a b ≡ beyond k (cond t (At 0) (after (placeOf (drop (2 * (k + 1)) table) a b)))
+        → placeOf table a b ≡ beyond k (cond t (At 0) (nextPlace (placeOf (drop (2 * (k + 1)) table) a b)))
     unfolding placeOf
     at l t e =
         let e₁ : 2 * k + 1 ≡ suc (2 * k) = omega arith in
@@ -53,7 +53,7 @@ module _ (table : List ℕ) (a b : ℕ) where
         let l₁ : 2 * k < length table = omega arith in
         let l₂ : suc (2 * k) < length table = omega arith in
         let e₃ = rw e₁ at e in
-        let here : placeOf (drop (2 * k) table) a b ≡ cond t (At 0) (after (placeOf (drop (2 * (k + 1)) table) a b)) =
+        let here : placeOf (drop (2 * k) table) a b ≡ cond t (At 0) (nextPlace (placeOf (drop (2 * (k + 1)) table) a b)) =
         rw (e₂, drop-cons table (2 * k) 0 l₁, drop-cons table (suc (2 * k)) 0 l₂, e₃) in
         h .rest ∙ ap (beyond k) here
 
@@ -69,13 +69,13 @@ module _ (table : List ℕ) (a b : ℕ) where
         h .rest ∙ ap (beyond k) (short (drop (2 * k) table) a b e)
 
 -- what was found stands in the table
-after-at : (p : Place) (k : ℕ) → after p ≡ At k → (k ≡ 0 → ⊥) × ((j : ℕ) → k ≡ suc j → p ≡ At j)
+after-at : (p : Place) (k : ℕ) → nextPlace p ≡ At k → (k ≡ 0 → ⊥) × ((j : ℕ) → k ≡ suc j → p ≡ At j)
 after-at (At n) k e =
     let e₁ : suc n ≡ k = cc in
     ((λ z. omega arith), (λ j q. let e₂ : n ≡ j = omega arith in ap At e₂))
 after-at Nowhere k e = let z : _≡_ {A = ℕ} 0 1 = cc in absurd (omega arith)
 
-within-by : (t : Bool) (p : Place) (m k : ℕ) → ((j : ℕ) → p ≡ At j → 2 * j + 1 < m) → cond t (At 0) (after p) ≡ At k → 2 * k + 1 < suc (suc m)
+within-by : (t : Bool) (p : Place) (m k : ℕ) → ((j : ℕ) → p ≡ At j → 2 * j + 1 < m) → cond t (At 0) (nextPlace p) ≡ At k → 2 * k + 1 < suc (suc m)
 within-by true p m k ih e = let e₁ : 0 ≡ k = cc in omega arith
 within-by false p m zero ih e = absurd (after-at p zero e .0 refl)
 within-by false p m (suc j) ih e = let h = ih j (after-at p (suc j) e .1 j refl) in omega arith
@@ -89,7 +89,7 @@ place-within (x ∷ (y ∷ table)) a b k e = within-by (sameSymbol x y a b) (pla
 -- the symbol found is the one asked for
 here-by : (x y a b : ℕ) (table : List ℕ) (p : Place) (t : Bool) → sameSymbol x y a b ≡ t
     → ((j : ℕ) → p ≡ At j → (getD table (2 * j) 0 ≡ a) × (getD table (2 * j + 1) 0 ≡ b))
-    → (k : ℕ) → cond t (At 0) (after p) ≡ At k → (getD (x ∷ (y ∷ table)) (2 * k) 0 ≡ a) × (getD (x ∷ (y ∷ table)) (2 * k + 1) 0 ≡ b)
+    → (k : ℕ) → cond t (At 0) (nextPlace p) ≡ At k → (getD (x ∷ (y ∷ table)) (2 * k) 0 ≡ a) × (getD (x ∷ (y ∷ table)) (2 * k + 1) 0 ≡ b)
 unfolding sameSymbol
 here-by x y a b table p true e ih zero q = let h = and-both (eqb x a) (eqb y b) e in (eqb-true _ _ (h .0), eqb-true _ _ (h .1))
 here-by x y a b table p true e ih (suc k) q = let z : 0 ≡ suc k = cc in absurd (omega arith)

@@ -8,7 +8,7 @@ use borrow.Author.Tests.{leb-true, eqb-true}
 use lib.Dec.{leb, eqb}
 use lib.ListN.{getD}
 use Rattle.text.proofs.Bools.{and-both}
-use Rattle.formula_elements.specs.Elements.{sameSymbol, after, placeOf, symbols, elementOf, isElement, WeightRow, weights, weightIn, weightOf, heaviest}
+use Rattle.formula_elements.specs.Elements.{sameSymbol, nextPlace, placeOf, symbols, elementOf, isElement, WeightRow, weights, weightIn, weightOf, heaviest}
 use Rattle.formula_elements.specs.declared.Place.{Place}
 use Rattle.formula_elements.specs.declared.Place.the-variants.{At, Nowhere}
 use Rattle.formula_elements.specs.declared.Weight.{Weight}
@@ -29,11 +29,11 @@ abbrev pub weightAt : List ℕ → Place → Weight
 weightAt vs (At k) = Thousandths (getD vs k 0)
 weightAt vs Nowhere = NoWeight
 
-weight-after : (v : ℕ) (vs : List ℕ) (p : Place) → weightAt vs p ≡ weightAt (v ∷ vs) (after p)
+weight-after : (v : ℕ) (vs : List ℕ) (p : Place) → weightAt vs p ≡ weightAt (v ∷ vs) (nextPlace p)
 weight-after v vs (At k) = refl
 weight-after v vs Nowhere = refl
 
-found-by : (v : ℕ) (vs : List ℕ) (p : Place) (u : Weight) (t : Bool) → u ≡ weightAt vs p → cond t (Thousandths v) u ≡ weightAt (v ∷ vs) (cond t (At 0) (after p))
+found-by : (v : ℕ) (vs : List ℕ) (p : Place) (u : Weight) (t : Bool) → u ≡ weightAt vs p → cond t (Thousandths v) u ≡ weightAt (v ∷ vs) (cond t (At 0) (nextPlace p))
 found-by v vs p u true e = refl
 found-by v vs p u false e = e ∙ weight-after v vs p
 

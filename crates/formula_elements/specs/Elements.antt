@@ -17,15 +17,15 @@ unfoldable pub sameSymbol : ℕ → ℕ → ℕ → ℕ → Bool
 sameSymbol x y a b = eqb x a && eqb y b
 
 -- a place counted from the symbol before
-abbrev pub after : Place → Place
-after (At k) = At (suc k)
-after Nowhere = Nowhere
+abbrev pub nextPlace : Place → Place
+nextPlace (At k) = At (suc k)
+nextPlace Nowhere = Nowhere
 
 -- where a table of symbols, two bytes each, first has the symbol a b, counted from 0
 unfoldable pub placeOf : List ℕ → ℕ → ℕ → Place
 placeOf [] a b = Nowhere
 placeOf (x ∷ []) a b = Nowhere
-placeOf (x ∷ (y ∷ table)) a b = cond (sameSymbol x y a b) (At 0) (after (placeOf table a b))
+placeOf (x ∷ (y ∷ table)) a b = cond (sameSymbol x y a b) (At 0) (nextPlace (placeOf table a b))
 
 -- a table has a symbol
 abbrev pub isSomewhere : Place → Bool

@@ -1,2 +1,3 @@
 pub mod KindTable
 pub mod Passes
+pub mod Wording

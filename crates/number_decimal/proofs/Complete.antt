@@ -45,17 +45,17 @@ no-point ds (UncertaintyText.bracket u a some few) h =
     omega (arith, has-byte (ds ++ r) (length ds) 46 h, getD-append-seam ds 40 (u ++ (41 ∷ [])) 0)
 
 -- the reading by stages finds the grammar's parts
-parts-found : (before : List ℕ) {after pointed tail : List ℕ} → all isDigit before ≡ true → all isDigit after ≡ true → PointText pointed after → UncertaintyText tail
-    → unsignedOf (before ++ (pointed ++ tail)) ≡ sizeOf before after tail
+parts-found : (before : List ℕ) {fraction pointed tail : List ℕ} → all isDigit before ≡ true → all isDigit fraction ≡ true → PointText pointed fraction → UncertaintyText tail
+    → unsignedOf (before ++ (pointed ++ tail)) ≡ sizeOf before fraction tail
 unfolding unsignedOf pointedOf between
 parts-found before {tail = t} b a PointText.whole u =
     let n = run-append isDigit before t b (digits-end u) in
     simp (n, not-holds (hasAt (before ++ t) (length before) 46) (no-point before u), take-append-seam, drop-append-seam)
-parts-found before {tail = t} b a (PointText.point after one) u =
-    let r : List ℕ = 46 ∷ (after ++ t) in
-    let n = run-append isDigit before r b (run-none isDigit 46 (after ++ t) refl) in
-    let here = has-here (before ++ r) (length before) 46 (omega (arith, length-append before r)) (getD-append-seam before 46 (after ++ t) 0) in
-    simp (n, here, take-append-seam, drop-append-add before r 1, run-append isDigit after t a (digits-end u), le-leb _ _ one, drop-append-seam)
+parts-found before {tail = t} b a (PointText.point fraction one) u =
+    let r : List ℕ = 46 ∷ (fraction ++ t) in
+    let n = run-append isDigit before r b (run-none isDigit 46 (fraction ++ t) refl) in
+    let here = has-here (before ++ r) (length before) 46 (omega (arith, length-append before r)) (getD-append-seam before 46 (fraction ++ t) 0) in
+    simp (n, here, take-append-seam, drop-append-add before r 1, run-append isDigit fraction t a (digits-end u), le-leb _ _ one, drop-append-seam)
 
 digit-first : (ds r : List ℕ) (b : ℕ) → all isDigit ds ≡ true → 1 ≤ length ds → b < 48 → hasAt (ds ++ r) 0 b ≡ true → ⊥
 digit-first [] r b a some l e = not-suc-le-zero some
@@ -66,7 +66,7 @@ module _ {t : List ℕ} {m : ℕ} (h : IsSize t m) where
   unfolding sizeOf
   size-taken =
       rw (h .text, h .worth)
-      (parts-found (h .before) (h .before-digits) (h .after-digits) (h .is-point) (h .is-uncertainty)
+      (parts-found (h .before) (h .before-digits) (h .fraction-digits) (h .is-point) (h .is-uncertainty)
       ∙ simp (le-leb _ _ (h .some), le-leb _ _ (h .places), le-leb _ _ (h .few), uncertainty-taken (h .is-uncertainty)))
 
   -- a byte below the digits, as a sign is, does not begin a size

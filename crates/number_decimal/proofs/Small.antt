@@ -33,9 +33,9 @@ value-below acc (d ∷ ds) a =
 
 pub size-small : {t : List ℕ} {m : ℕ} → IsSize t m → m < 10 ^ 15
 size-small h =
-    let k = length (h .after) in
+    let k = length (h .fraction) in
     let whole : valueOf (h .before) < 10 ^ length (h .before) = omega (arith, value-below 0 (h .before) (h .before-digits)) in
-    let part : valueOf (h .after) < 10 ^ k = omega (arith, value-below 0 (h .after) (h .after-digits)) in
+    let part : valueOf (h .fraction) < 10 ^ k = omega (arith, value-below 0 (h .fraction) (h .fraction-digits)) in
     let most : length (h .before) ≤ mostDigits = omega arith in
     let scaled : 10 ^ k * scaleOf k ≡ 10 ^ mostPlaces = sym (pow-add 10 k (mostPlaces - k)) ∙ ap (λ (n : ℕ). 10 ^ n) (add-sub-of-le (h .places)) in
     omega (arith, ten-le (length (h .before)) mostDigits most, mul-lt-mul-of-pos-right part (one-le-pow (mostPlaces - k) 10 (lit< tt)))

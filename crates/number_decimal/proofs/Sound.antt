@@ -48,23 +48,23 @@ let-through : (test : Bool) (x : Size) (m : ℕ) → cond test x Neither ≡ Mil
 let-through true x m e = (refl, e)
 let-through false x m e = let z : _≡_ {A = ℕ} 0 1 = cc in absurd (omega arith)
 
-parts-are : {t : List ℕ} (before after pointed tail : List ℕ) {m : ℕ} → t ≡ before ++ (pointed ++ tail) → all isDigit before ≡ true → all isDigit after ≡ true
-    → PointText pointed after → sizeOf before after tail ≡ Millionths m → IsSize t m
+parts-are : {t : List ℕ} (before fraction pointed tail : List ℕ) {m : ℕ} → t ≡ before ++ (pointed ++ tail) → all isDigit before ≡ true → all isDigit fraction ≡ true
+    → PointText pointed fraction → sizeOf before fraction tail ≡ Millionths m → IsSize t m
 unfolding sizeOf
-parts-are before after pointed tail {m} text b a p e =
+parts-are before fraction pointed tail {m} text b a p e =
     let h = let-through _ _ m e in
     let some = and-both (leb 1 (length before)) _ (h .0) in
-    let places = and-both (leb (length after) mostPlaces) _ (some .1) in
-    let few = and-both (leb (length before + length after) mostDigits) _ (places .1) in
+    let places = and-both (leb (length fraction) mostPlaces) _ (some .1) in
+    let few = and-both (leb (length before + length fraction) mostDigits) _ (places .1) in
     let made = h .1 in
     record {
       before = before;
-      after = after;
+      fraction = fraction;
       pointed = pointed;
       tail = tail;
       text = text;
       before-digits = b;
-      after-digits = a;
+      fraction-digits = a;
       some = leb-true _ _ (some .0);
       places = leb-true _ _ (places .0);
       few = leb-true _ _ (few .0);

@@ -21,7 +21,7 @@ pub data SignText : Bool → List ℕ → Type 0 where
 -- "an optional point with at least one digit on each side": the text, and the digits after the point
 pub data PointText : List ℕ → List ℕ → Type 0 where
   whole : PointText [] []
-  point : (after : List ℕ) → 1 ≤ length after → PointText (46 ∷ after) after
+  point : (fraction : List ℕ) → 1 ≤ length fraction → PointText (46 ∷ fraction) fraction
 
 -- "then optionally 1 to 4 digits of uncertainty in round brackets"
 pub data UncertaintyText : List ℕ → Type 0 where
@@ -31,18 +31,18 @@ pub data UncertaintyText : List ℕ → Type 0 where
 -- the text after the sign, and how many millionths it is worth; the uncertainty does not count
 pub record IsSize (t : List ℕ) (m : ℕ) : Type 0 where
   pub before : List ℕ
-  pub after : List ℕ
+  pub fraction : List ℕ
   pub pointed : List ℕ
   pub tail : List ℕ
   pub text : t ≡ before ++ (pointed ++ tail)
   pub before-digits : all isDigit before ≡ true
-  pub after-digits : all isDigit after ≡ true
+  pub fraction-digits : all isDigit fraction ≡ true
   pub some : 1 ≤ length before
-  pub places : length after ≤ mostPlaces
-  pub few : length before + length after ≤ mostDigits
-  pub is-point : PointText pointed after
+  pub places : length fraction ≤ mostPlaces
+  pub few : length before + length fraction ≤ mostDigits
+  pub is-point : PointText pointed fraction
   pub is-uncertainty : UncertaintyText tail
-  pub worth : m ≡ valueOf before * scaleOf 0 + valueOf after * scaleOf (length after)
+  pub worth : m ≡ valueOf before * scaleOf 0 + valueOf fraction * scaleOf (length fraction)
 
 -- a number, and the signed decimal that it denotes, in millionths
 pub record IsNumber (t : List ℕ) (z : ℤ) : Type 0 where

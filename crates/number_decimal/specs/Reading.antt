@@ -23,9 +23,9 @@ isTail s = eqb (length s) 0 || (eqb (getD s 0 0) 40 && closes (drop 1 s))
 
 -- the size of the digits before the point, those after it, and what follows, if their numbers are right
 unfoldable pub sizeOf : List ℕ → List ℕ → List ℕ → Size
-sizeOf before after tail =
-    cond (leb 1 (length before) && (leb (length after) mostPlaces && (leb (length before + length after) mostDigits && isTail tail)))
-    (Millionths (valueOf before * scaleOf 0 + valueOf after * scaleOf (length after)))
+sizeOf before fraction tail =
+    cond (leb 1 (length before) && (leb (length fraction) mostPlaces && (leb (length before + length fraction) mostDigits && isTail tail)))
+    (Millionths (valueOf before * scaleOf 0 + valueOf fraction * scaleOf (length fraction)))
     Neither
 
 -- after the point: at least one digit, and what follows

@@ -97,23 +97,23 @@ fn is_tail(s: &[u8]) -> bool
 }
 
 // The size of the digits before the point, those after it, and what follows, if their numbers are right.
-fn sized(before: &[u8], after: &[u8], tail: &[u8]) -> Size
-    ensures { λ r. ⌜ (r ≡ sizeOf (now (before .entry)) (now (after .entry)) (now (tail .entry))) × Small r ⌝ }
+fn sized(before: &[u8], fraction: &[u8], tail: &[u8]) -> Size
+    ensures { λ r. ⌜ (r ≡ sizeOf (now (before .entry)) (now (fraction .entry)) (now (tail .entry))) × Small r ⌝ }
 {
     if before.len() < 1 {
         return Size::Neither;
     }
-    if MOST_PLACES < after.len() {
+    if MOST_PLACES < fraction.len() {
         return Size::Neither;
     }
-    if MOST_DIGITS < before.len() + after.len() {
+    if MOST_DIGITS < before.len() + fraction.len() {
         return Size::Neither;
     }
     if !is_tail(tail) {
         return Size::Neither;
     }
     let whole = digits_value(before) * scale(0);
-    let part = digits_value(after) * scale(after.len());
+    let part = digits_value(fraction) * scale(fraction.len());
     Size::Millionths(whole + part)
 }
 

@@ -9,7 +9,7 @@ use lib.ListN.{length, getD, take, drop, length-append, drop-of-length-le}
 use lib.Seq.{take-at, drop-cons, length-take-le}
 use Rattle.text_copies.specs.Copy.{copied}
 use Rattle.text_copies.proofs.Copies.{copied-fits}
-use Rattle.program_printing.specs.Page.{pageMost, written, Adds}
+use Rattle.program_printing.specs.Page.{pageMost, pageText, Adds}
 use Rattle.text_copies.specs.Each.{linesFrom}
 use Rattle.program_printing.specs.declared.page.Page.{Page}
 
@@ -18,14 +18,14 @@ pub put-adds : (p : Page) (t b : List ℕ) → length (p .bytes) ≡ pageMost �
     → Adds p t (record { bytes = b; len = p .len + length t })
 put-adds p t b k h e =
     let n = p .len + length t in
-    let old = written p in
+    let old = pageText p in
     let l : length (old ++ t) ≡ n = simp (length-append, length-take-le (p .len) (p .bytes) (omega arith)) in
     let fits : n ≤ length (p .bytes) = omega arith in
     let all = e ∙ copied-fits (p .bytes) (p .len) t fits ∙ sym (append-assoc old t (drop n (p .bytes))) in
     record { text = ap (take n) all ∙ take-at (old ++ t) (drop n (p .bytes)) n l; size = refl }
 
 pub adds-none : (p : Page) → Adds p [] p
-adds-none p = record { text = sym (append-nil (written p)); size = omega arith }
+adds-none p = record { text = sym (append-nil (pageText p)); size = omega arith }
 
 pub adds-as : {p r : Page} {a b : List ℕ} → a ≡ b → Adds p a r → Adds p b r
 adds-as {p} {r} e h = subst (λ (t : List ℕ). Adds p t r) e h
@@ -33,12 +33,12 @@ adds-as {p} {r} e h = subst (λ (t : List ℕ). Adds p t r) e h
 pub adds-then : {p q r : Page} {a b : List ℕ} → Adds p a q → Adds q b r → Adds p (a ++ b) r
 adds-then {p} {q} {r} {a} {b} e f =
     record {
-      text = f .text ∙ ap (λ (l : List ℕ). l ++ b) (e .text) ∙ append-assoc (written p) a b;
+      text = f .text ∙ ap (λ (l : List ℕ). l ++ b) (e .text) ∙ append-assoc (pageText p) a b;
       size = simp length-append (omega (arith, e .size, f .size));
     }
 
 -- a text added to a page with nothing on it is all that is written
-pub adds-first : {p r : Page} {t : List ℕ} → written p ≡ [] → p .len ≡ 0 → Adds p t r → (written r ≡ t) × (r .len ≡ length t)
+pub adds-first : {p r : Page} {t : List ℕ} → pageText p ≡ [] → p .len ≡ 0 → Adds p t r → (pageText r ≡ t) × (r .len ≡ length t)
 adds-first {p} {r} {t} e z h = (h .text ∙ ap (λ (l : List ℕ). l ++ t) e, omega (arith, h .size))
 
 -- the lines of the first i elements are added to p: what adds the others to q adds all to p

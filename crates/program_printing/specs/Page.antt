@@ -25,10 +25,10 @@ abbrev pub printedItemMost : ℕ
 printedItemMost = 23 + decimalMost + decimalMost + lineMost
 
 -- what is written on a page
-abbrev pub written : Page → List ℕ
-written p = take (p .len) (p .bytes)
+abbrev pub pageText : Page → List ℕ
+pageText p = take (p .len) (p .bytes)
 
 -- the page r has what p has, and then t
 pub record Adds (p : Page) (t : List ℕ) (r : Page) : Type 0 where
-  pub text : written r ≡ written p ++ t
+  pub text : pageText r ≡ pageText p ++ t
   pub size : r .len ≡ p .len + length t

@@ -8,7 +8,7 @@ ghost use Rattle.line_items.specs.Items.{itemCount};
 ghost use Rattle.desk_state.specs.Sheets.{valueIn};
 ghost use Rattle.rows.specs.Rows.{rowCount};
 ghost use Rattle.text_copies.specs.Each.{linesFrom};
-ghost use Rattle.program_printing.specs.Page.{pageMost, rowNameMost, rowLineMost, printedItemMost, written, Adds};
+ghost use Rattle.program_printing.specs.Page.{pageMost, rowNameMost, rowLineMost, printedItemMost, pageText, Adds};
 ghost use Rattle.program_printing.specs.Print.{rowName, levelLetter, rowLine, filledLine, printedItem, printedOf, printedIn};
 ghost use Rattle.text_copies.specs.Copy.{copied};
 
@@ -20,14 +20,14 @@ use crate::page::put;
 use crate::page::put_byte;
 use crate::page::put_decimal;
 use crate::page::put_two_digits;
-use line_items::ITEM_COUNT;
-use rows::ROW_COUNT;
-use rows::Row;
-use rows::Rows;
 use desk_state::desk::Desk;
 use desk_state::sheet::Item;
 use desk_state::sheet::Sheet;
 use desk_state::sheet::value_length;
+use line_items::ITEM_COUNT;
+use rows::ROW_COUNT;
+use rows::Row;
+use rows::Rows;
 
 // How many bytes were printed, or that there was no room for them.
 pub enum Printed {
@@ -171,7 +171,7 @@ fn put_items(p: Page, sheet: Sheet) -> Page
 
 // The page of a desk's report.
 fn report_page(d: Desk) -> Page
-    ensures { λ r. ⌜ (written r ≡ printedOf d) × (r .len ≡ length (printedOf d)) × (r .len ≤ pageMost) ⌝ }
+    ensures { λ r. ⌜ (pageText r ≡ printedOf d) × (r .len ≡ length (printedOf d)) × (r .len ≤ pageMost) ⌝ }
 {
     let reported = desk_questions::report::report(d);
     let rows = reported.rows;
@@ -185,7 +185,7 @@ fn report_page(d: Desk) -> Page
 // Copies a page out, if there is room for it.
 fn copy_out(p: Page, out: &mut [u8]) -> Printed
     requires { ⌜ p .len ≤ pageMost ⌝ }
-    ensures { λ r. ⌜ (r ≡ printedIn (now (out .entry)) (written p)) × (now (out .exit) ≡ copied (now (out .entry)) 0 (written p)) ⌝ }
+    ensures { λ r. ⌜ (r ≡ printedIn (now (out .entry)) (pageText p)) × (now (out .exit) ≡ copied (now (out .entry)) 0 (pageText p)) ⌝ }
 {
     let n = p.len;
     if out.len() < n {

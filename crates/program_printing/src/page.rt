@@ -3,7 +3,7 @@ ghost use mathlib.Core.Path.{_≡_};
 ghost use mathlib.Core.List.{[], _∷_};
 ghost use Prim.Native.Nat.{_+_, _≤_, _<_};
 ghost use lib.ListN.{length};
-ghost use Rattle.program_printing.specs.Page.{pageMost, decimalMost, written, Adds};
+ghost use Rattle.program_printing.specs.Page.{pageMost, decimalMost, pageText, Adds};
 ghost use Rattle.program_printing.specs.Print.{twoDigits, decimalText};
 
 pub const PAGE_MOST: usize = 2048;
@@ -16,7 +16,7 @@ pub struct Page {
 
 // A page with nothing on it.
 pub(crate) fn empty_page() -> Page
-    ensures { λ r. ⌜ (written r ≡ []) × (r .len ≡ 0) ⌝ }
+    ensures { λ r. ⌜ (pageText r ≡ []) × (r .len ≡ 0) ⌝ }
 {
     Page {
         bytes: [0u8; PAGE_MOST],

@@ -3,14 +3,14 @@
 use mathlib.Core.Path.{_≡_, refl}
 use mathlib.Core.Bool.{Bool, true, false, cond, false≢true}
 use mathlib.Core.Logic.{_⊎_, inl, inr}
-use Prim.Native.Nat.{ℕ, _+_, _*_, _≤_, _<_}
+use Prim.Native.Nat.{ℕ, _^_, _≤_, _<_}
 use native.Mathlib.Omega.{arith}
 use borrow.Author.Tests.{eqb-true}
-use lib.Dec.{eqb}
+use lib.Dec.{eqb, lit<}
 use lib.IntN.{ℤ}
 use Rattle.rows_levels.specs.Level.{levelOf, brokenAt, Highest}
-use Rattle.rows_levels.specs.Bounds.{boundsPlace, judgedOf, above, gradeOf}
-use Rattle.rows_levels.specs.declared.Place.the-variants.{At, Nowhere}
+use Rattle.rows_levels.specs.Bounds.{bounds, boundsAt, boundsOf, judgedOf, above, gradeOf}
+use Rattle.rows_levels.specs.declared.Bounds.{Bounds}
 
 -- the bound of a level is broken only where it has one: it is a test that holds
 level-by : (a b c : Bool) (k : ℕ) (p q r : Bool) → eqb k 4 ≡ p → eqb k 3 ≡ q → eqb k 2 ≡ r → cond p a (cond q b (cond r c false)) ≡ true → k ≤ levelOf a b c
@@ -38,17 +38,25 @@ level-highest a b c = record {
   highest = λ k e. level-by a b c k (eqb k 4) (eqb k 3) (eqb k 2) refl refl refl e;
 }
 
--- so it is with the bounds of rows 6, 8 and 10, or of any place of the table
-pub grade-highest : (place : ℕ) (z : ℤ) → let y = judgedOf place z in Highest (above (3 * place) y) (above (3 * place + 1) y) (above (3 * place + 2) y) (gradeOf place z)
+-- so it is with the bounds of rows 6, 8 and 10, or of any row
+pub grade-highest : (row : ℕ) (z : ℤ) → let y = judgedOf row z in let most = boundsOf row false in Highest (above (most .a) y) (above (most .b) y) (above (most .c) y) (gradeOf row z)
 unfolding gradeOf
-grade-highest place z = let y = judgedOf place z in level-highest (above (3 * place) y) (above (3 * place + 1) y) (above (3 * place + 2) y)
+grade-highest row z = level-highest _ _ _
 
--- a row's place is one of three
-place-by : (a b c : Bool) (place : ℕ) → cond a (At 0) (cond b (At 1) (cond c (At 2) Nowhere)) ≡ At place → place < 3
-place-by true b c place e = let h : 0 ≡ place = cc in omega arith
-place-by false true c place e = let h : 1 ≡ place = cc in omega arith
-place-by false false true place e = let h : 2 ≡ place = cc in omega arith
-place-by false false false place e = let z : _≡_ {A = ℕ} 0 1 = cc in absurd (omega arith)
+-- a bound is far below what an `i64` holds
+pub record SmallBounds (s : Bounds) : Type 0 where
+  pub a-small : s .a < 2 ^ 63
+  pub b-small : s .b < 2 ^ 63
+  pub c-small : s .c < 2 ^ 63
 
-pub place-small : (row place : ℕ) → boundsPlace row ≡ At place → place < 3
-place-small row place e = place-by (eqb row 6) (eqb row 8) (eqb row 10) place e
+small-by : (p q r s t : Bool) → SmallBounds (boundsAt (cond p 0 (cond q 2 (cond r 3 (cond s 4 (cond t 5 7))))))
+unfolding bounds
+small-by true q r s t = record { a-small = lit< tt; b-small = lit< tt; c-small = lit< tt }
+small-by false true r s t = record { a-small = lit< tt; b-small = lit< tt; c-small = lit< tt }
+small-by false false true s t = record { a-small = lit< tt; b-small = lit< tt; c-small = lit< tt }
+small-by false false false true t = record { a-small = lit< tt; b-small = lit< tt; c-small = lit< tt }
+small-by false false false false true = record { a-small = lit< tt; b-small = lit< tt; c-small = lit< tt }
+small-by false false false false false = record { a-small = lit< tt; b-small = lit< tt; c-small = lit< tt }
+
+pub bounds-small : (row : ℕ) → SmallBounds (boundsOf row false)
+bounds-small row = small-by (eqb row 4) (eqb row 6) (eqb row 8) (eqb row 10) (eqb row 12)

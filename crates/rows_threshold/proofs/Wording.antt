@@ -88,7 +88,7 @@ module _ {x : List ℕ} {m : ℕ} (h : IsMultiplier x m) where
       let s = h .is-size in
       ap (all (other 41)) (s .text)
       ∙ all-append (other 41) (s .before) (s .pointed ++ s .tail) (digits-lack (s .before) (s .before-digits))
-      (all-append (other 41) (s .pointed) (s .tail) (point-lacks (s .after-digits) (s .is-point)) (ap (all (other 41)) (h .certain)))
+      (all-append (other 41) (s .pointed) (s .tail) (point-lacks (s .fraction-digits) (s .is-point)) (ap (all (other 41)) (h .certain)))
 
   multiplier-taken : multiplierOf x ≡ Times m
   unfolding multiplierOf
@@ -173,33 +173,33 @@ unfolding hasShape sameBy
 not-f-squared r = and-false (leb (length f2-first + length f2-last) (length (70 ∷ 32 ∷ r)))
 
 -- an expression is judged by its x
-expression-row : {t x : List ℕ} {step : ℕ} → Expression t step x → thresholdRow t ≡ multiplierRow step (multiplierOf x)
+expression-row : {t x : List ℕ} {alone : Bool} → Expression t alone x → thresholdRow t ≡ multiplierRow alone (multiplierOf x)
 unfolding thresholdRow
 expression-row (Expression.intensity x) = simp (shape-taken i-first i-last x, inside-taken i-first i-last x)
 expression-row (Expression.f-squared x) = simp (not-intensity, shape-taken f2-first f2-last x, inside-taken f2-first f2-last x)
 expression-row (Expression.f-alone x) = simp (not-intensity, not-f-squared, shape-taken f-first f-last x, inside-taken f-first f-last x)
 
-pub threshold-taken : (t : List ℕ) (step m : ℕ) → IsThreshold t step m → thresholdRow t ≡ multiplierRow step (Times m)
-threshold-taken t step m h = expression-row (h .expression) ∙ ap (multiplierRow step) (multiplier-taken (h .multiplier))
+pub threshold-taken : (t : List ℕ) (alone : Bool) (m : ℕ) → IsThreshold t alone m → thresholdRow t ≡ multiplierRow alone (Times m)
+threshold-taken t alone m h = expression-row (h .expression) ∙ ap (multiplierRow alone) (multiplier-taken (h .multiplier))
 
 -- a text that is none cannot be judged
-none-by : (step : ℕ) (x : List ℕ) (r : Multiplier) → multiplierOf x ≡ r → ((m : ℕ) → IsMultiplier x m → ⊥) → multiplierRow step r ≡ rowOf 2 2
-none-by step x (Times m) e never = absurd (never m (multiplier-is x m e))
-none-by step x NoMultiplier e never = refl
+none-by : (alone : Bool) (x : List ℕ) (r : Multiplier) → multiplierOf x ≡ r → ((m : ℕ) → IsMultiplier x m → ⊥) → multiplierRow alone r ≡ rowOf 2 2
+none-by alone x (Times m) e never = absurd (never m (multiplier-is x m e))
+none-by alone x NoMultiplier e never = refl
 
-module _ (t : List ℕ) (never : (step m : ℕ) → IsThreshold t step m → ⊥) where
-  shaped-row : (p q : List ℕ) (step : ℕ) → ((x : List ℕ) → Expression (p ++ (x ++ q)) step x) → hasShape p q t ≡ true
-      → multiplierRow step (multiplierOf (insideOf p q t)) ≡ rowOf 2 2
-  shaped-row p q step of e =
+module _ (t : List ℕ) (never : (alone : Bool) (m : ℕ) → IsThreshold t alone m → ⊥) where
+  shaped-row : (p q : List ℕ) (alone : Bool) → ((x : List ℕ) → Expression (p ++ (x ++ q)) alone x) → hasShape p q t ≡ true
+      → multiplierRow alone (multiplierOf (insideOf p q t)) ≡ rowOf 2 2
+  shaped-row p q alone of e =
       let x = insideOf p q t in
-      let is : Expression t step x = subst (λ (s : List ℕ). Expression s step x) (sym (shape-is p q t e)) (of x) in
-      none-by step x (multiplierOf x) refl (λ m h. never step m (record { x = x; expression = is; multiplier = h }))
+      let is : Expression t alone x = subst (λ (s : List ℕ). Expression s alone x) (sym (shape-is p q t e)) (of x) in
+      none-by alone x (multiplierOf x) refl (λ m h. never alone m (record { x = x; expression = is; multiplier = h }))
 
   other-by : (i f2 f : Bool) → hasShape i-first i-last t ≡ i → hasShape f2-first f2-last t ≡ f2 → hasShape f-first f-last t ≡ f → thresholdRow t ≡ rowOf 2 2
   unfolding thresholdRow
-  other-by true f2 f a b c = simp a (shaped-row i-first i-last 1 Expression.intensity a)
-  other-by false true f a b c = simp (a, b) (shaped-row f2-first f2-last 1 Expression.f-squared b)
-  other-by false false true a b c = simp (a, b, c) (shaped-row f-first f-last 2 Expression.f-alone c)
+  other-by true f2 f a b c = simp a (shaped-row i-first i-last false Expression.intensity a)
+  other-by false true f a b c = simp (a, b) (shaped-row f2-first f2-last false Expression.f-squared b)
+  other-by false false true a b c = simp (a, b, c) (shaped-row f-first f-last true Expression.f-alone c)
   other-by false false false a b c = simp (a, b, c)
 
   pub threshold-other : thresholdRow t ≡ rowOf 2 2

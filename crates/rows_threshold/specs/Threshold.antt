@@ -1,7 +1,7 @@
 -- Row 12, the threshold expression (document 01, "The twelve rows").
 -- Assumes nothing.
-use Prim.Native.Nat.{ℕ, _+_, _-_, _*_}
-use mathlib.Core.Bool.{Bool, cond, _&&_, _||_}
+use Prim.Native.Nat.{ℕ, _+_, _-_}
+use mathlib.Core.Bool.{Bool, true, false, cond, _&&_, _||_}
 use mathlib.Core.List.{List}
 use lib.Dec.{leb}
 use lib.ListN.{length, take, drop}
@@ -14,6 +14,7 @@ use Rattle.number_decimal.specs.declared.Reading.{Reading}
 use Rattle.number_decimal.specs.declared.Reading.the-variants.{Number, Nothing}
 use Rattle.line_quotes.specs.Quoted.{textOf}
 use Rattle.rows_levels.specs.Level.{levelOf}
+use Rattle.rows_levels.specs.Bounds.{boundsOf}
 use Rattle.rows.specs.Rows.{rowOf, missing}
 use Rattle.rows.specs.declared.Row.{Row}
 use Rattle.rows_threshold.specs.declared.Multiplier.{Multiplier}
@@ -38,21 +39,21 @@ unsignedReading Nothing = NoMultiplier
 unfoldable pub multiplierOf : List ℕ → Multiplier
 multiplierOf x = cond (hasAt x 0 43 || (hasAt x 0 45 || hasAt x (length x - 1) 41)) NoMultiplier (unsignedReading (readingOf x))
 
--- "x at least 6 A, 5 B, 4 C" for a step of 1; for F, "12, 10, 8", a step of 2. x is in millionths.
-unfoldable pub thresholdLevel : ℕ → ℕ → ℕ
-thresholdLevel step x = levelOf (leb (6 * step * 1000000) x) (leb (5 * step * 1000000) x) (leb (4 * step * 1000000) x)
+-- "For I and F^2^: x at least 6 A, 5 B, 4 C. For F: 12, 10, 8.": row 12's bounds, or the second ones for F alone. x is in millionths.
+unfoldable pub thresholdLevel : Bool → ℕ → ℕ
+thresholdLevel alone x = levelOf (leb (boundsOf 12 alone .a) x) (leb (boundsOf 12 alone .b) x) (leb (boundsOf 12 alone .c) x)
 
 -- "Otherwise shaped: C, reason 2."
-abbrev pub multiplierRow : ℕ → Multiplier → Row
-multiplierRow step (Times x) = rowOf (thresholdLevel step x) 0
-multiplierRow step NoMultiplier = rowOf 2 2
+abbrev pub multiplierRow : Bool → Multiplier → Row
+multiplierRow alone (Times x) = rowOf (thresholdLevel alone x) 0
+multiplierRow alone NoMultiplier = rowOf 2 2
 
 -- "the text without quotes is I > x\s(I), F^2^ > x\s(F^2^) or F > x\s(F)"
 unfoldable pub thresholdRow : List ℕ → Row
 thresholdRow t =
-    cond (hasShape (bytes "I > ") (bytes "\\s(I)") t) (multiplierRow 1 (multiplierOf (insideOf (bytes "I > ") (bytes "\\s(I)") t)))
-    (cond (hasShape (bytes "F^2^ > ") (bytes "\\s(F^2^)") t) (multiplierRow 1 (multiplierOf (insideOf (bytes "F^2^ > ") (bytes "\\s(F^2^)") t)))
-    (cond (hasShape (bytes "F > ") (bytes "\\s(F)") t) (multiplierRow 2 (multiplierOf (insideOf (bytes "F > ") (bytes "\\s(F)") t)))
+    cond (hasShape (bytes "I > ") (bytes "\\s(I)") t) (multiplierRow false (multiplierOf (insideOf (bytes "I > ") (bytes "\\s(I)") t)))
+    (cond (hasShape (bytes "F^2^ > ") (bytes "\\s(F^2^)") t) (multiplierRow false (multiplierOf (insideOf (bytes "F^2^ > ") (bytes "\\s(F^2^)") t)))
+    (cond (hasShape (bytes "F > ") (bytes "\\s(F)") t) (multiplierRow true (multiplierOf (insideOf (bytes "F > ") (bytes "\\s(F)") t)))
     (rowOf 2 2)))
 
 -- "12. REFLE_01 (000): .. For I and F^2^: x at least 6 A, 5 B, 4 C. For F: 12, 10, 8. Missing: C, reason 1. Otherwise shaped: C, reason 2."

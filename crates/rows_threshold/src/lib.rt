@@ -63,25 +63,20 @@ fn read_multiplier(x: &[u8]) -> Multiplier
     Multiplier::Times(number_signed::magnitude(v))
 }
 
-// The level of x, in millionths, for a step of 1 or 2.
-fn threshold_level(step: u64, x: u64) -> u8
-    requires { ⌜ step ≤ 2 ⌝ }
-    ensures { λ r. ⌜ r ≡ thresholdLevel step x ⌝ }
+// The level of x, in millionths, for F alone or not.
+fn threshold_level(alone: bool, x: u64) -> u8
+    ensures { λ r. ⌜ r ≡ thresholdLevel alone x ⌝ }
 {
-    rows_levels::level(
-        6 * step * 1000000 <= x,
-        5 * step * 1000000 <= x,
-        4 * step * 1000000 <= x,
-    )
+    let least = rows_levels::bounds_of(12, alone);
+    rows_levels::level(least.a <= x, least.b <= x, least.c <= x)
 }
 
-fn row_of_multiplier(step: u64, m: Multiplier) -> Row
-    requires { ⌜ step ≤ 2 ⌝ }
-    ensures { λ r. ⌜ r ≡ multiplierRow step m ⌝ }
+fn row_of_multiplier(alone: bool, m: Multiplier) -> Row
+    ensures { λ r. ⌜ r ≡ multiplierRow alone m ⌝ }
 {
     match m {
         Multiplier::Times(x) => {
-            let level = threshold_level(step, x);
+            let level = threshold_level(alone, x);
             Row { level, reason: 0 }
         }
         Multiplier::NoMultiplier => Row {
@@ -92,12 +87,12 @@ fn row_of_multiplier(step: u64, m: Multiplier) -> Row
 }
 
 // The row of a text that begins with m bytes and ends with n bytes of its shape.
-fn row_inside(step: u64, t: &[u8], m: usize, n: usize) -> Row
-    requires { ⌜ (step ≤ 2) × (m + n ≤ length (now t)) ⌝ }
-    ensures { λ r. ⌜ r ≡ multiplierRow step (multiplierOf (take (length (now (t .entry)) - m - n) (drop m (now (t .entry))))) ⌝ }
+fn row_inside(alone: bool, t: &[u8], m: usize, n: usize) -> Row
+    requires { ⌜ m + n ≤ length (now t) ⌝ }
+    ensures { λ r. ⌜ r ≡ multiplierRow alone (multiplierOf (take (length (now (t .entry)) - m - n) (drop m (now (t .entry))))) ⌝ }
 {
     let end = t.len() - n;
-    row_of_multiplier(step, read_multiplier(&t[m..end]))
+    row_of_multiplier(alone, read_multiplier(&t[m..end]))
 }
 
 // The row of the text without quotes.
@@ -105,13 +100,13 @@ fn row_of_text(t: &[u8]) -> Row
     ensures { λ r. ⌜ r ≡ thresholdRow (now (t .entry)) ⌝ }
 {
     if has_shape(t, b"I > ", b"\\s(I)") {
-        return row_inside(1, t, 4, 5);
+        return row_inside(false, t, 4, 5);
     }
     if has_shape(t, b"F^2^ > ", b"\\s(F^2^)") {
-        return row_inside(1, t, 7, 8);
+        return row_inside(false, t, 7, 8);
     }
     if has_shape(t, b"F > ", b"\\s(F)") {
-        return row_inside(2, t, 4, 5);
+        return row_inside(true, t, 4, 5);
     }
     make_row(2, 2)
 }

@@ -1,2 +1,3 @@
 pub mod WeightCases
+pub mod Wording
 mod Weights

@@ -1,14 +1,16 @@
 -- Weights as rows 4 and 5 judge them: below zero or not, and small.
 -- Assumes nothing.
 use mathlib.Core.Path.{_≡_, refl}
-use mathlib.Core.Bool.{true}
+use mathlib.Core.Bool.{Bool, true, false}
 use Prim.Native.Nat.{ℕ, _+_, _*_, _^_, _≤_, _<_}
 use native.Mathlib.Nat.{mul-le-mul}
 use native.Mathlib.Omega.{arith}
 use borrow.Author.Tests.{ltb-true}
-use lib.Dec.{ltb}
+use lib.Dec.{ltb, lit≤}
 use lib.IntN.{ℤ, pos, negsuc, natAbs}
 use lib.Signed.{mag, ltZ}
+use Rattle.rows_levels.specs.Bounds.{bounds, boundsOf}
+use Rattle.rows_levels.specs.declared.Bounds.{Bounds}
 use Rattle.rows_weight.specs.WeightRows.{ratioLevel, farApart}
 
 -- a given weight below zero
@@ -26,6 +28,17 @@ far-below-zero (negsuc n) s e = refl
 pub abs-small : (z : ℤ) → mag z < 10 ^ 15 → natAbs z ≤ 10 ^ 15
 abs-small (pos n) h = omega arith
 abs-small (negsuc n) h = omega arith
+
+-- the bounds of row 4 are small
+pub record SmallRatios (p : Bounds) : Type 0 where
+  pub a-small : p .a ≤ 110
+  pub b-small : p .b ≤ 110
+  pub c-small : p .c ≤ 110
+
+pub ratios-small : (second : Bool) → SmallRatios (boundsOf 4 second)
+unfolding bounds
+ratios-small true = record { a-small = lit≤ tt; b-small = lit≤ tt; c-small = lit≤ tt }
+ratios-small false = record { a-small = lit≤ tt; b-small = lit≤ tt; c-small = lit≤ tt }
 
 -- a hundredth part of a sum
 pub part-small : (p s : ℕ) → p ≤ 110 → s < 10 ^ 16 → p * s ≤ 1100000000000000000

@@ -1,1 +1,2 @@
 pub mod WeightRows
+pub mod Wording

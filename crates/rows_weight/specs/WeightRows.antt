@@ -16,6 +16,7 @@ use Rattle.line_categories.specs.declared.Class.the-variants.{MetalOrganic, Org
 use Rattle.formula_elements.specs.declared.Weight.{Weight}
 use Rattle.formula_elements.specs.declared.Weight.the-variants.{Thousandths, NoWeight}
 use Rattle.rows_levels.specs.Level.{levelOf}
+use Rattle.rows_levels.specs.Bounds.{boundsOf}
 use Rattle.rows.specs.Rows.{rowOf, noAlert, missing}
 use Rattle.rows.specs.declared.Row.{Row}
 use Rattle.line_categories.specs.Categories.{inClass}
@@ -54,9 +55,10 @@ ratioAbove p (negsuc given) sum = false
 abbrev pub ratioOutside : ℕ → ℕ → ℤ → ℕ → Bool
 ratioOutside lo hi given sum = ratioBelow lo given sum || ratioAbove hi given sum
 
--- "Below 0.90 or above 1.10: A; below 0.95 or above 1.05: B; below 0.99 or above 1.01: C."
+-- RW is outside the bounds of row 4: "Below 0.90 or above 1.10: A; below 0.95 or above 1.05: B; below 0.99 or above 1.01: C."
 unfoldable pub ratioLevel : ℤ → ℕ → ℕ
-ratioLevel given sum = levelOf (ratioOutside 90 110 given sum) (ratioOutside 95 105 given sum) (ratioOutside 99 101 given sum)
+ratioLevel given sum =
+    levelOf (ratioOutside (boundsOf 4 false .a) (boundsOf 4 true .a) given sum) (ratioOutside (boundsOf 4 false .b) (boundsOf 4 true .b) given sum) (ratioOutside (boundsOf 4 false .c) (boundsOf 4 true .c) given sum)
 
 -- row 4 where formula and weight are there
 abbrev pub ratioRow : Weighed → Row

@@ -6,10 +6,10 @@ ghost use lib.Signed.{mag};
 ghost use Rattle.line_quotes.specs.Quoted.{textOf};
 ghost use Rattle.rows.specs.Rows.{rowOf};
 ghost use Rattle.rows_weight.specs.WeightRows.{weighedOf, SmallWeighed, ratioOutside, ratioLevel, ratioRow, row4, farApart, isWeighedCategory, differenceRow, row5};
+use formula_elements::Weight;
 use line_categories::Class;
 use line_categories::is_in_class;
 use number_decimal::Reading;
-use formula_elements::Weight;
 use rows::Row;
 use rows::is_missing;
 use rows::make_row;
@@ -59,10 +59,12 @@ fn ratio_level(given: i64, sum: u64) -> u8
         return 4;
     }
     let g = number_signed::magnitude(given);
+    let low = rows_levels::bounds_of(4, false);
+    let high = rows_levels::bounds_of(4, true);
     rows_levels::level(
-        is_ratio_outside(90, 110, g, sum),
-        is_ratio_outside(95, 105, g, sum),
-        is_ratio_outside(99, 101, g, sum),
+        is_ratio_outside(low.a, high.a, g, sum),
+        is_ratio_outside(low.b, high.b, g, sum),
+        is_ratio_outside(low.c, high.c, g, sum),
     )
 }
 

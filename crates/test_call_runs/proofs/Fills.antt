@@ -14,7 +14,7 @@ use Rattle.test_one_call.specs.CallBytes.{callsIn}
 use Rattle.test_replies.specs.ReplyBytes.{replyLength}
 use Rattle.test_desk_bytes.specs.DeskBytes.{deskLength}
 use Rattle.test_call_runs.specs.Written.{answersBytes, writtenLength, AnswersWritten, AllWritten}
-use Rattle.test_call_runs.specs.Play.{after, ran}
+use Rattle.test_call_runs.specs.Play.{playing, ran}
 use Rattle.test_call_runs.specs.declared.Played.the-variants.{Done}
 use Rattle.text_copies.proofs.Copies.{copied-next, copied-start}
 
@@ -33,6 +33,6 @@ filled log₀ out₀ cs n desk {log} {out} {last} a w e room =
       log-is = a .log-is;
     }
 
-pub ran-is : (n : ℕ) (calls log₀ out₀ : List ℕ) {log out : List ℕ} → AllWritten log₀ out₀ (callsIn n calls) n log out → after (Done (writtenLength n)) log out ≡ ran n calls log₀ out₀
+pub ran-is : (n : ℕ) (calls log₀ out₀ : List ℕ) {log out : List ℕ} → AllWritten log₀ out₀ (callsIn n calls) n log out → playing (Done (writtenLength n)) log out ≡ ran n calls log₀ out₀
 ran-is n calls log₀ out₀ {log} {out} f =
-    ap (λ (l : List ℕ). after (Done (writtenLength n)) l out) (f .log-is) ∙ ap (λ (o : List ℕ). after (Done (writtenLength n)) (ran n calls log₀ out₀ .log) o) (f .bytes)
+    ap (λ (l : List ℕ). playing (Done (writtenLength n)) l out) (f .log-is) ∙ ap (λ (o : List ℕ). playing (Done (writtenLength n)) (ran n calls log₀ out₀ .log) o) (f .bytes)

@@ -14,17 +14,17 @@ use Rattle.test_call_runs.specs.declared.Played.{Played}
 use Rattle.test_call_runs.specs.declared.Played.the-variants.{Done, CutShort, NoSuchCall, NoRoom}
 
 -- everything that playing leaves
-pub record After : Type 0 where
+pub record Playing : Type 0 where
   pub answer : Played
   pub log : List ℕ
   pub out : List ℕ
 
 -- an answer, and what log and out then hold
-abbrev pub after : Played → List ℕ → List ℕ → After
-after r log out = record { answer = r; log = log; out = out }
+abbrev pub playing : Played → List ℕ → List ℕ → Playing
+playing r log out = record { answer = r; log = log; out = out }
 
 -- n calls played: what is written stands at the start of out, and the other bytes stay
-abbrev pub ran : ℕ → List ℕ → List ℕ → List ℕ → After
+abbrev pub ran : ℕ → List ℕ → List ℕ → List ℕ → Playing
 ran n calls log out = record {
   answer = Done (writtenLength n);
   log = stateAfter rowsOf noRows log (callsIn n calls) .log;
@@ -32,10 +32,10 @@ ran n calls log out = record {
 }
 
 -- the first refusal that applies, with which log and out come back equal; else the run
-unfoldable pub playOf : List ℕ → List ℕ → List ℕ → After
+unfoldable pub playOf : List ℕ → List ℕ → List ℕ → Playing
 playOf calls log out =
     cond (eqb (length calls % callLength) 0)
     (cond (kindsHold (callCount calls) calls)
-    (cond (leb (writtenLength (callCount calls)) (length out)) (ran (callCount calls) calls log out) (after NoRoom log out))
-    (after NoSuchCall log out))
-    (after CutShort log out)
+    (cond (leb (writtenLength (callCount calls)) (length out)) (ran (callCount calls) calls log out) (playing NoRoom log out))
+    (playing NoSuchCall log out))
+    (playing CutShort log out)

@@ -12,7 +12,7 @@ ghost use lib.ListN.{length};
 ghost use Rattle.test_one_call.specs.CallBytes.{callLength, callsIn, kindsHold};
 ghost use Rattle.test_replies.specs.ReplyBytes.{replyLength};
 ghost use Rattle.test_call_runs.specs.Written.{AnswersWritten, AllWritten, writtenLength};
-ghost use Rattle.test_call_runs.specs.Play.{after, playOf};
+ghost use Rattle.test_call_runs.specs.Play.{playing, playOf};
 use test_desk_bytes::DESK_BYTES;
 use test_desk_bytes::desk_bytes;
 use test_one_call::CALL_BYTES;
@@ -74,7 +74,7 @@ fn play_fitting(calls: &[u8], n: usize, log: &mut [u8], out: &mut [u8])
 
 // Plays the calls on a fresh desk over the log, none of it used, and writes each call's whole answer and then the final desk into out.
 pub fn play_calls(calls: &[u8], log: &mut [u8], out: &mut [u8]) -> Played
-    ensures { λ r. ⌜ after r (now (log .exit)) (now (out .exit)) ≡ playOf (now (calls .entry)) (now (log .entry)) (now (out .entry)) ⌝ }
+    ensures { λ r. ⌜ playing r (now (log .exit)) (now (out .exit)) ≡ playOf (now (calls .entry)) (now (log .entry)) (now (out .entry)) ⌝ }
 {
     let len = calls.len();
     if len % CALL_BYTES != 0 {

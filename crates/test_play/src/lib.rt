@@ -1,7 +1,7 @@
 // Plays a whole sequence of calls, given in bytes, for a program in C that compares. The bytes are those of crates/call_runs.
 ghost use mathlib.Core.Path.{_≡_};
 ghost use Rattle.test_call_runs.specs.Play.{playOf};
-ghost use Rattle.test_play.specs.Told.{told, resultOf, numbered};
+ghost use Rattle.test_play.specs.ResultLeft.{resultLeft, resultOf, playingLeft};
 use test_call_runs::Played;
 use test_call_runs::play_calls;
 
@@ -38,7 +38,7 @@ fn result_of(p: Played) -> PlayResult
 // The same as play_calls, for a program in C.
 #[no_mangle]
 pub extern "C" fn play_sequence(calls: &[u8], log: &mut [u8], out: &mut [u8]) -> PlayResult
-    ensures { λ r. ⌜ told r (now (log .exit)) (now (out .exit)) ≡ numbered (playOf (now (calls .entry)) (now (log .entry)) (now (out .entry))) ⌝ }
+    ensures { λ r. ⌜ resultLeft r (now (log .exit)) (now (out .exit)) ≡ playingLeft (playOf (now (calls .entry)) (now (log .entry)) (now (out .entry))) ⌝ }
 {
     result_of(play_calls(calls, log, out))
 }

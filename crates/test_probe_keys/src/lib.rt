@@ -1,7 +1,7 @@
 // The key call on a whole desk by value, for the comparison program alone: harness/keys.h declares it.
 ghost use mathlib.Core.Path.{_≡_};
 ghost use Rattle.desk_keys.specs.Key.{keyOf};
-ghost use Rattle.test_probe_keys.specs.Told.{told, numbered};
+ghost use Rattle.test_probe_keys.specs.Probed.{keyProbed};
 use desk_state::desk::Desk;
 
 #[repr(C)]
@@ -20,7 +20,7 @@ pub extern "C" fn probe_key(
     bench: u64,
     byte: u8,
 ) -> ProbeKeyed
-    ensures { λ r. ⌜ told r (now (log .exit)) ≡ numbered (keyOf d used (now (log .entry)) bench byte) ⌝ }
+    ensures { λ r. ⌜ keyProbed r (now (log .exit)) ≡ keyOf d used (now (log .entry)) bench byte ⌝ }
 {
     let k = desk_keys::by_value::key(d, used, log, bench, byte);
     let answer = k.answer;

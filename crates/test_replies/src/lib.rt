@@ -6,9 +6,9 @@ ghost use Rattle.test_replies.specs.ReplyBytes.{keyBytes, reportBytes, w
 use desk_answers::Answer;
 use desk_answers::answer_number;
 use desk_answers::asked_number;
-use number_little_endian::number_bytes;
 use desk_questions::report::Reported;
 use desk_questions::who::Told;
+use number_little_endian::number_bytes;
 use rows::ROW_COUNT;
 
 pub const REPLY_BYTES: usize = 1 + 2 * ROW_COUNT;

@@ -40,17 +40,17 @@ abbrev pub summed : Weight → List ℕ
 summed (Thousandths n) = n ∷ []
 summed NoWeight = []
 
-abbrev pub told : Row → List ℕ
-told r = r .level ∷ r .reason ∷ []
+abbrev pub rowNumbers : Row → List ℕ
+rowNumbers r = r .level ∷ r .reason ∷ []
 
-abbrev pub used : State → List ℕ
-used s = take (s .used) (s .log)
+abbrev pub usedBytes : State → List ℕ
+usedBytes s = take (s .used) (s .log)
 
 -- what the desk's definitions answer: the sum, the level and reason of a row, the used bytes of a log of 64
 unfoldable pub answerOf : Asked → List ℕ
 answerOf (sum formula) = summed (sumOf (bytes formula))
-answerOf (row n values) = told (getD (rowsOf (record { items = sheetWith values; count = 1 }) .rows) (n - 1) (rowOf 9 9))
-answerOf (played cs) = used (stateAfter rowsOf noRows (replicate 64 0) cs)
+answerOf (row n values) = rowNumbers (getD (rowsOf (record { items = sheetWith values; count = 1 }) .rows) (n - 1) (rowOf 9 9))
+answerOf (played cs) = usedBytes (stateAfter rowsOf noRows (replicate 64 0) cs)
 
 pub record Example : Type 0 where
   pub asked : Asked

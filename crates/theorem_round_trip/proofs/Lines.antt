@@ -17,7 +17,7 @@ use Rattle.desk_soundness.specs.Sound.{soundDesk}
 use Rattle.desk_state.specs.declared.desk.Desk.{Desk}
 use Rattle.file_block_name.specs.Block.{blockMost, isBlockByte, isBlockName}
 use Rattle.file_cif.specs.File.{itemLine, fileOf}
-use Rattle.file_cif.specs.Answers.{After, refused, written, writtenIn, fileStep}
+use Rattle.file_cif.specs.Answers.{Filing, noFile, wholeFile, fileWithin, fileStep}
 use Rattle.theorem_round_trip.specs.RoundTrip.{itemLines, filedBytes}
 
 -- ---- the first line
@@ -41,13 +41,13 @@ after-line line rest h =
 -- ---- the file, by the writer's answer
 
 -- what is not refused is a choice's first side
-not-refused : (b : Bool) (x : After) (a : ℕ) (out : List ℕ) → (a ≡ 0 → ⊥) → cond b x (refused a out) .answer ≡ 0
-    → (b ≡ true) × (cond b x (refused a out) ≡ x)
+not-refused : (b : Bool) (x : Filing) (a : ℕ) (out : List ℕ) → (a ≡ 0 → ⊥) → cond b x (noFile a out) .answer ≡ 0
+    → (b ≡ true) × (cond b x (noFile a out) ≡ x)
 not-refused true x a out n e = (refl, refl)
 not-refused false x a out n e = absurd (n e)
 
 -- what is known where the file was written
-pub record IsWritten (d : Desk) (name : List ℕ) (a : After) : Type 0 where
+pub record IsWritten (d : Desk) (name : List ℕ) (a : Filing) : Type 0 where
   pub sound : soundDesk d ≡ true
   pub block : isBlockName name ≡ true
   pub file : filedBytes a ≡ fileOf name (d .sheet)
@@ -56,12 +56,12 @@ pub is-written : (d : Desk) (name out : List ℕ) → fileStep d name out .answe
 unfolding fileStep
 is-written d name out h =
     let file = fileOf name (d .sheet) in
-    let second = cond (isBlockName name) (writtenIn file out) (refused 11 out) in
+    let second = cond (isBlockName name) (fileWithin file out) (noFile 11 out) in
     let s = not-refused (soundDesk d) second 2 out (λ e. omega arith) h in
-    let h1 = ap (λ (a : After). a .answer) (sym (s .1)) ∙ h in
-    let b = not-refused (isBlockName name) (writtenIn file out) 11 out (λ e. omega arith) h1 in
-    let h2 = ap (λ (a : After). a .answer) (sym (b .1)) ∙ h1 in
-    let r = not-refused (leb (length file) (length out)) (written file out) 10 out (λ e. omega arith) h2 in
+    let h1 = ap (λ (a : Filing). a .answer) (sym (s .1)) ∙ h in
+    let b = not-refused (isBlockName name) (fileWithin file out) 11 out (λ e. omega arith) h1 in
+    let h2 = ap (λ (a : Filing). a .answer) (sym (b .1)) ∙ h1 in
+    let r = not-refused (leb (length file) (length out)) (wholeFile file out) 10 out (λ e. omega arith) h2 in
     record {
       sound = s .0;
       block = b .0;
@@ -69,6 +69,6 @@ is-written d name out h =
     }
 
 -- the item lines of a written file
-pub written-lines : (d : Desk) (name : List ℕ) (a : After) → IsWritten d name a → itemLines (filedBytes a) ≡ linesFrom itemLine 1 (d .sheet .items)
+pub written-lines : (d : Desk) (name : List ℕ) (a : Filing) → IsWritten d name a → itemLines (filedBytes a) ≡ linesFrom itemLine 1 (d .sheet .items)
 unfolding fileOf
 written-lines d name a w = ap itemLines (w .file) ∙ after-line (bytes "data_" ++ name) (linesFrom itemLine 1 (d .sheet .items)) (block-line name (w .block))

@@ -17,7 +17,7 @@ use Rattle.desk_log.specs.Record.{recordLength}
 use Rattle.rows.specs.Rows.{noRows}
 use Rattle.rows_sheet.specs.Sheet.{rowsOf}
 use Rattle.rows.specs.declared.Rows.{Rows}
-use Rattle.file_cif.specs.Answers.{After}
+use Rattle.file_cif.specs.Answers.{Filing}
 use Rattle.theorem_sequences.specs.Calls.{Call, typing, Reply, keyed, State}
 use Rattle.theorem_sequences.specs.Sequences.{deskAnswers, stateAfter}
 
@@ -30,7 +30,7 @@ abbrev pub lineKeys : ℕ → List ℕ → List Call
 lineKeys bench file = typing bench (itemLines file)
 
 -- the bytes that were written: the first of the lent bytes, as many as the writer says
-abbrev pub filedBytes : After → List ℕ
+abbrev pub filedBytes : Filing → List ℕ
 filedBytes a = take (a .count) (a .out)
 
 -- the bytes of the log that the record of an item's value takes; none for an empty item

@@ -17,13 +17,15 @@ use Rattle.desk_state.specs.declared.line.Line.{Line}
 use Rattle.desk_state.specs.declared.sheet.Item.{Item}
 use Rattle.desk_state.specs.declared.sheet.Sheet.{Sheet}
 use Rattle.theorem_sequences.specs.Calls.{Call, key, ask, report, who, keyed, State, step}
-use Rattle.theorem_sequences.specs.Gather.{gather, gatherAnswered}
+use Rattle.theorem_sequences.specs.Gather.{own, gather, gatherAnswered}
 use Rattle.theorem_sequences.specs.Work.{Work, noWork, recordsOf, keyAnswer, workStep}
-use Rattle.theorem_sequences.specs.Sequences.{Entered, enteredFirst, enteredBy, answerAfter, workAfter, Sequences}
+use Rattle.theorem_sequences.specs.Sequences.{Entered, enteredFirst, enteredBy, textOf, answerAfter, workAfter, Sequences}
 use Rattle.theorem_sequences.proofs.GatherChecks.{gather-regroups}
+use Rattle.theorem_sequences.proofs.OneRegrouping.{one-regrouping}
 use Rattle.theorem_sequences.proofs.Gathering.{final-append, gathered}
 use Rattle.theorem_sequences.proofs.Simulation.{Followed, followed}
 use Rattle.theorem_sequences.proofs.WorkLaws.{work-laws}
+use Rattle.theorem_sequences.proofs.OwnKeys.{own-keys}
 use Rattle.theorem_sequences.proofs.DeskFollows.{workState, Good, log-length, log-sound, item-at, desk-follows}
 use Rattle.theorem_sequences.proofs.Enters.{enter-entered, adds-none, entered-benches}
 
@@ -74,10 +76,13 @@ module _ {Rows : Type 0} (rowsOf : Sheet → Rows) (noRows : Rows) (log : List �
       let r = recordsOf es in
       record {
         regrouped = gather-regroups cs;
+        one-regrouping = λ ds r. one-regrouping cs ds (gather cs) r (gather-regroups cs);
         gathered-answers = follows (gather cs) .answers ∙ moved .0 ∙ ap gatherAnswered (sym (follows cs .answers));
         gathered-state = follows (gather cs) .end ∙ ap (workState log) (moved .1) ∙ sym end;
         answers = follows cs .answers;
         lines = ap (λ (s : State). s .desk .lines) end;
+        own-keys = λ before after bench e.
+            own-keys rowsOf (length log) bench before ∙ ap (λ ps. textOf [] (own (λ p. p .0) bench ps)) (sym (follows before .answers));
         entry = λ before after bench e h. next-entry before bench h;
         no-entry = λ before after c e h. next-no-entry before c h;
         entries = entered-benches rowsOf (length log) cs noWork ∙ ap (enteredBy []) (sym (follows cs .answers));
@@ -92,4 +97,6 @@ module _ {Rows : Type 0} (rowsOf : Sheet → Rows) (noRows : Rows) (log : List �
         log-sound = ap (λ (s : State). soundLog (s .desk) (length (s .log)) (s .used)) end ∙ log-sound log (workAfter rowsOf noRows log cs) (follows cs .kept);
         reports = λ before after e. next-answer before (ask report);
         tells = λ before after item e. next-answer before (ask (who item));
+        who-next = λ item. next-answer cs (ask (who item));
+        report-next = next-answer cs (ask report);
       }

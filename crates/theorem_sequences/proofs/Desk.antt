@@ -10,15 +10,21 @@ use Rattle.rows.specs.Rows.{noRows}
 use Rattle.rows_sheet.specs.Sheet.{rowsOf}
 use Rattle.rows.specs.declared.Rows.{Rows}
 use Rattle.desk_questions.specs.Report.{Report, reportedAs, reportedOf}
-use Rattle.theorem_sequences.specs.Calls.{Call, Reply, reported, reportOf}
-use Rattle.theorem_sequences.specs.Sequences.{Sequences}
+use Rattle.theorem_sequences.specs.Calls.{Call, key, Reply, keyed, reported, reportOf}
+use Rattle.theorem_sequences.specs.Sequences.{answerAfter, Sequences}
+use Rattle.theorem_sequences.specs.Owner.{Owned}
 use Rattle.theorem_sequences.proofs.Demand3.{demand-3}
+use Rattle.theorem_sequences.proofs.Owners.{entry-owned}
 
 -- for every log and every sequence of calls
 pub desk-sequences : (log : List ℕ) (cs : List Call) → Sequences rowsOf noRows log cs
 desk-sequences = demand-3 rowsOf noRows
 
--- the report of the sequence is what the function `questions::report::report` gives
+-- and an accepted entry is its bench's: its line, its record, and what Who tells of it
+pub desk-entry-owned : (log : List ℕ) (before : List Call) (bench : ℕ) → answerAfter rowsOf noRows log before (key bench 10) ≡ keyed 0 → Owned rowsOf noRows log before bench
+desk-entry-owned = entry-owned rowsOf noRows
+
+-- the report of the sequence is what the function `desk_questions::report::report` gives
 abbrev replyOf : Report → Reply Rows
 replyOf r = reported (r .answer) (r .rows)
 

@@ -2,22 +2,20 @@
 -- Assumes nothing.
 use mathlib.Core.Path.{_≡_, refl, sym, ap, _∙_}
 use mathlib.Core.Bool.{Bool, true, false}
-use mathlib.Core.List.{List, [], _∷_, _++_, append-nil, cons≢nil}
+use mathlib.Core.List.{List, [], _∷_, _++_, append-nil}
 use Prim.Native.Nat.{ℕ, _+_}
 use native.Mathlib.Omega.{arith}
 use lib.Dec.{eqb}
 use lib.Seq.{append-snoc}
 use borrow.Author.Tests.{eqb-true, eqb-false, eq-eqb, ne-eqb}
 use Rattle.theorem_sequences.specs.Calls.{Call, key, ask, report}
-use Rattle.theorem_sequences.specs.Gather.{kind, Kind, plain, enter, question, ofBench, own, others, consIf, gatherFrom, gather, unlessPlain, marks, nextOf, Gathered, at-end, before-own, at-enter, at-question, weight, Regrouped}
+use Rattle.theorem_sequences.specs.Gather.{ofBench, own, others, consIf, gatherFrom, gather, marks, nextOf, Gathered, at-end, before-own, at-enter, at-question, weight, Regrouped}
+use Rattle.theorem_sequences.proofs.EndOrder.{id, marks-append, marks-parts, trailing-from}
 
--- benches 0 and 1 type in turn, bench 0 enters, goes on, bench 1 enters, and bench 7 presses Enter
-example : gather (key 0 65 ∷ key 1 66 ∷ ask report ∷ key 0 67 ∷ key 0 10 ∷ key 0 68 ∷ key 1 10 ∷ key 7 10 ∷ [])
-    ≡ ask report ∷ key 0 65 ∷ key 0 67 ∷ key 0 10 ∷ key 1 66 ∷ key 1 10 ∷ key 7 10 ∷ key 0 68 ∷ []
+-- benches 0 and 1 type in turn, bench 0 enters, goes on, bench 1 enters, bench 7 presses Enter, and benches 1 and 0 type on
+example : gather (key 0 65 ∷ key 1 66 ∷ ask report ∷ key 0 67 ∷ key 0 10 ∷ key 0 68 ∷ key 1 10 ∷ key 7 10 ∷ key 1 69 ∷ key 0 70 ∷ [])
+    ≡ ask report ∷ key 0 65 ∷ key 0 67 ∷ key 0 10 ∷ key 1 66 ∷ key 1 10 ∷ key 7 10 ∷ key 0 68 ∷ key 1 69 ∷ key 0 70 ∷ []
 example = refl
-
-abbrev id : Call → Call
-id c = c
 
 own-append : (b : ℕ) (P Q : List Call) → own id b (P ++ Q) ≡ own id b P ++ own id b Q
 own-append b [] Q = refl
@@ -87,27 +85,6 @@ bench-order-from b (key a j ∷ cs) P = go (bench-order-from b cs) (eqb j 10) re
 -- Each bench's calls keep their order.
 bench-order : (b : ℕ) (cs : List Call) → own id b (gather cs) ≡ own id b cs
 bench-order b cs = bench-order-from b cs []
-
-marks-append : (P Q : List Call) → marks P ≡ [] → marks (P ++ Q) ≡ marks Q
-marks-append [] Q e = refl
-marks-append (c ∷ P) Q e = go (kind c) e (marks-append P Q)
-  where
-    go : (κ : Kind) → unlessPlain κ c (marks P) ≡ [] → (marks P ≡ [] → marks (P ++ Q) ≡ marks Q) → unlessPlain κ c (marks (P ++ Q)) ≡ marks Q
-    go (plain b) p r = r p
-    go (enter b) p r = absurd (cons≢nil p)
-    go question p r = absurd (cons≢nil p)
-
--- taking calls out of a list without Enters and questions leaves none
-marks-parts : (b : ℕ) (P : List Call) → marks P ≡ [] → (marks (own id b P) ≡ []) × (marks (others id b P) ≡ [])
-marks-parts b [] e = (refl, refl)
-marks-parts b (ask q ∷ P) e = absurd (cons≢nil e)
-marks-parts b (key a j ∷ P) e = go (eqb j 10) (eqb a b) refl refl e (marks-parts b P)
-  where
-    go : (t u : Bool) → eqb j 10 ≡ t → eqb a b ≡ u → marks (key a j ∷ P) ≡ [] → (marks P ≡ [] → (marks (own id b P) ≡ []) × (marks (others id b P) ≡ []))
-        → (marks (own id b (key a j ∷ P)) ≡ []) × (marks (others id b (key a j ∷ P)) ≡ [])
-    go true u p q e r = absurd (cons≢nil (rw p at e))
-    go false true p q e r = rw (q, p) (r (rw p at e))
-    go false false p q e r = rw (q, p) (r (rw p at e))
 
 marks-order-from : (cs P : List Call) → marks P ≡ [] → marks (gatherFrom id P cs) ≡ marks cs
 marks-order-from [] P e = e
@@ -179,6 +156,7 @@ pub gather-regroups : (cs : List Call) → Regrouped cs (gather cs)
 gather-regroups cs = record {
   gathered = gathered-from cs [] refl;
   bench-order = λ b. bench-order b cs;
+  end-order = trailing-from cs [] refl;
   marks-order = marks-order cs;
   same-calls = λ f. weight-from f cs [] ∙ (let z : 0 + weight f cs ≡ weight f cs = omega arith in z);
 }

@@ -4,11 +4,15 @@ pub mod LineLaws
 pub mod ItemLaws
 pub mod Kept
 pub mod Simulation
+pub mod EndOrder
 pub mod Gathering
 pub mod GatherChecks
+pub mod OneRegrouping
+pub mod OwnKeys
 pub mod WorkLaws
 pub mod DeskFollows
 pub mod EntryWords
 pub mod Enters
 pub mod Demand3
+pub mod Owners
 pub mod Desk

@@ -2,7 +2,7 @@
 -- Assumes nothing.
 use Prim.Native.Nat.{ℕ, _+_}
 use mathlib.Core.Path.{_≡_}
-use mathlib.Core.Bool.{Bool, true, false}
+use mathlib.Core.Bool.{Bool, true, false, cond}
 use mathlib.Core.List.{List, [], _∷_, _++_}
 use lib.Dec.{eqb}
 use Rattle.theorem_sequences.specs.Calls.{Question, Call, key, ask}
@@ -63,7 +63,8 @@ gather cs = gatherFrom (λ c. c) [] cs
 abbrev pub gatherAnswered : {A : Type 0} → List (Call × A) → List (Call × A)
 gatherAnswered ps = gatherFrom (λ p. p .0) [] ps
 
--- ---- what `gather` is meant to be: `gather-regroups`, in proofs/GatherChecks.antt, says that it is
+-- ---- what `gather` is meant to be: `gather-regroups`, in proofs/GatherChecks.antt, says that it is, and `one-regrouping`, in proofs/OneRegrouping.antt,
+-- that nothing else is
 
 -- the Enters and questions of a sequence
 abbrev pub unlessPlain : Kind → Call → List Call → List Call
@@ -74,6 +75,20 @@ unlessPlain question c cs = c ∷ cs
 abbrev pub marks : List Call → List Call
 marks [] = []
 marks (c ∷ cs) = unlessPlain (kind c) c (marks cs)
+
+-- the trailing keys of a sequence, which are moved to the end: those other than Enter that no Enter of their bench follows
+abbrev pub isEmpty : List Call → Bool
+isEmpty [] = true
+isEmpty (c ∷ cs) = false
+
+abbrev pub ifTrailing : Kind → Call → List Call → List Call → List Call
+ifTrailing (plain b) c later rest = cond (isEmpty (own (λ c. c) b (marks later))) (c ∷ rest) rest
+ifTrailing (enter b) c later rest = rest
+ifTrailing question c later rest = rest
+
+abbrev pub trailing : List Call → List Call
+trailing [] = []
+trailing (c ∷ cs) = ifTrailing (kind c) c cs (trailing cs)
 
 -- the next call is a key of bench b
 abbrev pub nextOf : ℕ → List Call → Bool
@@ -94,8 +109,10 @@ weight f (c ∷ cs) = f c + weight f cs
 
 pub record Regrouped (cs ds : List Call) : Type 0 where
   pub gathered : Gathered ds
-  -- each bench's keys, its Enters among them, keep their order
+  -- "Keys moved to one place keep the order they had": each bench's, its Enters among them, ..
   pub bench-order : (b : ℕ) → own (λ c. c) b ds ≡ own (λ c. c) b cs
+  -- .. and those moved to the end, where keys of several benches meet
+  pub end-order : trailing ds ≡ trailing cs
   -- Enters and questions keep theirs
   pub marks-order : marks ds ≡ marks cs
   -- no call is lost and none is added

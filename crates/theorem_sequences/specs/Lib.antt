@@ -3,3 +3,4 @@ pub mod Gather
 pub mod Work
 pub mod Shaped
 pub mod Sequences
+pub mod Owner

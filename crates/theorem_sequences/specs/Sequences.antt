@@ -10,8 +10,10 @@
 -- - a desk that stores only its first entry: `items`, which asks for the last entry that names an item, and `count`;
 -- - an invented entry number: `items` and `tells`, where a number is how many entries there are up to that one, and `entries`, by which these are the
 --   Enters to which the desk gave 0;
--- - keys of benches that run together: `gathered-answers` and `gathered-state`, by which a bench's answers do not depend on the keys between its own;
--- - an entry under another bench's number, as of the first to type after a refused Enter: `entry`, and `used-log` for its record.
+-- - keys of benches that run together: `gathered-answers` and `gathered-state`, by which a bench's answers do not depend on the keys between its own, and
+--   `own-keys`, by which what a bench has typed, and with `entry` the line of each of its entries, is of its own keys and no others;
+-- - an entry under another bench's number, as of the first to type after a refused Enter: `entry`, `used-log` for its record, and `who-next` for the
+--   child who asks whose entry it is; specs/Owner.antt says the three in one sentence.
 -- Assumes nothing.
 use Prim.Native.Nat.{ℕ, _≤_}
 use mathlib.Core.Path.{_≡_}
@@ -27,8 +29,8 @@ use Rattle.desk_soundness.specs.Sound.{soundDesk}
 use Rattle.desk_soundness.specs.SoundLog.{logMost, soundLog}
 use Rattle.desk_state.specs.declared.sheet.Sheet.{Sheet}
 use Rattle.theorem_sequences.specs.Calls.{Call, key, ask, report, who, Reply, keyed, reported, told, State, freshState, step, answered, final}
-use Rattle.theorem_sequences.specs.Gather.{gather, gatherAnswered, Regrouped}
-use Rattle.theorem_sequences.specs.Work.{Entry, Work, noWork, typedBy, recordsOf, lastOf, sheetOf, accepts, whoLast, workStep}
+use Rattle.theorem_sequences.specs.Gather.{own, gather, gatherAnswered, Regrouped}
+use Rattle.theorem_sequences.specs.Work.{Entry, Work, noWork, typedBy, recordsOf, lastOf, sheetOf, accepts, textAfter, whoLast, workStep}
 
 -- an Enter of a bench that added an entry: "Its line, name and value, is what its bench had typed"
 pub record Entered (bench : ℕ) (before after : Work) : Type 0 where
@@ -54,6 +56,18 @@ abbrev pub enteredBy : {Rows : Type 0} → List ℕ → List (Call × Reply Rows
 enteredBy bs [] = bs
 enteredBy bs (p ∷ ps) = enteredBy (enteredFirst (p .0) (p .1) bs) ps
 
+-- the text t after a call, by that call and its answer
+abbrev pub textOne : {Rows : Type 0} → Call → Reply Rows → List ℕ → List ℕ
+textOne (key bench byte) (keyed a) t = textAfter a byte t
+textOne (key bench byte) (reported a rows) t = t
+textOne (key bench byte) (told x) t = t
+textOne (ask q) r t = t
+
+-- the text t after calls with their answers
+abbrev pub textOf : {Rows : Type 0} → List ℕ → List (Call × Reply Rows) → List ℕ
+textOf t [] = t
+textOf t (p ∷ ps) = textOf (textOne (p .0) (p .1) t) ps
+
 module _ {Rows : Type 0} (rowsOf : Sheet → Rows) (noRows : Rows) where
   -- the desk: each call with its answer, and what a sequence leaves
   abbrev pub deskAnswers : List ℕ → List Call → List (Call × Reply Rows)
@@ -76,6 +90,8 @@ module _ {Rows : Type 0} (rowsOf : Sheet → Rows) (noRows : Rows) where
   pub record Sequences (log : List ℕ) (cs : List Call) : Type 0 where
     -- `gather cs` is the sequence with each bench's keys moved directly before its next Enter; "Keys moved to one place keep the order they had"
     pub regrouped : Regrouped cs (gather cs)
+    -- and no other sequence is that
+    pub one-regrouping : (ds : List Call) → Regrouped cs ds → ds ≡ gather cs
     -- between the two, "Equal are each call's whole answer ..
     pub gathered-answers : deskAnswers log (gather cs) ≡ gatherAnswered (deskAnswers log cs)
     -- .. and, at the end, the whole desk, the used number and every byte of the log"
@@ -84,6 +100,9 @@ module _ {Rows : Type 0} (rowsOf : Sheet → Rows) (noRows : Rows) where
     pub answers : deskAnswers log cs ≡ workAnswers log cs
     -- each bench's line is what it has typed
     pub lines : stateAfter log cs .desk .lines ≡ map lineOf (workAfter log cs .typed)
+    -- of its own keys and no others: wherever one looks, what a bench has typed comes of that bench's calls and their answers alone
+    pub own-keys : (before after : List Call) (bench : ℕ) → cs ≡ before ++ after
+        → typedBy (workAfter log before) bench ≡ textOf [] (own (λ p. p .0) bench (deskAnswers log before))
     -- "An Enter with answer 0 is an accepted entry .. Its line, name and value, is what its bench had typed", wherever it stands in the sequence
     pub entry : (before after : List Call) (bench : ℕ) → cs ≡ before ++ (key bench 10 ∷ after) → answerAfter log before (key bench 10) ≡ keyed 0
         → Entered bench (workAfter log before) (workAfter log (before ++ (key bench 10 ∷ [])))
@@ -110,3 +129,7 @@ module _ {Rows : Type 0} (rowsOf : Sheet → Rows) (noRows : Rows) where
         → answerAfter log before (ask report) ≡ reported 0 (rowsOf (sheetOf (workAfter log before .entries)))
     pub tells : (before after : List Call) (item : ℕ) → cs ≡ before ++ (ask (who item) ∷ after)
         → answerAfter log before (ask (who item)) ≡ told (whoLast (workAfter log before .entries) item)
+    -- Who, asked next after the whole sequence, names bench and number of the last entry that names the item
+    pub who-next : (item : ℕ) → answerAfter log cs (ask (who item)) ≡ told (whoLast (workAfter log cs .entries) item)
+    -- Report, asked next, judges the sheet of all entries
+    pub report-next : answerAfter log cs (ask report) ≡ reported 0 (rowsOf (sheetOf (workAfter log cs .entries)))

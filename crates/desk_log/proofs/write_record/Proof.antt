@@ -1,13 +1,13 @@
 -- `log::write_record` meets its contract: with room, the head and then the value; else nothing.
 -- Assumes nothing.
 use native.Mathlib.Omega.{arith}
-use mathlib.Core.Path.{_∙_, ap}
+use mathlib.Core.Path.{_∙_, ap, sym}
 use mathlib.Core.List.{List}
 use Prim.Native.Nat.{ℕ}
 use denote.Ref.{now}
 use Rattle.text_copies.specs.Copy.{copied}
 use Rattle.desk_log.specs.Record.{headLength, writtenOf, freeAfter}
-use Rattle.desk_log.proofs.Records.{record-written, has-room, too-long, too-little}
+use Rattle.desk_log.proofs.Records.{record-written, free-written, has-room, too-long, too-little}
 use borrow.Author.Needs.{needs}
 use Rattle.desk_log.proofs.write_record.Statement.{statement}
 use Rattle.desk_log.proofs.write_record.Tie as tie
@@ -27,7 +27,7 @@ returns-2 c =
     (simp no, simp no)
 
 returns-3 : tie.Need-returns-3
-unfolding writtenOf freeAfter
+unfolding writtenOf
 returns-3 c =
     let p = c .before .before in
     let h = p .before .before .before .before in
@@ -35,7 +35,8 @@ returns-3 c =
     let yes = has-room (now (a .free)) (now (a .value)) (omega arith) (omega arith) in (
       simp yes,
       p .copy-in .ensures ∙ ap (λ (l : List ℕ). copied l headLength (now (a .value))) (h .put-head .ensures)
-          ∙ record-written (a .bench) (a .item) (now (a .value)) (now (a .free)) (omega arith) ∙ simp yes,
+          ∙ record-written (a .bench) (a .item) (now (a .value)) (now (a .free)) (omega arith)
+          ∙ sym (free-written (now (a .free)) (a .bench) (a .item) (now (a .value)) yes),
     )
 
 pub write-record-spec : {M : Type 1} → statement M

@@ -5,7 +5,7 @@ use denote.Ref.{now}
 use Rattle.desk_state.specs.declared.desk.Desk.{Desk}
 use Rattle.theorem_sequences.specs.Calls.{State, stateOf}
 use Rattle.desk_session.specs.Play.{played}
-use Rattle.export_sheet_file.specs.Told.{numbered, filedFrom}
+use Rattle.export_sheet_file.specs.SheetFiling.{filingOver, filedFrom}
 use borrow.Author.Needs.{needs}
 use Rattle.export_sheet_file.proofs.sheet_file.Statement.{statement}
 use Rattle.export_sheet_file.proofs.sheet_file.Tie as tie
@@ -18,7 +18,7 @@ returns c =
     let a = c .before .before .before .before .before .before .before .before .before .before .before .before .before .before .before .args in
     let start = ap (λ (d : Desk). played (stateOf d 0 (now (a .log))) (now (a .input))) (f .fresh-desk .ensures) in
     simp (c .file-number .ensures)
-    (ap (numbered (p .play-pairs .last .1 .1 .0)) (w .write-file .ensures) ∙ ap (λ (s : State). filedFrom s (now (a .name)) (now (a .out))) (p .play-pairs .ensures ∙ start))
+    (ap (filingOver (p .play-pairs .last .1 .1 .0)) (w .write-file .ensures) ∙ ap (λ (s : State). filedFrom s (now (a .name)) (now (a .out))) (p .play-pairs .ensures ∙ start))
 
 pub sheet-file-spec : {M : Type 1} → statement M
 sheet-file-spec =

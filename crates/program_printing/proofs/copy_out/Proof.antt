@@ -8,7 +8,7 @@ use denote.Ref.{now}
 use lib.ListN.{length}
 use lib.Seq.{length-take-le}
 use Rattle.text_copies.specs.Copy.{copied}
-use Rattle.program_printing.specs.Page.{pageMost, written}
+use Rattle.program_printing.specs.Page.{pageMost, pageText}
 use Rattle.program_printing.specs.Print.{printedIn}
 use Rattle.program_printing.specs.declared.Printed.the-variants.{Bytes}
 use borrow.Author.Needs.{needs}
@@ -19,14 +19,14 @@ long : (c : tie.Start) → length (c .args .p .bytes) ≡ pageMost
 long c = search needs
 
 -- the length of what is written
-size : (c : tie.Start) → length (written (c .args .p)) ≡ c .args .p .len
+size : (c : tie.Start) → length (pageText (c .args .p)) ≡ c .args .p .len
 size c = length-take-le (c .args .p .len) (c .args .p .bytes) (omega (arith, long c))
 
 returns : tie.Need-returns
 unfolding printedIn copied
 returns c =
     let s = c .before .before in
-    let no = lt-leb (length (written (s .args .p))) (length (now (s .args .out))) (omega (arith, size s)) in
+    let no = lt-leb (length (pageText (s .args .p))) (length (now (s .args .out))) (omega (arith, size s)) in
     (simp no, simp (zero-add, no))
 
 array-share-prefix-bytes : tie.Need-array-share-prefix-bytes
@@ -40,7 +40,7 @@ unfolding printedIn
 returns-2 c =
     let k = c .before .before in
     let s = k .before .before .before .before .before .before in
-    let yes = le-leb (length (written (s .args .p))) (length (now (s .args .out))) (omega (arith, size s)) in
+    let yes = le-leb (length (pageText (s .args .p))) (length (now (s .args .out))) (omega (arith, size s)) in
     (simp yes (ap Bytes (sym (size s))), k .copy-in .ensures)
 
 pub copy-out-spec : {M : Type 1} → statement M

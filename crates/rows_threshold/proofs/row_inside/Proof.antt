@@ -15,7 +15,7 @@ returns c =
     let a = c .before .before .before .before .args in
     let t = now (a .t) in
     let e : length t - a .n - a .m ≡ length t - a .m - a .n = omega arith in
-    c .row-of-multiplier .ensures ∙ ap (multiplierRow (a .step)) (c .before .read-multiplier .ensures ∙ ap (λ (k : ℕ). multiplierOf (take k (drop (a .m) t))) e)
+    c .row-of-multiplier .ensures ∙ ap (multiplierRow (a .alone)) (c .before .read-multiplier .ensures ∙ ap (λ (k : ℕ). multiplierOf (take k (drop (a .m) t))) e)
 
 pub row-inside-spec : {M : Type 1} → statement M
 row-inside-spec =

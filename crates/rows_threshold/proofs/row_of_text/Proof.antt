@@ -1,6 +1,5 @@
 -- `threshold::row_of_text` meets its contract: the first shape that the text has.
 -- Assumes nothing.
-use native.Mathlib.Omega.{arith}
 use mathlib.Core.Path.{sym, _∙_}
 use Rattle.rows_threshold.specs.Threshold.{thresholdRow}
 use Rattle.rows_threshold.proofs.Shapes.{shape-long}
@@ -9,14 +8,14 @@ use Rattle.rows_threshold.proofs.row_of_text.Statement.{statement}
 use Rattle.rows_threshold.proofs.row_of_text.Tie as tie
 
 row-inside-requires : tie.Need-row-inside-requires
-row-inside-requires c κs = (omega arith, shape-long _ _ _ (sym (c .before .has-shape .ensures) ∙ c .if1 .taken))
+row-inside-requires c κs = shape-long _ _ _ (sym (c .before .has-shape .ensures) ∙ c .if1 .taken)
 
 returns : tie.Need-returns
 unfolding thresholdRow
 returns c = let e = c .before in c .row-inside .ensures ∙ simp (sym (e .before .has-shape .ensures) ∙ e .if1 .taken)
 
 row-inside-requires-2 : tie.Need-row-inside-requires-2
-row-inside-requires-2 c κs = (omega arith, shape-long _ _ _ (sym (c .before .has-shape2 .ensures) ∙ c .if2 .taken))
+row-inside-requires-2 c κs = shape-long _ _ _ (sym (c .before .has-shape2 .ensures) ∙ c .if2 .taken)
 
 returns-2 : tie.Need-returns-2
 unfolding thresholdRow
@@ -26,7 +25,7 @@ returns-2 c =
     c .row-inside2 .ensures ∙ simp (sym (e1 .before .has-shape .ensures) ∙ e1 .if1 .left, sym (e2 .before .has-shape2 .ensures) ∙ e2 .if2 .taken)
 
 row-inside-requires-3 : tie.Need-row-inside-requires-3
-row-inside-requires-3 c κs = (omega arith, shape-long _ _ _ (sym (c .before .has-shape3 .ensures) ∙ c .if3 .taken))
+row-inside-requires-3 c κs = shape-long _ _ _ (sym (c .before .has-shape3 .ensures) ∙ c .if3 .taken)
 
 returns-3 : tie.Need-returns-3
 unfolding thresholdRow

@@ -1,7 +1,7 @@
 -- `play::result_of` meets its contract: each arm is a case of the definitions.
 -- Assumes nothing.
 use mathlib.Core.Path.{sym, ap}
-use Rattle.test_play.specs.Told.{resultOf}
+use Rattle.test_play.specs.ResultLeft.{resultOf}
 use borrow.Author.Needs.{needs}
 use Rattle.test_play.proofs.result_of.Statement.{statement}
 use Rattle.test_play.proofs.result_of.Tie as tie

@@ -1,0 +1,176 @@
+-- The test of soundness says what document 01's words say.
+-- Assumes nothing.
+use mathlib.Core.Path.{_≡_, refl, ap, subst, _∙_}
+use mathlib.Core.Bool.{Bool, true, false, cond}
+use mathlib.Core.List.{List, [], _∷_}
+use Prim.Native.Nat.{ℕ, suc, _+_, _-_, _≤_, _<_}
+use native.Mathlib.Nat.{add-zero}
+use native.Mathlib.Omega.{arith}
+use borrow.Author.Tests.{leb-true, le-leb, ltb-true, lt-ltb, eqb-true, eqb-false, eq-eqb, ne-eqb}
+use lib.Dec.{leb, ltb, eqb}
+use lib.ListN.{length, getD, drop}
+use Rattle.text.specs.Run.{all, between}
+use Rattle.text.proofs.Bools.{and-both}
+use Rattle.text.proofs.Runs.{all-replicate}
+use Rattle.line_values.specs.Value.{isValue}
+use Rattle.line_values.proofs.Values.{value-is, value-taken}
+use Rattle.line_items.specs.Items.{itemRow}
+use Rattle.line_items.specs.Typed.{lineMost, isTyped}
+use Rattle.line_kinds.specs.Kinds.{passes, fits}
+use Rattle.line_kinds.proofs.Passes.{passes-known}
+use Rattle.line_kinds.proofs.Wording.{passes-is, passes-taken}
+use Rattle.desk_state.specs.Lines.{typed}
+use Rattle.desk_state.specs.Sheets.{valueIn, noItem, itemAt}
+use Rattle.desk_state.specs.Desks.{benchCount, noLine, lineAt}
+use Rattle.desk_state.specs.declared.line.Line.{Line}
+use Rattle.desk_state.specs.declared.sheet.Item.{Item}
+use Rattle.desk_state.specs.declared.desk.Desk.{Desk}
+use Rattle.desk_soundness.specs.Sound.{every, zeros, soundLine, soundEmpty, soundFilled, soundItem, soundLines, soundSheet, soundDesk}
+use Rattle.desk_soundness.specs.Wording.{AreZero, SoundLine, EmptyItem, FilledItem, SoundItem, Sound}
+use Rattle.desk_soundness.proofs.Everys.{every-each}
+
+-- ---- zeros
+
+zeros-are : (bs : List ℕ) → zeros bs ≡ true → AreZero bs
+unfolding all between
+zeros-are [] e = refl
+zeros-are (b ∷ bs) e =
+    let h = and-both (between 0 0 b) (zeros bs) e in
+    let zero : b ≡ 0 = omega (arith, leb-true b 0 (and-both (leb 0 b) (leb b 0) (h .0) .1)) in
+    rw zero (ap (λ (l : List ℕ). 0 ∷ l) (zeros-are bs (h .1)))
+
+zeros-taken : (bs : List ℕ) → AreZero bs → zeros bs ≡ true
+unfolding between
+zeros-taken bs e = ap zeros e ∙ all-replicate (between 0 0) (length bs) 0 refl
+
+-- ---- a line
+
+line-is : (l : Line) → soundLine l ≡ true → SoundLine l
+unfolding soundLine
+line-is l e =
+    let most = and-both (leb (l .len) lineMost) _ e in
+    let bytes = and-both (all isTyped (typed l)) _ (most .1) in
+    record { most = leb-true (l .len) lineMost (most .0); bytes = bytes .0; unused = zeros-are (drop (l .len) (l .bytes)) (bytes .1) }
+
+line-taken : (l : Line) → SoundLine l → soundLine l ≡ true
+unfolding soundLine
+line-taken l h = simp (le-leb (l .len) lineMost (h .most), h .bytes, zeros-taken (drop (l .len) (l .bytes)) (h .unused))
+
+-- ---- an item
+
+empty-is : (i : Item) → i .len ≡ 0 → soundEmpty i ≡ true → EmptyItem i
+unfolding soundEmpty
+empty-is i z e =
+    let bench = and-both (eqb (i .bench) 0) _ e in
+    let entry = and-both (eqb (i .entry) 0) _ (bench .1) in
+    record { len = z; bench = eqb-true (i .bench) 0 (bench .0); entry = eqb-true (i .entry) 0 (entry .0); value = zeros-are (i .value) (entry .1) }
+
+empty-taken : (i : Item) → EmptyItem i → soundEmpty i ≡ true
+unfolding soundEmpty
+empty-taken i h = simp (eq-eqb (i .bench) 0 (h .bench), eq-eqb (i .entry) 0 (h .entry), zeros-taken (i .value) (h .value))
+
+module _ (count k : ℕ) (i : Item) where
+  filled-is : (i .len ≡ 0 → ⊥) → soundFilled count k i ≡ true → FilledItem count k i
+  unfolding soundFilled fits
+  filled-is some e =
+      let v = valueIn i in
+      let bench = and-both (ltb (i .bench) benchCount) _ e in
+      let first = and-both (leb 1 (i .entry)) _ (bench .1) in
+      let last = and-both (leb (i .entry) count) _ (first .1) in
+      let most = and-both (leb (i .len) lineMost) _ (last .1) in
+      let fit = and-both (fits k v) _ (most .1) in
+      let kind = and-both (passes k v) _ (fit .0) in
+      let form = and-both (isValue v) _ (kind .1) in
+      let bytes = and-both (all isTyped v) _ (form .1) in
+      record {
+        known = passes-known k v (kind .0) .1;
+        some = omega (arith, some);
+        most = leb-true (i .len) lineMost (most .0);
+        bench = ltb-true (i .bench) benchCount (bench .0);
+        first = leb-true 1 (i .entry) (first .0);
+        last = leb-true (i .entry) count (last .0);
+        form = value-is v (form .0);
+        bytes = bytes .0;
+        kind = passes-is k v (kind .0);
+        line = leb-true (length (itemRow k .name) + 1 + length v) lineMost (bytes .1);
+        unused = zeros-are (drop (i .len) (i .value)) (fit .1);
+      }
+
+  filled-taken : 1 ≤ k → FilledItem count k i → soundFilled count k i ≡ true
+  unfolding soundFilled fits
+  filled-taken one h =
+      let v = valueIn i in
+      simp (
+        lt-ltb (i .bench) benchCount (h .bench),
+        le-leb 1 (i .entry) (h .first),
+        le-leb (i .entry) count (h .last),
+        le-leb (i .len) lineMost (h .most),
+        passes-taken k v one (h .known) (h .kind),
+        value-taken v (h .form),
+        h .bytes,
+        le-leb (length (itemRow k .name) + 1 + length v) lineMost (h .line),
+        zeros-taken (drop (i .len) (i .value)) (h .unused),
+      )
+
+module _ (count n : ℕ) (i : Item) where
+  item-by : (b : Bool) → eqb (i .len) 0 ≡ b → cond b (soundEmpty i) (soundFilled count (n + 1) i) ≡ true → SoundItem count (n + 1) i
+  item-by true e s = SoundItem.empty (empty-is i (eqb-true (i .len) 0 e) s)
+  item-by false e s = SoundItem.filled (filled-is count (n + 1) i (eqb-false (i .len) 0 e) s)
+
+  item-is : soundItem count n i ≡ true → SoundItem count (n + 1) i
+  unfolding soundItem
+  item-is e = item-by (eqb (i .len) 0) refl e
+
+  item-taken : SoundItem count (n + 1) i → soundItem count n i ≡ true
+  unfolding soundItem
+  item-taken (SoundItem.empty h) = simp (eq-eqb (i .len) 0 (h .len), empty-taken i h)
+  item-taken (SoundItem.filled h) =
+      let m = h .some in
+      simp (ne-eqb (i .len) 0 (λ e. omega arith), filled-taken count (n + 1) i (omega arith) h)
+
+-- ---- a desk
+
+-- what is so of each element, at its place, is so of every one
+every-from : {A : Type 0} (p : ℕ → A → Bool) (s : List A) (n : ℕ) (d : A) → ((i : ℕ) → i < length s → p (n + i) (getD s i d) ≡ true) → every p n s ≡ true
+unfolding every
+every-from p [] n d h = refl
+every-from p (x ∷ xs) n d h =
+    let here : p n x ≡ true = rw (add-zero n) at (h 0 (omega arith)) in
+    let rest : every p (suc n) xs ≡ true = every-from p xs (suc n) d (λ i l. let e : n + suc i ≡ suc n + i = omega arith in rw e at (h (suc i) (omega arith))) in
+    simp (here, rest)
+
+module _ (d : Desk) where
+  lines-are : soundLines d ≡ true → (bench : ℕ) → bench < length (d .lines) → SoundLine (lineAt d bench)
+  unfolding soundLines
+  lines-are e bench l = line-is (lineAt d bench) (every-each (λ (k : ℕ) (l : Line). soundLine l) (d .lines) 0 bench noLine e l)
+
+  items-are : soundSheet (d .sheet) ≡ true → (k : ℕ) → 1 ≤ k → k ≤ length (d .sheet .items) → SoundItem (d .sheet .count) k (itemAt (d .sheet) k)
+  unfolding soundSheet
+  items-are e k one l =
+      let c = d .sheet .count in
+      let i = itemAt (d .sheet) k in
+      let first : 0 + (k - 1) ≡ k - 1 = omega arith in
+      let h = item-is c (k - 1) i (rw first at (every-each (soundItem c) (d .sheet .items) 0 (k - 1) noItem e (omega arith))) in
+      let same : k - 1 + 1 ≡ k = omega arith in
+      subst (λ (n : ℕ). SoundItem c n i) same h
+
+  -- a desk that the test takes is sound
+  pub sound-is : soundDesk d ≡ true → Sound d
+  unfolding soundDesk
+  sound-is e = let h = and-both (soundLines d) _ e in record { lines = lines-are (h .0); items = items-are (h .1) }
+
+  item-at : Sound d → (i : ℕ) → i < length (d .sheet .items) → soundItem (d .sheet .count) (0 + i) (getD (d .sheet .items) i noItem) ≡ true
+  item-at h i l =
+      let c = d .sheet .count in
+      let first : 0 + i ≡ i = omega arith in
+      let same : i + 1 - 1 ≡ i = omega arith in
+      rw first
+      (item-taken c i (getD (d .sheet .items) i noItem)
+      (subst (λ (n : ℕ). SoundItem c (i + 1) (getD (d .sheet .items) n noItem)) same (h .items (i + 1) (omega arith) (omega arith))))
+
+  -- the test takes every sound desk
+  pub sound-taken : Sound d → soundDesk d ≡ true
+  unfolding soundDesk soundLines soundSheet
+  sound-taken h =
+      let lines = every-from (λ (k : ℕ) (l : Line). soundLine l) (d .lines) 0 noLine (λ i l. line-taken (lineAt d i) (h .lines i l)) in
+      simp (lines, every-from (soundItem (d .sheet .count)) (d .sheet .items) 0 noItem (item-at h))

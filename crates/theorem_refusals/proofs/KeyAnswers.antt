@@ -1,0 +1,174 @@
+-- A key call answers by its table: each number exactly when its condition holds and none above it does, 0 exactly when none does.
+-- Assumes nothing.
+use mathlib.Core.Path.{_≡_, refl, sym, _∙_, subst⁻¹}
+use mathlib.Core.Bool.{Bool, true, false, cond, _&&_, false≢true}
+use mathlib.Core.Logic.{_↔_}
+use mathlib.Core.List.{List}
+use Prim.Native.Nat.{ℕ, _-_, _≤_}
+use native.Mathlib.Omega.{arith}
+use borrow.Author.Tests.{ltb-true, ltb-false, leb-true, leb-false, eqb-true, eqb-false, le-leb}
+use lib.Dec.{ltb, leb, eqb}
+use lib.ListN.{length, drop, length-take, List·getD-eq-default}
+use Rattle.text.specs.Run.{all, between}
+use Rattle.text.proofs.Bools.{and-both}
+use Rattle.line_items.specs.Items.{IsName}
+use Rattle.line_items.specs.Typed.{lineMost, isTyped}
+use Rattle.line_reader.specs.Line.{classOf}
+use Rattle.line_reader.specs.Wording.{IsLine}
+use Rattle.line_reader.specs.declared.line.Class.{Class}
+use Rattle.line_reader.specs.declared.line.Class.the-variants as class
+use Rattle.desk_log.specs.Record.{recordLength}
+use Rattle.desk_state.specs.Lines.{typed}
+use Rattle.desk_state.specs.Desks.{benchCount, noLine, lineAt}
+use Rattle.desk_soundness.specs.Sound.{soundDesk}
+use Rattle.desk_soundness.specs.Wording.{Sound, SoundLine}
+use Rattle.desk_soundness.proofs.Wording.{sound-is, sound-taken}
+use Rattle.desk_soundness.specs.SoundLog.{soundLog}
+use Rattle.desk_soundness.specs.Wording.{SoundWith}
+use Rattle.desk_soundness.proofs.LogWording.{log-is, log-taken}
+use Rattle.desk_state.specs.declared.line.Line.{Line}
+use Rattle.desk_state.specs.declared.desk.Desk.{Desk}
+use Rattle.desk_keys.specs.Key.{After, stored, enteredAs, keyStep, keyOf}
+use Rattle.theorem_refusals.specs.Table.{Answers, from}
+use Rattle.theorem_refusals.specs.KeyNumber.{enterNumber, byteNumber, keyNumber}
+use Rattle.theorem_refusals.specs.Key.{Appends, IsKey, appends, erases, empties, enter, keyTable, deskTable}
+use Rattle.theorem_refusals.proofs.Firsts.{First, this, next, answers, fails}
+use Rattle.theorem_refusals.proofs.Cases.{form-so, item-so, LineCase, class-case}
+
+-- a byte that is no key
+no-key : {byte : ℕ} → (Appends byte → ⊥) → (byte ≡ 8 → ⊥) → (byte ≡ 24 → ⊥) → (byte ≡ 10 → ⊥) → IsKey byte → ⊥
+no-key a e m n (appends h) = a h
+no-key a e m n (erases h) = e h
+no-key a e m n (empties h) = m h
+no-key a e m n (enter h) = n h
+
+not-typed : {byte : ℕ} → isTyped byte ≡ false → Appends byte → ⊥
+unfolding between
+not-typed {byte} e h = let s = le-leb 32 byte (h .0) in let m = le-leb byte 126 (h .1) in false≢true (sym e ∙ simp (s, m))
+
+-- a text of at most 80 bytes, all 32 to 126
+abbrev pub Fits : List ℕ → Type 0
+Fits t = (leb (length t) lineMost && all isTyped t) ≡ true
+
+module _ (Sound : Type 0) (line : List ℕ) (size unused bench byte : ℕ) where
+  -- the rows from a number on give n
+  abbrev From : ℕ → ℕ → Type 0
+  From row n = First (from row (keyTable Sound line size unused bench byte)) n
+
+  -- rows 5 to 8 are of Enter
+  no-enter : (byte ≡ 10 → ⊥) → From 5 0
+  no-enter n = next (λ h. n (h .0)) (next (λ h. n (h .0)) (next (λ h. n (h .0)) (next (λ h. n (h .0)) refl)))
+
+  -- Enter: rows 5 to 8
+  module _ (is-enter : byte ≡ 10) where
+    module _ (start : ℕ) {name : List ℕ} {item : ℕ} (parts : IsLine line name (drop start line)) (named : IsName name item) where
+      by-room : (b : Bool) → leb (recordLength (drop start line)) unused ≡ b → From 8 (cond b 0 8)
+      by-room true e = next (λ h. let l = item-so parts named (h .1) in let m = leb-true (recordLength (drop start line)) unused e in omega arith) refl
+      by-room false e =
+          let long = leb-false (recordLength (drop start line)) unused e in
+          this (is-enter, record { name = name; value = drop start line; item = item; parts = parts; named = named; so = long }) refl
+
+    by-case : {c : Class} → LineCase line c → From 5 (enterNumber c line unused)
+    by-case (LineCase.bad-form n) = this (is-enter, n) refl
+    by-case (LineCase.no-name name value parts none) =
+        next (λ h. h .1 name value parts) (this (is-enter, record { name = name; value = value; parts = parts; so = none }) refl)
+    by-case (LineCase.no-kind name value item parts named wrong) =
+        next (λ h. h .1 name value parts) (next (λ h. form-so parts {P = λ name value. (item : ℕ) → IsName name item → ⊥} (h .1) item named)
+        (this (is-enter, record { name = name; value = value; item = item; parts = parts; named = named; so = wrong }) refl))
+    by-case (LineCase.entry name item start parts named passes) =
+        next (λ h. h .1 name (drop start line) parts) (next (λ h. form-so parts {P = λ name value. (item : ℕ) → IsName name item → ⊥} (h .1) item named)
+        (next (λ h. item-so parts named (h .1) passes)
+        (by-room start parts named (leb (recordLength (drop start line)) unused) refl)))
+
+  -- rows 3 and 4
+  module _ (short : size ≤ lineMost) (fit : Fits line) where
+    by-size : Appends byte → (b : Bool) → ltb size lineMost ≡ b → From 4 (cond b 0 4)
+    by-size a true e = next (λ h. let m = ltb-true size lineMost e in omega arith) (no-enter (omega arith))
+    by-size a false e = this (a, omega (arith, ltb-false size lineMost e)) refl
+
+    by-byte : (p q r s : Bool) → isTyped byte ≡ p → eqb byte 8 ≡ q → eqb byte 24 ≡ r → eqb byte 10 ≡ s
+        → From 3 (cond p (cond (ltb size lineMost) 0 4) (cond q 0 (cond r 0 (cond s (enterNumber (classOf line) line unused) 3))))
+    unfolding between
+    by-byte true q r s e e8 e24 e10 =
+        let h = and-both (leb 32 byte) (leb byte 126) e in
+        let a : Appends byte = (leb-true 32 byte (h .0), leb-true byte 126 (h .1)) in
+        next (λ k. k (appends a)) (by-size a (ltb size lineMost) refl)
+    by-byte false true r s e e8 e24 e10 =
+        let at = eqb-true byte 8 e8 in
+        next (λ h. h (erases at)) (next (λ h. not-typed e (h .0)) (no-enter (omega arith)))
+    by-byte false false true s e e8 e24 e10 =
+        let at = eqb-true byte 24 e24 in
+        next (λ h. h (empties at)) (next (λ h. not-typed e (h .0)) (no-enter (omega arith)))
+    by-byte false false false true e e8 e24 e10 =
+        let at = eqb-true byte 10 e10 in
+        next (λ h. h (enter at)) (next (λ h. not-typed e (h .0)) (by-case at (class-case line fit)))
+    by-byte false false false false e e8 e24 e10 = this (no-key (not-typed e) (eqb-false byte 8 e8) (eqb-false byte 24 e24) (eqb-false byte 10 e10)) refl
+
+  -- rows 1 and 2
+  module _ (sound : Bool) (is-sound : (sound ≡ true) ↔ Sound) (ready : Sound → (size ≤ lineMost) × Fits line) where
+    by-sound : (b : Bool) → sound ≡ b → From 2 (cond b (byteNumber line size unused byte) 2)
+    by-sound true e =
+        let h = is-sound .0 e in
+        let k = ready h in
+        next (λ n. n h) (by-byte (k .0) (k .1) (isTyped byte) (eqb byte 8) (eqb byte 24) (eqb byte 10) refl refl refl refl)
+    by-sound false e = this (λ h. fails e (is-sound .1 h)) refl
+
+    by-bench : (b : Bool) → ltb bench benchCount ≡ b → From 1 (cond b (cond sound (byteNumber line size unused byte) 2) 1)
+    by-bench true e = next (λ n. n (ltb-true bench benchCount e)) (by-sound sound refl)
+    by-bench false e = let h = ltb-false bench benchCount e in this (λ k. omega arith) refl
+
+    -- the number by tests is the table's, whatever says that the desk is sound
+    pub number-answers : Answers (keyTable Sound line size unused bench byte) (keyNumber sound line size unused bench byte)
+    number-answers =
+        answers (keyTable Sound line size unused bench byte) (keyNumber sound line size unused bench byte) refl (by-bench (ltb bench benchCount) refl)
+
+-- ---- a key call on a desk
+
+answer-cond : (b : Bool) (x y : After) → cond b x y .answer ≡ cond b (x .answer) (y .answer)
+answer-cond true x y = refl
+answer-cond false x y = refl
+
+-- each line of a sound desk is sound; that of a bench that is not there reads as an empty one
+no-line-sound : SoundLine noLine
+unfolding all
+no-line-sound = record { most = omega arith; bytes = refl; unused = refl }
+
+line-by : (d : Desk) (bench : ℕ) (b : Bool) → ltb bench (length (d .lines)) ≡ b → Sound d → SoundLine (lineAt d bench)
+line-by d bench true e h = h .lines bench (ltb-true bench (length (d .lines)) e)
+line-by d bench false e h = subst⁻¹ SoundLine (List·getD-eq-default (d .lines) noLine (ltb-false bench (length (d .lines)) e)) no-line-sound
+
+pub line-ready : (d : Desk) (bench : ℕ) → Sound d → (lineAt d bench .len ≤ lineMost) × Fits (typed (lineAt d bench))
+line-ready d bench s =
+    let l = lineAt d bench in
+    let h = line-by d bench (ltb bench (length (d .lines))) refl s in
+    let m = h .most in
+    let few : length (typed l) ≤ lineMost = simp length-take (omega arith) in
+    (m, simp (le-leb (length (typed l)) lineMost few, h .bytes))
+
+module _ (d : Desk) (used : ℕ) (log : List ℕ) (bench byte : ℕ) where
+  abbrev l : Line
+  l = lineAt d bench
+
+  number-class : (c : Class) → enteredAs c d used log bench (typed l) .answer ≡ enterNumber c (typed l) (length log - used)
+  unfolding stored
+  number-class class.BadForm = refl
+  number-class class.UnknownName = refl
+  number-class class.WrongKind = refl
+  number-class (class.Entry item start) = answer-cond (leb (recordLength (drop start (typed l))) (length log - used)) _ _
+
+  number-is : keyOf d used log bench byte .answer ≡ keyNumber (soundDesk d && soundLog d (length log) used) (typed l) (l .len) (length log - used) bench byte
+  unfolding keyOf keyStep
+  number-is = simp (answer-cond, number-class)
+
+  sound-for : ((soundDesk d && soundLog d (length log) used) ≡ true) ↔ (Sound d × SoundWith d (length log) used)
+  sound-for = (
+    λ e. let h = and-both (soundDesk d) _ e in (sound-is d (h .0), log-is d (length log) used (h .1)),
+    λ h. simp (sound-taken d (h .0), log-taken d (length log) used (h .1)),
+  )
+
+  -- "given exactly when", "The first that applies, in this order, is the answer"
+  pub key-table : Answers (deskTable d used log bench byte) (keyOf d used log bench byte .answer)
+  key-table =
+      subst⁻¹ (Answers (deskTable d used log bench byte)) number-is
+      (number-answers (Sound d × SoundWith d (length log) used) (typed l) (l .len) (length log - used) bench byte
+      (soundDesk d && soundLog d (length log) used) sound-for (λ h. line-ready d bench (h .0)))

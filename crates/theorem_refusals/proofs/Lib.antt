@@ -1,0 +1,7 @@
+pub mod Firsts
+pub mod Cases
+pub mod LineAnswers
+pub mod KeyAnswers
+pub mod GradedAnswers
+pub mod QuestionAnswers
+pub mod FileAnswers

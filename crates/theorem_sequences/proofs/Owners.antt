@@ -1,0 +1,40 @@
+-- An accepted entry is its bench's: the claim of demand 3 says so of line, record and Who (specs/Owner.antt).
+-- Assumes nothing.
+use mathlib.Core.Path.{_≡_, refl, sym, ap, ap₂, _∙_, subst}
+use mathlib.Core.List.{List, [], _∷_, _++_}
+use Prim.Native.Nat.{ℕ, _≤_}
+use borrow.Author.Tests.{le-leb, eq-eqb}
+use lib.ListN.{length}
+use Rattle.line_items.specs.Items.{itemCount}
+use Rattle.line_reader.specs.Wording.{IsLine}
+use Rattle.desk_log.specs.Record.{recordOf}
+use Rattle.desk_state.specs.declared.sheet.Sheet.{Sheet}
+use Rattle.theorem_sequences.specs.Calls.{Call, key, keyed, told}
+use Rattle.theorem_sequences.specs.Work.{Entry, recordsOf, whoLast}
+use Rattle.theorem_sequences.specs.Sequences.{answerAfter, workAfter}
+use Rattle.theorem_sequences.specs.Owner.{entering, Owned}
+use Rattle.theorem_sequences.proofs.Demand3.{demand-3}
+
+-- of the newest entry Who tells bench and number
+who-newest : (e : Entry) (es : List Entry) → 1 ≤ e .item → e .item ≤ itemCount → whoLast (e ∷ es) (e .item) ≡ record { answer = 0; entry = length (e ∷ es); bench = e .bench }
+who-newest e es some known = rw (le-leb 1 (e .item) some, le-leb (e .item) itemCount known, eq-eqb (e .item) (e .item) refl)
+
+module _ {Rows : Type 0} (rowsOf : Sheet → Rows) (noRows : Rows) (log : List ℕ) (before : List Call) (bench : ℕ) where
+  pub entry-owned : answerAfter rowsOf noRows log before (key bench 10) ≡ keyed 0 → Owned rowsOf noRows log before bench
+  entry-owned h =
+      let old = demand-3 rowsOf noRows log before in
+      let now = demand-3 rowsOf noRows log (entering before bench) in
+      let x = now .entry before [] bench refl h in
+      let e = x .new in
+      let es = workAfter rowsOf noRows log before .entries in
+      record {
+        name = x .name;
+        value = e .value;
+        item = e .item;
+        line = subst (λ (t : List ℕ). IsLine t (x .name) (e .value)) (x .line ∙ now .own-keys before (key bench 10 ∷ []) bench refl) (x .parts);
+        named = x .item;
+        logged = now .used-log ∙ ap recordsOf (x .added) ∙ ap₂ (λ (r : List ℕ) b. r ++ recordOf b (e .item) (e .value)) (sym (old .used-log)) (x .of-bench);
+        tells = now .who-next (e .item)
+            ∙ ap told (ap (λ fs. whoLast fs (e .item)) (x .added) ∙ who-newest e es (x .item .first) (x .item .last)
+            ∙ ap₂ (λ n b. record { answer = 0; entry = n; bench = b }) (ap length (sym (x .added)) ∙ sym (now .count)) (x .of-bench));
+      }

@@ -1,0 +1,34 @@
+-- Whose entry it is, in one sentence about desk and log: an accepted entry is the work of one bench, and its log record names that bench, as Who does.
+-- It follows from the claim `Sequences`: `entry-owned`, in proofs/Owners.antt.
+-- Assumes nothing.
+use Prim.Native.Nat.{ℕ}
+use mathlib.Core.Path.{_≡_}
+use mathlib.Core.List.{List, [], _∷_, _++_}
+use lib.ListN.{take}
+use Rattle.line_items.specs.Items.{IsName}
+use Rattle.line_reader.specs.Wording.{IsLine}
+use Rattle.desk_log.specs.Record.{recordOf}
+use Rattle.desk_state.specs.declared.sheet.Sheet.{Sheet}
+use Rattle.theorem_sequences.specs.Calls.{Call, key, ask, who, told, State}
+use Rattle.theorem_sequences.specs.Gather.{own}
+use Rattle.theorem_sequences.specs.Sequences.{textOf, deskAnswers, stateAfter, answerAfter}
+
+-- the calls before, and the bench's Enter
+abbrev pub entering : List Call → ℕ → List Call
+entering before bench = before ++ (key bench 10 ∷ [])
+
+abbrev pub usedLog : State → List ℕ
+usedLog s = take (s .used) (s .log)
+
+pub record Owned {Rows : Type 0} (rowsOf : Sheet → Rows) (noRows : Rows) (log : List ℕ) (before : List Call) (bench : ℕ) : Type 0 where
+  pub name : List ℕ
+  pub value : List ℕ
+  pub item : ℕ
+  -- its line is what the bench's own keys, by their answers, have left
+  pub line : IsLine (textOf [] (own (λ p. p .0) bench (deskAnswers rowsOf noRows log before))) name value
+  pub named : IsName name item
+  -- its record is the next of the used log and names the bench
+  pub logged : usedLog (stateAfter rowsOf noRows log (entering before bench)) ≡ usedLog (stateAfter rowsOf noRows log before) ++ recordOf bench item value
+  -- Who, asked next, names the bench, and the count as the entry's number
+  pub tells : answerAfter rowsOf noRows log (entering before bench) (ask (who item))
+      ≡ told (record { answer = 0; entry = stateAfter rowsOf noRows log (entering before bench) .desk .sheet .count; bench = bench })
