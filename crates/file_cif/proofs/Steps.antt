@@ -3,17 +3,14 @@
 use mathlib.Core.Path.{_≡_, refl, sym, ap, _∙_}
 use mathlib.Core.Bool.{Bool, true, false, false≢true, cond, _&&_}
 use mathlib.Core.List.{List}
-use Prim.Native.Nat.{ℕ, _-_, _≤_, _<_}
+use Prim.Native.Nat.{ℕ, _≤_, _<_}
 use borrow.Author.Tests.{le-leb, lt-leb}
-use lib.ListN.{length, take, drop}
+use lib.ListN.{length}
 use Rattle.text.proofs.Bools.{and-both}
 use Rattle.text_copies.specs.Copy.{copied}
 use Rattle.text_copies.proofs.Copies.{copied-start}
-use Rattle.desk_state.specs.Desks.{benchCount}
-use Rattle.desk_state.specs.declared.sheet.Sheet.{Sheet}
-use Rattle.desk_memory.specs.Memory.{sheetTexts, sheetNumbers, sheetsAt, usedAt, textsLength, Sized, isDesk, sheetFrom, textsOf, numbersOf, deskOf}
-use Rattle.desk_memory.proofs.Slots.{block-lent}
-use Rattle.desk_memory.proofs.Desks.{desk-sized, sheet-of}
+use Rattle.desk_memory.specs.Memory.{Sized, isDesk, deskOf}
+use Rattle.desk_memory.proofs.Desks.{desk-sized}
 use Rattle.desk_soundness.specs.Sound.{soundDesk}
 use Rattle.desk_soundness.specs.SoundMemory.{soundMemory}
 use Rattle.file_block_name.specs.Block.{isBlockName}
@@ -36,17 +33,6 @@ one-test true false x y e = refl
 one-test false b x y e = refl
 
 module _ (t n : List ℕ) where
-  -- the sheet that the memory holds
-  abbrev pub sheetIn : Sheet
-  sheetIn = sheetFrom (textsOf t 0) (numbersOf n 0)
-
-  -- the blocks as they are lent
-  pub sheet-lent : sheetFrom (take (textsLength - sheetsAt) (drop sheetsAt t)) (take (usedAt - benchCount) (drop benchCount n)) ≡ sheetIn
-  sheet-lent =
-      let x : take (textsLength - sheetsAt) (drop sheetsAt t) ≡ textsOf t 0 = block-lent sheetTexts t 0 sheetsAt sheetsAt textsLength refl refl in
-      let y : take (usedAt - benchCount) (drop benchCount n) ≡ numbersOf n 0 = block-lent sheetNumbers n 0 benchCount benchCount usedAt refl refl in
-      ap (λ (l : List ℕ). sheetFrom l (take (usedAt - benchCount) (drop benchCount n))) x ∙ ap (sheetFrom (textsOf t 0)) y
-
   pub sound-sized : soundMemory t n ≡ true → Sized t n
   unfolding soundMemory
   sound-sized s = desk-sized t n (and-both (isDesk t n) (soundDesk (deskOf t n)) s .0)
@@ -59,21 +45,21 @@ module _ (t n name out : List ℕ) (r : Filed) where
       ∙ sym (one-test (isDesk t n) (soundDesk (deskOf t n)) (cond (isBlockName name) (fileWithin (fileOf name (deskOf t n .sheet)) out) (noFile 11 out)) (noFile 2 out) s)
 
   module _ (s : soundMemory t n ≡ true) where
-    sound-step : fileLent t n name out ≡ cond (isBlockName name) (fileWithin (fileOf name (sheetIn t n)) out) (noFile 11 out)
+    sound-step : fileLent t n name out ≡ cond (isBlockName name) (fileWithin (fileOf name (deskOf t n .sheet)) out) (noFile 11 out)
     unfolding soundMemory fileLent fileStep
-    sound-step = let b = and-both (isDesk t n) (soundDesk (deskOf t n)) s in simp (b .0, b .1, sheet-of t n)
+    sound-step = let b = and-both (isDesk t n) (soundDesk (deskOf t n)) s in simp (b .0, b .1)
 
     pub step-bad-name : isBlockName name ≡ false → (r .answer ≡ BadBlockName) × (r .count ≡ 0) → filingOf r out ≡ fileLent t n name out
     step-bad-name b e = no-file r BadBlockName out e ∙ sym (sound-step ∙ simp b)
 
     module _ (b : isBlockName name ≡ true) where
-      pub step-no-room : length out < length (fileOf name (sheetIn t n)) → (r .answer ≡ NoRoom) × (r .count ≡ 0) → filingOf r out ≡ fileLent t n name out
-      step-no-room h e = no-file r NoRoom out e ∙ sym (sound-step ∙ simp (b, lt-leb (length (fileOf name (sheetIn t n))) (length out) h))
+      pub step-no-room : length out < length (fileOf name (deskOf t n .sheet)) → (r .answer ≡ NoRoom) × (r .count ≡ 0) → filingOf r out ≡ fileLent t n name out
+      step-no-room h e = no-file r NoRoom out e ∙ sym (sound-step ∙ simp (b, lt-leb (length (fileOf name (deskOf t n .sheet))) (length out) h))
 
-      pub step-written : {last : List ℕ} → length (fileOf name (sheetIn t n)) ≤ length out → last ≡ copied out 0 (fileOf name (sheetIn t n)) → r .answer ≡ Written
-          → r .count ≡ length (fileOf name (sheetIn t n)) → filingOf r last ≡ fileLent t n name out
+      pub step-written : {last : List ℕ} → length (fileOf name (deskOf t n .sheet)) ≤ length out → last ≡ copied out 0 (fileOf name (deskOf t n .sheet)) → r .answer ≡ Written
+          → r .count ≡ length (fileOf name (deskOf t n .sheet)) → filingOf r last ≡ fileLent t n name out
       step-written {last} h e a m =
-          let file = fileOf name (sheetIn t n) in
+          let file = fileOf name (deskOf t n .sheet) in
           let bytes = e ∙ copied-start out file h in
           ap (λ (x : FileAnswer). record { answer = fileNumber x; count = r .count; out = last }) a
           ∙ ap (λ (k : ℕ). record { answer = 0; count = k; out = last }) m

@@ -11,13 +11,14 @@ use lib.ListN.{length}
 use Rattle.text_copies.specs.Copy.{copied}
 use Rattle.text_copies.specs.Each.{linesFrom}
 use Rattle.desk_state.specs.declared.sheet.Sheet.{Sheet}
-use Rattle.desk_memory.specs.Memory.{Sized}
+use Rattle.desk_memory.specs.Memory.{Sized, deskOf}
+use Rattle.desk_memory.proofs.Desks.{sheet-lent}
 use Rattle.desk_soundness.specs.SoundMemory.{soundMemory}
 use Rattle.file_block_name.specs.Block.{isBlockName}
 use Rattle.file_block_name.proofs.Blocks.{block-short}
 use Rattle.file_cif.specs.File.{itemLine, fileOf}
 use Rattle.file_cif.proofs.Files.{file-length}
-use Rattle.file_cif.proofs.Steps.{sheetIn, sheet-lent, sound-sized, step-unsound, step-bad-name, step-no-room, step-written}
+use Rattle.file_cif.proofs.Steps.{sound-sized, step-unsound, step-bad-name, step-no-room, step-written}
 use Rattle.file_cif.proofs.file.write_file.Statement.{statement}
 use Rattle.file_cif.proofs.file.write_file.Tie as tie
 
@@ -59,12 +60,12 @@ add-count-2 c = let e = c .before .before .before in omega (arith, block-short (
 -- the count is the file's length
 count : (l : tie.After-lines-length)
     → let a = l .before .before .before .before .before .before .before .before .before .before .before .args in
-    6 + length (now (a .name)) + l .lines-length .result ≡ length (fileOf (now (a .name)) (sheetIn (now (a .texts)) (now (a .numbers))))
+    6 + length (now (a .name)) + l .lines-length .result ≡ length (fileOf (now (a .name)) (deskOf (now (a .texts)) (now (a .numbers)) .sheet))
 count l =
     let a = l .before .before .before .before .before .before .before .before .before .before .before .args in
     let t = now (a .texts) in
     let n = now (a .numbers) in
-    omega (arith, file-length (now (a .name)) (sheetIn t n), l .lines-length .ensures .0, ap (λ (s : Sheet). length (linesFrom itemLine 1 (s .items))) (sheet-lent t n))
+    omega (arith, file-length (now (a .name)) (deskOf t n .sheet), l .lines-length .ensures .0, ap (λ (s : Sheet). length (linesFrom itemLine 1 (s .items))) (sheet-lent t n))
 
 returns-3 : tie.Need-returns-3
 returns-3 c =
