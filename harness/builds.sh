@@ -11,7 +11,7 @@ case "$*" in
     *) echo "usage: harness/builds.sh [--long]" >&2; exit 2 ;;
 esac
 . "$(dirname "$0")/checks.sh"
-need "$desk" "$sheet_cif"
+need "$desk"
 kit=${RATTLE_HOME:-/opt/rattle}
 own=$kit/on/$(uname -m)
 archives=(export_wall test_probe test_probe_rows test_probe_keys test_play test_probe_file)

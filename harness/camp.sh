@@ -217,7 +217,7 @@ cif() {
         tail -n +2 $sessions/$name.cif | typed 2 >"$work/typed"
         prints "camp cif: $name typed back" $sessions/$name.cif "$work/typed" "$camp" cif camp-1
     done
-    summary "camp cif: 300 generated inputs" "$harness" cif-runs "$camp" cif 15 300
+    summary "camp cif: 300 generated inputs" "$harness" cif-runs "$camp" 15 300
     for word in '' "$long" camp_1 'camp 1' camp/1 data_ .; do
         fails "cif: block name $(printf %q "$word")" "block name '$word': 11, not 1 to 32 letters, digits or -" "$camp" cif "$word" <$first.in
     done

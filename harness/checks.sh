@@ -3,7 +3,6 @@ cd "$(dirname "${BASH_SOURCE[0]}")/.." || exit 2
 harness=$PWD/build/cargo/release/harness
 client=$PWD/build/wall_screen
 desk=$PWD/target/bin/desk
-sheet_cif=$PWD/target/bin/sheet_cif
 camp=$PWD/target/bin/camp
 
 # need PROGRAM..: ends the run where one is not built.

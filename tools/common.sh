@@ -114,11 +114,6 @@ build_client() {
     compile client/wall_screen.c export_wall build/wall_screen
 }
 
-# The program sheet_cif, the C client of the library sheet_file, in target/bin.
-build_sheet_cif() {
-    build_archive export_sheet_file && compile client/sheet_cif.c export_sheet_file target/bin/sheet_cif
-}
-
 # The program camp, the C client of the library export_desk, in target/bin.
 build_camp() {
     build_archive export_desk || return 1

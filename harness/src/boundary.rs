@@ -157,5 +157,5 @@ pub fn print() {
     print_layout!("probe_key_result", KeyResult, desk, used, answer);
     print_layout!("play_result", PlayResult, written, answer);
     print_layout!("probe_filed", Filed, count, answer);
-    print_layout!("sheet_filed", Filed, count, answer);
+    print_layout!("desk_filed", Filed, count, answer);
 }

@@ -1,4 +1,4 @@
-//! The programs `desk`, `sheet_cif` and `camp cif` run on generated inputs, their outputs held equal to the
+//! The programs `desk` and `camp cif` run on generated inputs, their outputs held equal to the
 //! reference's.
 
 use crate::files::Files;
@@ -21,18 +21,15 @@ pub fn run(path: &Path, seed: u64, count: u64) -> (usize, usize) {
     each(seed, count, |input, _| printed(output(path, &[], input), program(input).as_bytes()))
 }
 
-/// Runs the program `sheet_cif`, or a command of `camp`, on generated inputs and block names.
-pub fn run_cif(path: &Path, command: Option<&str>, seed: u64, count: u64) -> (usize, usize) {
-    let name = path.file_name().unwrap_or_default().to_string_lossy();
+/// Runs the command `cif` of the program `camp` on generated inputs and block names.
+pub fn run_cif(path: &Path, seed: u64, count: u64) -> (usize, usize) {
     each(seed, count, |input, seed| {
         let mut block = Files::new(seed).block();
         block.retain(|&byte| byte != 0); // no argument holds one
-        let mut arguments: Vec<&[u8]> = command.iter().map(|command| command.as_bytes()).collect();
-        arguments.push(&block);
-        let output = output(path, &arguments, input);
+        let output = output(path, &[b"cif", &block], input);
         match cif_program(input, &block) {
             Some(file) => printed(output, &file),
-            None => refused(output, &name),
+            None => refused(output),
         }
     })
 }
@@ -73,17 +70,15 @@ fn printed(run: IoResult<Output>, expected: &[u8]) -> Option<String> {
     }
 }
 
-/// What is wrong with a run that must refuse: one line on standard error alone, after the program's
-/// name.
-fn refused(run: IoResult<Output>, name: &str) -> Option<String> {
+/// What is wrong with a run that must refuse: one line on standard error alone.
+fn refused(run: IoResult<Output>) -> Option<String> {
     match run {
         Err(fault) => Some(fault.to_string()),
         Ok(Output { status, .. }) if status.code() != Some(REFUSED) => Some(status.to_string()),
         Ok(Output { stdout, .. }) if !stdout.is_empty() => Some(format!("wrote {}", text(&stdout))),
         Ok(Output { stderr, .. }) => {
             let said = text(&stderr);
-            let begins = said.starts_with(&format!("{name}: "));
-            let one_line = begins && said.find('\n') == Some(said.len() - 1);
+            let one_line = said.starts_with("camp: ") && said.find('\n') == Some(said.len() - 1);
             (!one_line).then(|| format!("said {said}"))
         }
     }

@@ -1,4 +1,4 @@
-//! Sessions of the programs `desk` and `sheet_cif` by readable scripts, and what each must print.
+//! Sessions of the programs `desk` and `camp cif` by readable scripts, and what each must print.
 
 use crate::by_reference::told;
 use crate::tally::Tally;
@@ -305,7 +305,7 @@ fn not_judgeable() -> Vec<u8> {
 /// The block name of the sessions' files.
 const BLOCK: &[u8] = b"camp-1";
 
-/// A session with what `desk` prints for it, and the file that `sheet_cif` writes with the block
+/// A session with what `desk` prints for it, and the file that `camp cif` writes with the block
 /// name camp-1.
 #[derive(PartialEq, Eq)]
 pub struct Session {

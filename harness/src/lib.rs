@@ -56,12 +56,10 @@ const USAGE: &str = "usage: harness MODE
   count WORKLOAD PROGRAM INPUTS   one round of a workload by one program, proved or reference, in the
                                   function counted_round; prints the number of inputs
   layout                          sizes and offsets of the boundary's structs
-  desk-sessions FOLDER            write the sessions of the programs desk and sheet_cif, NAME.in, and
+  desk-sessions FOLDER            write the sessions of the programs desk and camp cif, NAME.in, and
                                   what they must print for each, NAME.out and NAME.cif
   desk-runs PROGRAM SEED COUNT    run the program desk on generated inputs
-  cif-runs PROGRAM SEED COUNT     run the program sheet_cif on generated inputs and block names
-  cif-runs PROGRAM COMMAND SEED COUNT
-                                  run that command of the program camp on them
+  cif-runs PROGRAM SEED COUNT     run the program's command cif on generated inputs and block names
   desk-input SEED                 write one such input
   frames FOLDER, frames SEED COUNT FOLDER, example-frames FOLDER
                                   write calls for a program that reads them, fixed ones, generated ones or
@@ -72,7 +70,7 @@ const USAGE: &str = "usage: harness MODE
   trace-commands SEED COUNT       write generated trace commands
   client-lines SEED COUNT         write generated lines
   client-values SEED COUNT        write generated values
-  desk-answers, cif-answers BLOCK what the programs desk and sheet_cif must print for the input
+  desk-answers, cif-answers BLOCK what desk and camp cif must print for the input
   client-answers [ROW]            what the client must print for the input
 ";
 const FIXED_SEED: u64 = 20_000_609;
@@ -133,11 +131,7 @@ fn run(words: &[&str]) -> Outcome {
         }
         ["cif-runs", program, seed, count] => {
             let (seed, count) = (number(3, seed)?, number(4, count)?);
-            Ok(counted(desk_runs::run_cif(Path::new(program), None, seed, count)))
-        }
-        ["cif-runs", program, command, seed, count] => {
-            let (seed, count) = (number(4, seed)?, number(5, count)?);
-            Ok(counted(desk_runs::run_cif(Path::new(program), Some(command), seed, count)))
+            Ok(counted(desk_runs::run_cif(Path::new(program), seed, count)))
         }
         ["desk-input", seed] => {
             let input = Sequences::new(number(2, seed)?).desk_input();

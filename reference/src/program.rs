@@ -1,5 +1,5 @@
 //! The program `desk` and its printed form: document 01, the end of "Measured examples"; and the
-//! file that the program `sheet_cif` writes of the same input, by document 02, request No. 1.
+//! file that `camp cif` writes of the same input, by document 02, request No. 1.
 
 use crate::cif_file::{file, is_block_name};
 use crate::desk::{key, report, Desk, FRESH};
@@ -18,7 +18,7 @@ pub fn program(input: &[u8]) -> String {
     print_report(&played(input))
 }
 
-/// What the program `sheet_cif` writes for its standard input; none for a bad block name.
+/// What `camp cif` writes for its standard input; none for a bad block name.
 pub fn cif_program(input: &[u8], block: &[u8]) -> Option<Vec<u8>> {
     is_block_name(block).then(|| file(&played(input), block))
 }

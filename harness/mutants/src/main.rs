@@ -1,5 +1,5 @@
 //! Compares the proved library with mutants of the reference: `mutants COUNT NUMBER..`. First on a few
-//! generated inputs, then what the programs `desk` and `sheet_cif` write is held to the sessions, then
+//! generated inputs, then what the programs `desk` and `camp cif` write is held to the sessions, then
 //! the whole comparison follows, with so many lines; with a COUNT of 0 it is left out. Prints for each
 //! number whether the mutant is found, and by what.
 
