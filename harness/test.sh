@@ -52,6 +52,15 @@ uint8_t ask(const uint8_t *text, const size_t *numbers, probe_desk desk, uint8_t
     fi
 }
 
+# The program in docs/LINKING.md prints what stands below it.
+linking() {
+    local archive=${PROVED_LIBS:-target/staticlib}/libexport_desk.a
+    awk '/^    #include/ { on = 1 } /^[^ ]/ { on = 0 } on' docs/LINKING.md | sed 's/^    //' >"$work/linking.c"
+    awk '/^It prints/ { on = 1; next } on && /^[^ ]/ { exit } on && NF' docs/LINKING.md | sed 's/^    //' >"$work/linking.out"
+    compiles "LINKING: the program without warnings" gcc -std=c11 -O2 "${warnings[@]}" -Iinclude "$work/linking.c" "$archive" -o "$work/linking"
+    prints "LINKING: the program prints what is told" "$work/linking.out" /dev/null "$work/linking"
+}
+
 layout() {
     compiles "layout program" gcc -std=c11 "${warnings[@]}" -Iinclude -Iharness harness/layout.c -o "$work/layout"
     "$work/layout" >"$work/want"
@@ -366,6 +375,7 @@ comparison() {
 }
 
 headers
+linking
 layout
 runs "client: sample" 0 "$(cat client/sample.out)"$'\n' '' "$client" <client/sample.txt
 client_arguments
