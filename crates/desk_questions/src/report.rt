@@ -2,8 +2,8 @@
 ghost use mathlib.Core.Path.{_≡_};
 ghost use Rattle.desk_questions.specs.Report.{reportIn, reportedOf};
 use desk_answers::Asked;
-use rows::Rows;
 use desk_state::desk::Desk;
+use rows::Rows;
 
 // The answer and the rows.
 pub struct Reported {
@@ -23,7 +23,7 @@ pub fn report(d: Desk) -> Reported
         };
     }
     let sheet = d.sheet;
-    let rows = rows_sheet::sheet_rows::sheet_rows(sheet);
+    let rows = rows_sheet::by_value::sheet_rows(sheet);
     Reported {
         answer: Asked::Answered,
         rows,

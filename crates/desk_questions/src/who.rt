@@ -3,10 +3,10 @@ ghost use mathlib.Core.Path.{_≡_};
 ghost use Rattle.desk_questions.specs.Who.{whoIn, nobody, toldOf, whoOf};
 ghost use Rattle.desk_answers.specs.Number.{askedNumber};
 use desk_answers::Asked;
-use line_items::ITEM_COUNT;
 use desk_state::desk::Desk;
 use desk_state::desk::NO_BENCH;
 use desk_state::sheet::Item;
+use line_items::ITEM_COUNT;
 
 // The answer, the number of the item's last entry, and its bench.
 pub struct Told {
