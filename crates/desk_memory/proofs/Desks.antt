@@ -3,11 +3,11 @@
 use mathlib.Core.Path.{_≡_, refl, sym, ap, _∙_}
 use mathlib.Core.Bool.{true}
 use mathlib.Core.List.{List}
-use Prim.Native.Nat.{ℕ, _+_, _*_, _<_}
+use Prim.Native.Nat.{ℕ, _+_, _*_, _-_, _<_}
 use native.Mathlib.Omega.{arith}
 use borrow.Author.Tests.{eq-eqb, eqb-true}
 use lib.Dec.{eqb}
-use lib.ListN.{length, getD, drop, set, replicate}
+use lib.ListN.{length, getD, take, drop, set, replicate}
 use Rattle.text.proofs.Bools.{and-both}
 use Rattle.line_items.specs.Typed.{lineMost}
 use Rattle.line_items.specs.Items.{itemCount}
@@ -15,8 +15,8 @@ use Rattle.desk_state.specs.Sheets.{noItem}
 use Rattle.desk_state.specs.Desks.{benchCount, noLine, lineAt, withLine, freshDesk}
 use Rattle.desk_state.specs.declared.line.Line.{Line}
 use Rattle.desk_state.specs.declared.sheet.Sheet.{Sheet}
-use Rattle.desk_memory.specs.Memory.{itemNumbers, countAt, sheetsAt, textsLength, numbersLength, Sized, isDesk, slot, each, lineIn, itemIn, sheetFrom, textsOf, numbersOf, deskOf, usedOf}
-use Rattle.desk_memory.proofs.Slots.{slot-after, slot-within}
+use Rattle.desk_memory.specs.Memory.{itemNumbers, countAt, sheetNumbers, sheetTexts, sheetsAt, usedAt, textsLength, numbersLength, Sized, isDesk, slot, each, lineIn, itemIn, sheetFrom, textsOf, numbersOf, deskOf, usedOf}
+use Rattle.desk_memory.proofs.Slots.{block-lent, slot-after, slot-within}
 use Rattle.desk_memory.proofs.Eachs.{each-length, each-at, each-same, each-set}
 
 -- memory of zeros is a fresh desk
@@ -48,6 +48,13 @@ module _ (t n : List ℕ) where
   pub sheet-of : deskOf t n .sheet ≡ sheetFrom (textsOf t 0) (numbersOf n 0)
   unfolding deskOf
   sheet-of = refl
+
+  -- the sheet of a desk, of its block as it is lent
+  pub sheet-lent : sheetFrom (take (textsLength - sheetsAt) (drop sheetsAt t)) (take (usedAt - benchCount) (drop benchCount n)) ≡ deskOf t n .sheet
+  sheet-lent =
+      let x : take (textsLength - sheetsAt) (drop sheetsAt t) ≡ textsOf t 0 = block-lent sheetTexts t 0 sheetsAt sheetsAt textsLength refl refl in
+      let y : take (usedAt - benchCount) (drop benchCount n) ≡ numbersOf n 0 = block-lent sheetNumbers n 0 benchCount benchCount usedAt refl refl in
+      ap (λ (l : List ℕ). sheetFrom l (take (usedAt - benchCount) (drop benchCount n))) x ∙ ap (sheetFrom (textsOf t 0)) y ∙ sym sheet-of
 
   -- of a sheet's block
   pub items-long : length (sheetFrom t n .items) ≡ itemCount

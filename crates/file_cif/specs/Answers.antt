@@ -7,6 +7,7 @@ use lib.Dec.{leb}
 use lib.ListN.{length, drop}
 use Rattle.desk_soundness.specs.Sound.{soundDesk}
 use Rattle.desk_state.specs.declared.desk.Desk.{Desk}
+use Rattle.desk_memory.specs.Memory.{isDesk, deskOf}
 use Rattle.file_block_name.specs.Block.{isBlockName}
 use Rattle.file_cif.specs.File.{fileOf}
 use Rattle.file_answers.specs.Number.{fileNumber}
@@ -38,3 +39,7 @@ fileWithin file out = cond (leb (length file) (length out)) (wholeFile file out)
 unfoldable pub fileStep : Desk → List ℕ → List ℕ → Filing
 fileStep d name out =
     cond (soundDesk d) (cond (isBlockName name) (fileWithin (fileOf name (d .sheet)) out) (noFile 11 out)) (noFile 2 out)
+
+-- the same of the desk in lent memory; memory that is no desk is unsound
+unfoldable pub fileLent : List ℕ → List ℕ → List ℕ → List ℕ → Filing
+fileLent t n name out = cond (isDesk t n) (fileStep (deskOf t n) name out) (noFile 2 out)
