@@ -26,6 +26,6 @@ pub extern "C" fn sheet_file(
     let answer = filed.answer;
     SheetFiled {
         count: filed.count,
-        answer: file_answers::file_number(answer),
+        answer: desk_answers::file_number(answer),
     }
 }

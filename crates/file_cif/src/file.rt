@@ -9,11 +9,11 @@ ghost use Rattle.desk_state.specs.Sheets.{valueIn};
 ghost use Rattle.file_cif.specs.File.{ended, itemText, itemLine, fileOf};
 ghost use Rattle.file_cif.specs.Answers.{filingOf, fileStep};
 use crate::length::lines_length;
+use desk_answers::FileAnswer;
 use desk_state::desk::Desk;
 use desk_state::sheet::Item;
 use desk_state::sheet::Sheet;
 use desk_state::sheet::value_length;
-use file_answers::FileAnswer;
 use line_items::ITEM_COUNT;
 
 // The answer, and how many bytes were written.

@@ -19,6 +19,6 @@ pub extern "C" fn probe_file(d: Desk, name: &[u8], out: &mut [u8]) -> ProbeFiled
     let answer = filed.answer;
     ProbeFiled {
         count: filed.count,
-        answer: file_answers::file_number(answer),
+        answer: desk_answers::file_number(answer),
     }
 }
