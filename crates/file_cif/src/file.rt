@@ -14,7 +14,7 @@ use desk_memory::SHEETS_AT;
 use desk_memory::TEXTS;
 use desk_memory::USED_AT;
 use desk_state::desk::BENCH_COUNT;
-use file_answers::FileAnswer;
+use desk_answers::FileAnswer;
 use line_items::ITEM_COUNT;
 
 // The answer, and how many bytes were written.

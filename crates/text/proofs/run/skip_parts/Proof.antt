@@ -1,4 +1,4 @@
--- `runs::skip_parts` meets its contract. The loop's invariant: the parts passed have no byte x.
+-- `text::run::skip_parts` meets its contract. The loop's invariant: the parts passed have no byte x.
 -- The measure is what is left of the text. Assumes nothing.
 use native.Mathlib.Omega.{arith}
 use mathlib.Core.Path.{_≡_, sym, ap, _∙_}
@@ -8,10 +8,10 @@ use borrow.Author.Needs.{needs}
 use borrow.Author.Tests.{not-false}
 use denote.Ref.{now}
 use lib.ListN.{length, take, drop}
 use Rattle.text.specs.Run.{all, other}
-use Rattle.text_runs.proofs.Passes.{all-further, all-none}
-use Rattle.text_runs.proofs.skip_parts.Statement.{statement}
-use Rattle.text_runs.proofs.skip_parts.Tie as tie
+use Rattle.text.proofs.Passes.{all-further, all-none}
+use Rattle.text.proofs.run.skip_parts.Statement.{statement}
+use Rattle.text.proofs.run.skip_parts.Tie as tie
 
 abbrev Inv-loop : tie.InvT-loop
 Inv-loop s x i₀ i = (all (other x) (take i s) ≡ true) × (i ≤ length s)

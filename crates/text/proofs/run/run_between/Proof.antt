@@ -1,13 +1,13 @@
--- `runs::run_between` meets its contract. The loop's invariant: the bytes passed are of the kind, so the run is i and the run from i.
+-- `text::run::run_between` meets its contract. The loop's invariant: the bytes passed are of the kind, so the run is i and the run from i.
 -- The measure is what is left of the text. Assumes nothing.
 use native.Mathlib.Omega.{arith}
 use Prim.Native.Nat.{_-_}
 use borrow.Author.Tests.{le-leb, lt-leb}
 use lib.ListN.{length}
 use Rattle.text.specs.Run.{between}
 use Rattle.text.proofs.Runs.{Passed, start, more, stop, end}
-use Rattle.text_runs.proofs.run_between.Statement.{statement}
-use Rattle.text_runs.proofs.run_between.Tie as tie
+use Rattle.text.proofs.run.run_between.Statement.{statement}
+use Rattle.text.proofs.run.run_between.Tie as tie
 
 abbrev Inv-loop : tie.InvT-loop
 Inv-loop s lo hi i₀ i = Passed (between lo hi) s i

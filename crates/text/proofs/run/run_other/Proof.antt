@@ -1,15 +1,15 @@
--- `runs::run_other` meets its contract. The loop's invariant: the bytes passed are other than x, so the run is i and the run from i.
+-- `text::run::run_other` meets its contract. The loop's invariant: the bytes passed are other than x, so the run is i and the run from i.
 -- The measure is what is left of the text. Assumes nothing.
 use native.Mathlib.Omega.{arith}
 use Prim.Native.Nat.{_-_}
 use borrow.Author.Needs.{needs}
 use borrow.Author.Tests.{eq-eqb, ne-eqb}
 use lib.ListN.{length}
 use Rattle.text.specs.Run.{other}
 use Rattle.text.proofs.Runs.{Passed, more, stop, end}
-use Rattle.text_runs.proofs.Passes.{passed-first}
-use Rattle.text_runs.proofs.run_other.Statement.{statement}
-use Rattle.text_runs.proofs.run_other.Tie as tie
+use Rattle.text.proofs.Passes.{passed-first}
+use Rattle.text.proofs.run.run_other.Statement.{statement}
+use Rattle.text.proofs.run.run_other.Tie as tie
 
 abbrev Inv-loop : tie.InvT-loop
 Inv-loop s x i₀ i = Passed (other x) s i

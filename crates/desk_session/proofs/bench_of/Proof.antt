@@ -1,11 +1,11 @@
--- `session::play::bench_of` meets its contract: the two tests are those of a bench digit.
+-- `desk_session::bench_of` meets its contract: the two tests are those of a bench digit.
 -- Assumes nothing.
 use Rattle.text.specs.Run.{between}
 use Rattle.desk_session.specs.Play.{benchOf}
 use borrow.Author.Tests.{le-leb, lt-leb}
 use borrow.Author.Needs.{needs}
-use Rattle.desk_session.proofs.play.bench_of.Statement.{statement}
-use Rattle.desk_session.proofs.play.bench_of.Tie as tie
+use Rattle.desk_session.proofs.bench_of.Statement.{statement}
+use Rattle.desk_session.proofs.bench_of.Tie as tie
 
 returns : tie.Need-returns
 unfolding benchOf between

@@ -1,10 +1,10 @@
 // Runs of bytes that a text begins with. No rule of document 01 is here.
-// A client cites Run of crates/text (runOf, between, other).
+// A client cites Run (runOf, between, other).
 ghost use mathlib.Core.Path.{_≡_};
 ghost use Prim.Native.Nat.{_≤_};
 ghost use mathlib.Core.Bool.{true};
 ghost use lib.ListN.{length, take};
 ghost use Rattle.text.specs.Run.{runOf, all, between, other};
 
 // The bytes that a search passes over at once.
 const PART: usize = 8;
@@ -33,7 +33,7 @@ fn skip_parts(s: &[u8], x: u8) -> usize
 {
     let mut i = 0;
     while PART <= s.len() - i {
-        if !text::lacks(&s[i..i + PART], x) {
+        if !crate::lacks(&s[i..i + PART], x) {
             return i;
         }
         i += PART;
