@@ -1,0 +1,3 @@
+pub mod Shapes
+pub mod Follows
+pub mod Kept
