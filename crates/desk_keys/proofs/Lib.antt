@@ -1,1 +1,5 @@
 pub mod Keys
+pub mod Stores
+pub mod Cases
+pub mod Calls
+pub mod Refusals

@@ -19,7 +19,7 @@ use Rattle.desk_state.specs.declared.line.Line.{Line}
 use Rattle.desk_state.specs.declared.sheet.Sheet.{Sheet}
 use Rattle.desk_state.specs.declared.desk.Desk.{Desk}
 use Rattle.desk_answers.specs.Number.{answerNumber}
-use Rattle.desk_keys.specs.declared.key.Keyed.{Keyed}
+use Rattle.desk_keys.specs.declared.by_value.Keyed.{Keyed}
 
 -- everything that a key call leaves; the answer is its number
 pub record After : Type 0 where

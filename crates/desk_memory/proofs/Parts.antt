@@ -3,10 +3,10 @@
 use mathlib.Core.Path.{_≡_, refl, sym, ap, _∙_}
 use mathlib.Core.List.{List, [], _∷_, _++_, append-assoc}
 use Prim.Native.Nat.{ℕ, zero, suc, _+_, _-_, _≤_, _<_}
-use native.Mathlib.Nat.{zero-add, le-of-suc-le-suc}
 use native.Mathlib.Omega.{arith}
 use lib.ListN.{length, getD, take, drop, set, length-append, length-drop, take-append-drop, List·getD-append}
-use lib.Seq.{take-set-le, drop-set-lt, take-set-lt, drop-set-add, length-take-le, take-append-le, drop-append-le, drop-append-add, take-at, drop-at, drop-drop, take-take}
+use lib.Seq.{take-set-le, drop-set-lt, take-set-lt, drop-set-add, length-take-le, take-append-le, drop-append-le, drop-append-add, take-at, drop-at, drop-drop, take-take, getD-take, getD-drop}
+use borrow.Rule.Slice.PartMut.{putMid, postOf, drop-put}
 use Rattle.text_copies.specs.Copy.{copied}
 use Rattle.text_copies.proofs.Copies.{copied-fits}
 
@@ -61,3 +61,19 @@ module _ (t : List ℕ) (a m p : ℕ) where
         ap (λ (n : ℕ). take m (drop n (copied t p v))) e ∙ ap (λ (r : List ℕ). take m (drop p r)) (copied-fits t p v w)
         ∙ ap (take m) (drop-at (take p t) (v ++ drop (p + length v) t) p (length-take-le p t (omega arith)))
         ∙ take-at v (drop (p + length v) t) m l
+
+-- a part that was lent and came back: what stands before it, in it and after it
+module _ (a e : ℕ) (n m : List ℕ) (within : a ≤ e) (fits : e ≤ length n) (l : length m ≡ e - a) where
+  pub put-before : (j : ℕ) → j < a → getD (putMid a (e - a) n m) j 0 ≡ getD n j 0
+  put-before j h =
+      let q = length-take-le a n (omega arith) in
+      List·getD-append (take a n) (m ++ postOf a (e - a) n) 0 j (omega arith) ∙ getD-take a n j 0 h
+
+  pub put-here : take (e - a) (drop a (putMid a (e - a) n m)) ≡ m
+  put-here = ap (take (e - a)) (drop-at (take a n) (m ++ postOf a (e - a) n) a (length-take-le a n (omega arith))) ∙ take-at m (postOf a (e - a) n) (e - a) l
+
+  pub put-after : (j : ℕ) → e ≤ j → getD (putMid a (e - a) n m) j 0 ≡ getD n j 0
+  put-after j h =
+      let q : e + (j - e) ≡ j = omega arith in
+      ap (λ (i : ℕ). getD (putMid a (e - a) n m) i 0) (sym q) ∙ sym (getD-drop e (putMid a (e - a) n m) (j - e) 0)
+      ∙ ap (λ (r : List ℕ). getD r (j - e) 0) (drop-put a e n m within fits l) ∙ getD-drop e n (j - e) 0 ∙ ap (λ (i : ℕ). getD n i 0) q

@@ -10,7 +10,7 @@ use lib.Seq.{drop-cons}
 use Rattle.rows.specs.Rows.{noRows}
 use Rattle.rows_sheet.specs.Sheet.{rowsOf}
 use Rattle.desk_keys.specs.Key.{After, after, keyOf}
-use Rattle.desk_keys.specs.declared.key.Keyed.{Keyed}
+use Rattle.desk_keys.specs.declared.by_value.Keyed.{Keyed}
 use Rattle.theorem_sequences.specs.Calls.{Call, key, State, left, step, final, stateOf}
 use Rattle.desk_session.specs.Play.{benchOf, pairsOf, played}
 

@@ -44,7 +44,7 @@ pub fn play_pairs(d: Desk, used: usize, log: &mut [u8], input: &[u8]) -> Played
     while i < pairs {
         let bench = bench_of(input[2 * i]);
         let byte = input[2 * i + 1];
-        let keyed = desk_keys::key::key(desk, at, log, bench, byte);
+        let keyed = desk_keys::by_value::key(desk, at, log, bench, byte);
         let next = keyed.desk;
         desk = next;
         at = keyed.used;

@@ -39,7 +39,7 @@ pub struct Stepped {
 fn play_key(d: Desk, used: usize, log: &mut [u8], bench: u64, byte: u8) -> Stepped
     ensures { λ r. ⌜ one r (now (log .exit)) ≡ oneOf (key bench byte) (stateOf d used (now (log .entry))) ⌝ }
 {
-    let k = desk_keys::key::key(d, used, log, bench, byte);
+    let k = desk_keys::by_value::key(d, used, log, bench, byte);
     let answer = k.answer;
     let desk = k.desk;
     let reply = key_reply(answer);

@@ -22,7 +22,7 @@ pub extern "C" fn probe_key(
 ) -> ProbeKeyed
     ensures { λ r. ⌜ keyProbed r (now (log .exit)) ≡ keyOf d used (now (log .entry)) bench byte ⌝ }
 {
-    let k = desk_keys::key::key(d, used, log, bench, byte);
+    let k = desk_keys::by_value::key(d, used, log, bench, byte);
     let answer = k.answer;
     let desk = k.desk;
     ProbeKeyed {

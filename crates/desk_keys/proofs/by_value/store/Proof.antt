@@ -6,8 +6,8 @@ use denote.Ref.{now}
 use Rattle.desk_log.proofs.Records.{wrote-bytes}
 use Rattle.desk_keys.proofs.Keys.{stored-none, stored-some}
 use borrow.Author.Needs.{needs}
-use Rattle.desk_keys.proofs.key.store.Statement.{statement}
-use Rattle.desk_keys.proofs.key.store.Tie as tie
+use Rattle.desk_keys.proofs.by_value.store.Statement.{statement}
+use Rattle.desk_keys.proofs.by_value.store.Tie as tie
 
 returns : tie.Need-returns
 returns c =

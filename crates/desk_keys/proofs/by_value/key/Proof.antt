@@ -8,8 +8,8 @@ use Rattle.desk_state.specs.Desks.{benchCount}
 use Rattle.desk_keys.specs.Key.{keyOf}
 use Rattle.desk_keys.proofs.Keys.{sound-ready}
 use borrow.Author.Needs.{needs}
-use Rattle.desk_keys.proofs.key.key.Statement.{statement}
-use Rattle.desk_keys.proofs.key.key.Tie as tie
+use Rattle.desk_keys.proofs.by_value.key.Statement.{statement}
+use Rattle.desk_keys.proofs.by_value.key.Tie as tie
 
 all-lines : (c : tie.Start) → length (c .args .d .lines) ≡ benchCount
 all-lines c = sym (length-map (c .args .d .lines) _) ∙ c .good .0 .1 .1 .0 .1 .0 .1

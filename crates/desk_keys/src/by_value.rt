@@ -1,4 +1,4 @@
-// A key call: one key of a bench, on a desk and its log.
+// A key call on a desk by value.
 ghost use mathlib.Core.Path.{_≡_};
 ghost use Prim.Native.Nat.{ℕ, _<_, _≤_};
 ghost use mathlib.Core.List.{List};

@@ -5,8 +5,8 @@ use mathlib.Core.Path.{_∙_}
 use denote.Ref.{now}
 use Rattle.desk_keys.proofs.Keys.{copied-padded}
 use borrow.Author.Needs.{needs}
-use Rattle.desk_keys.proofs.key.with_entry.Statement.{statement}
-use Rattle.desk_keys.proofs.key.with_entry.Tie as tie
+use Rattle.desk_keys.proofs.by_value.with_entry.Statement.{statement}
+use Rattle.desk_keys.proofs.by_value.with_entry.Tie as tie
 
 returns : tie.Need-returns
 returns c =

@@ -12,8 +12,8 @@ use Rattle.line_reader.specs.declared.line.Class.{Class}
 use Rattle.line_reader.proofs.Entries.{IsEntry, entry-is}
 use Rattle.desk_keys.specs.Key.{stored, enteredAs}
 use borrow.Author.Needs.{needs}
-use Rattle.desk_keys.proofs.key.enter_typed.Statement.{statement}
-use Rattle.desk_keys.proofs.key.enter_typed.Tie as tie
+use Rattle.desk_keys.proofs.by_value.enter_typed.Statement.{statement}
+use Rattle.desk_keys.proofs.by_value.enter_typed.Tie as tie
 
 by-class : (c : tie.After-classify) {q : Class} → c .classify .result ≡ q
     → (let a = c .before .before .before .args in enteredAs (classOf (now (a .t))) (a .d) (a .used) (now (a .log)) (a .bench) (now (a .t)) ≡ enteredAs q (a .d) (a .used) (now (a .log)) (a .bench) (now (a .t)))

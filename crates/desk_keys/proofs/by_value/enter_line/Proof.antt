@@ -5,8 +5,8 @@ use mathlib.Core.Path.{_≡_}
 use lib.ListN.{length, length-take}
 use borrow.Author.Needs.{needs}
 use Rattle.line_items.specs.Typed.{lineMost}
-use Rattle.desk_keys.proofs.key.enter_line.Statement.{statement}
-use Rattle.desk_keys.proofs.key.enter_line.Tie as tie
+use Rattle.desk_keys.proofs.by_value.enter_line.Statement.{statement}
+use Rattle.desk_keys.proofs.by_value.enter_line.Tie as tie
 
 long : (c : tie.Start) → length (c .args .l .bytes) ≡ lineMost
 long c = search needs

@@ -1,8 +1,8 @@
 -- `calls::key::entered_desk` meets its contract: the line is emptied, and the sheet has the entry.
 -- Assumes nothing.
 use borrow.Author.Needs.{needs}
-use Rattle.desk_keys.proofs.key.entered_desk.Statement.{statement}
-use Rattle.desk_keys.proofs.key.entered_desk.Tie as tie
+use Rattle.desk_keys.proofs.by_value.entered_desk.Statement.{statement}
+use Rattle.desk_keys.proofs.by_value.entered_desk.Tie as tie
 
 returns : tie.Need-returns
 returns c = rw (c .empty-line .ensures, c .before .with-entry .ensures)

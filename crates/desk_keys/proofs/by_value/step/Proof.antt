@@ -7,8 +7,8 @@ use borrow.Author.Tests.{le-leb, lt-leb, ne-eqb}
 use Rattle.text.specs.Run.{between}
 use Rattle.desk_keys.specs.Key.{keyStep}
 use borrow.Author.Needs.{needs}
-use Rattle.desk_keys.proofs.key.step.Statement.{statement}
-use Rattle.desk_keys.proofs.key.step.Tie as tie
+use Rattle.desk_keys.proofs.by_value.step.Statement.{statement}
+use Rattle.desk_keys.proofs.by_value.step.Tie as tie
 
 returns : tie.Need-returns
 unfolding keyStep between

@@ -4,8 +4,8 @@ use mathlib.Core.Path.{_∙_}
 use borrow.Author.Tests.{lt-ltb, le-ltb}
 use borrow.Author.Needs.{needs}
 use Rattle.line_items.specs.Typed.{lineMost}
-use Rattle.desk_keys.proofs.key.append_byte.Statement.{statement}
-use Rattle.desk_keys.proofs.key.append_byte.Tie as tie
+use Rattle.desk_keys.proofs.by_value.append_byte.Statement.{statement}
+use Rattle.desk_keys.proofs.by_value.append_byte.Tie as tie
 
 returns : tie.Need-returns
 returns c =

@@ -1,0 +1,35 @@
+-- `desk_keys::put_numbers` meets its contract: the item's numbers one after the other, and the count.
+-- Assumes nothing.
+use native.Mathlib.Omega.{arith}
+use lib.ListN.{length-set}
+use denote.Ref.{now}
+use Rattle.desk_keys.proofs.Stores.{numbers-stored}
+use borrow.Author.Needs.{needs}
+use Rattle.desk_keys.proofs.put_numbers.Statement.{statement}
+use Rattle.desk_keys.proofs.put_numbers.Tie as tie
+
+returns : tie.Need-returns
+returns c =
+    let s = c .before in
+    let a = s .args in
+    numbers-stored (now (a .numbers)) (a .k) (a .len) (a .bench) (s .pre .0) (s .pre .2)
+
+pub put-numbers-spec : {M : Type 1} → statement M
+put-numbers-spec =
+    tie.close
+    (tie.spec
+    (λ c. search needs)
+    (λ c. search needs)
+    (λ c. search needs)
+    (λ c. search needs)
+    (λ c. search needs)
+    (λ c. search needs)
+    (λ c. search needs)
+    (λ c. search needs)
+    (λ c. simp length-set (omega arith))
+    (λ c. search needs)
+    (λ c. search needs)
+    (λ c. simp length-set (omega arith))
+    (λ c. search needs)
+    (λ c. search needs)
+    returns)
