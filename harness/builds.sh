@@ -11,7 +11,7 @@ case "$*" in
     *) echo "usage: harness/builds.sh [--long]" >&2; exit 2 ;;
 esac
 . "$(dirname "$0")/checks.sh"
-need "$desk" "$sheet_cif"
+need "$desk"
 kit=${RATTLE_HOME:-/opt/rattle}
 own=$kit/on/$(uname -m)
 archives=(export_wall test_probe test_probe_rows test_probe_keys test_play test_probe_file)
@@ -302,9 +302,9 @@ archive_builds() {
     done
     PROVED_LIBS=$work/archives CARGO_TARGET_DIR=$PWD/build/cargo$level cargo build --release --offline --quiet --manifest-path harness/Cargo.toml ||
         { fail "archives at $level" "the harness is not built"; return; }
-    REQUIRE_LIBS="${archives[*]}" summary "archives at $level" "build/cargo$level/release/harness" compare --count $count
+    summary "archives at $level" "build/cargo$level/release/harness" compare --count $count
     grep -a -E '^(fixed seed|measured|sequences)' "$work/out"
-    REQUIRE_LIBS="${archives[*]}" summary "archives as proved, at -O3" "$harness" compare --count $count
+    summary "archives as proved, at -O3" "$harness" compare --count $count
     grep -a -E '^(fixed seed|measured|sequences)' "$work/out"
 }
 

@@ -1,9 +1,9 @@
-# Sourced by test.sh, robust.sh and builds.sh: the programs, a temporary folder, and checks that are counted.
+# Sourced by test.sh, camp.sh, robust.sh and builds.sh: the programs, a temporary folder, and checks that are counted.
 cd "$(dirname "${BASH_SOURCE[0]}")/.." || exit 2
 harness=$PWD/build/cargo/release/harness
 client=$PWD/build/wall_screen
 desk=$PWD/target/bin/desk
-sheet_cif=$PWD/target/bin/sheet_cif
+camp=$PWD/target/bin/camp
 
 # need PROGRAM..: ends the run where one is not built.
 need() {
@@ -42,6 +42,48 @@ prints() {
         fail "$name" "$(cmp "$expected" "$work/out" 2>&1)"
     else
         ok "$name"
+    fi
+}
+
+# same NAME EXPECTED ACTUAL: two files are equal, and not empty.
+same() {
+    local difference
+    if [ ! -s "$2" ]; then
+        fail "$1" "nothing to compare"
+    elif difference=$(diff -a "$2" "$3" 2>&1); then
+        ok "$1"
+    else
+        fail "$1" "$(head -n 4 <<<"$difference" | tr '\n' ' ')"
+    fi
+}
+
+# runs NAME STATUS EXPECTED-OUT EXPECTED-ERR COMMAND..: exit status and both outputs, to the byte.
+runs() {
+    local name=$1 status=$2
+    printf %s "$3" >"$work/want.out"
+    printf %s "$4" >"$work/want.err"
+    shift 4
+    "$@" >"$work/out" 2>"$work/err"
+    local got=$?
+    if [ $got -ne "$status" ]; then
+        fail "$name" "exit $got, not $status"
+    elif ! cmp -s "$work/want.out" "$work/out"; then
+        fail "$name" "standard output is '$(tr '\0\n' '  ' <"$work/out" | head -c 200)'"
+    elif ! cmp -s "$work/want.err" "$work/err"; then
+        fail "$name" "standard error is '$(head -c 200 "$work/err")'"
+    else
+        ok "$name"
+    fi
+}
+
+# holds NAME FOLDER FILE CONTENT: the folder holds that file alone, with the content of another; without FILE it is empty.
+holds() {
+    if [ "$(ls -A "$2")" != "${3-}" ]; then
+        fail "$1" "the folder holds '$(ls -A "$2" | tr '\n' ' ')'"
+    elif [ $# -eq 2 ]; then
+        ok "$1"
+    else
+        same "$1" "$4" "$2/$3"
     fi
 }
 

@@ -1,12 +1,12 @@
 /* Sizes and offsets of the boundary's structs, in the words of 'harness layout'. */
 #include <stdio.h>
 
+#include "desk.h"
 #include "file.h"
 #include "keys.h"
 #include "play.h"
 #include "probe.h"
 #include "rows.h"
-#include "sheet_file.h"
 #include "wall.h"
 
 int main(void)
@@ -38,7 +38,7 @@ int main(void)
            offsetof(play_result, written), offsetof(play_result, answer));
     printf("probe_filed %zu count %zu answer %zu\n", sizeof(probe_filed),
            offsetof(probe_filed, count), offsetof(probe_filed, answer));
-    printf("sheet_filed %zu count %zu answer %zu\n", sizeof(sheet_filed),
-           offsetof(sheet_filed, count), offsetof(sheet_filed, answer));
+    printf("desk_filed %zu count %zu answer %zu\n", sizeof(desk_filed),
+           offsetof(desk_filed, count), offsetof(desk_filed, answer));
     return 0;
 }

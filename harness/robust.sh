@@ -10,7 +10,7 @@ case "$*" in
     *) echo "usage: harness/robust.sh [--long]" >&2; exit 2 ;;
 esac
 . "$(dirname "$0")/checks.sh"
-need "$desk" "$sheet_cif"
+need "$desk" "$camp"
 
 # Leaks of every kind count as errors; what valgrind says goes to a file of its own.
 faults=99
@@ -54,7 +54,28 @@ refuses() {
     if [ $status -ne "$wanted" ]; then fail "$name" "exit $status, not $wanted"; else ok "$name"; fi
 }
 
-# expect INPUT: what desk, sheet_cif and the client must print for the input.
+# told NAME FILE COMMAND..: camp, run so, tells of the file's refusals what it tells otherwise, with the same exit.
+told() {
+    local name=$1 input=$2 wanted status
+    shift 2
+    "$camp" refusals "$input" >"$work/want"
+    wanted=$?
+    "$@" refusals "$input" >"$work/out" 2>"$work/err"
+    status=$?
+    if [ $status -ne $wanted ] || [ -s "$work/err" ]; then
+        fail "$name" "exit $status, not $wanted, $(head -c 300 "$work/err" | tr '\n' ' ')"
+    else
+        same "$name" "$work/want" "$work/out"
+    fi
+}
+
+# clean_told NAME FILE: the same under valgrind, without a fault.
+clean_told() {
+    told "$1" "$2" "${watched[@]}" "$camp"
+    said "$1"
+}
+
+# expect INPUT: what desk, camp cif and the client must print for the input.
 expect() {
     "$harness" desk-answers <"$1" >"$work/want.desk"
     "$harness" cif-answers camp-1 <"$1" >"$work/want.cif"
@@ -65,7 +86,7 @@ expect() {
 every_program() {
     expect "$3"
     "$1" "desk: $2" "$work/want.desk" "$3" "$desk"
-    "$1" "sheet_cif: $2" "$work/want.cif" "$3" "$sheet_cif" camp-1
+    "$1" "camp cif: $2" "$work/want.cif" "$3" "$camp" cif camp-1
     "$1" "wall_screen: $2" "$work/want.wall" "$3" "$client"
 }
 
@@ -96,16 +117,18 @@ unwatched() {
 # The C clients compiled with gcc's own checks of memory and arithmetic, which see their arrays too.
 sanitized() {
     local checks=(-std=c11 -O1 -g -Iinclude -fsanitize=address,undefined -fno-sanitize-recover=all) libraries=${PROVED_LIBS:-target/staticlib} input
-    if ! gcc "${checks[@]}" client/sheet_cif.c "$libraries/libexport_sheet_file.a" -o "$work/sheet_cif" 2>/dev/null ||
+    if ! gcc "${checks[@]}" client/camp/*.c "$libraries/libexport_desk.a" -o "$work/camp" 2>/dev/null ||
         ! gcc "${checks[@]}" client/wall_screen.c "$libraries/libexport_wall.a" -o "$work/wall_screen" 2>/dev/null; then
         echo "skipped: the C clients with gcc's checks (its libraries for them are not there)"
         return
     fi
     for input in harness/desk-sessions/*.in; do
-        prints "sheet_cif with gcc's checks: $(basename "$input" .in)" "${input%.in}.cif" "$input" "$work/sheet_cif" camp-1
+        prints "camp cif with gcc's checks: $(basename "$input" .in)" "${input%.in}.cif" "$input" "$work/camp" cif camp-1
+        told "camp refusals with gcc's checks: $(basename "$input" .in)" "$input" "$work/camp"
     done
     expect "$work/random"
-    prints "sheet_cif with gcc's checks: $random random bytes" "$work/want.cif" "$work/random" "$work/sheet_cif" camp-1
+    prints "camp cif with gcc's checks: $random random bytes" "$work/want.cif" "$work/random" "$work/camp" cif camp-1
+    told "camp refusals with gcc's checks: $random random bytes" "$work/random" "$work/camp"
     prints "wall_screen with gcc's checks: $random random bytes" "$work/want.wall" "$work/random" "$work/wall_screen"
     "$harness" client-answers <"$work/lines" >"$work/want"
     prints "wall_screen with gcc's checks: $lines lines" "$work/want" "$work/lines" "$work/wall_screen"
@@ -150,8 +173,10 @@ programs() {
     for input in harness/desk-sessions/*.in; do
         name=$(basename "$input" .in)
         clean "desk: $name" "${input%.in}.out" "$input" "$desk"
-        clean "sheet_cif: $name" "${input%.in}.cif" "$input" "$sheet_cif" camp-1
+        clean "camp cif: $name" "${input%.in}.cif" "$input" "$camp" cif camp-1
     done
+    clean_told "camp refusals: refused lines" harness/desk-sessions/refused_lines.in
+    clean_told "camp refusals: $random random bytes" "$work/random"
     "$harness" client-answers <"$work/lines" >"$work/want"
     clean "wall_screen: $lines lines" "$work/want" "$work/lines" "$client"
     "$harness" client-answers 6 <"$work/values" >"$work/want"
@@ -160,11 +185,14 @@ programs() {
 
 refusals() {
     local first=harness/desk-sessions/document_01.in
-    refuses "sheet_cif: FILE" 0 "$sheet_cif" camp-1 "$work/a.cif" <$first
-    refuses "sheet_cif: bad block name" 1 "$sheet_cif" camp_1 <$first
-    refuses "sheet_cif: input cannot be read" 1 "$sheet_cif" camp-1 <.
-    refuses "sheet_cif: no such folder" 1 "$sheet_cif" camp-1 "$work/none/a.cif" <$first
-    refuses "sheet_cif: no argument" 2 "$sheet_cif" <$first
+    refuses "camp cif: FILE" 0 "$camp" cif camp-1 "$work/a.cif" <$first
+    refuses "camp cif: bad block name" 1 "$camp" cif camp_1 <$first
+    refuses "camp cif: input cannot be read" 1 "$camp" cif camp-1 <.
+    refuses "camp cif: no such folder" 1 "$camp" cif camp-1 "$work/none/a.cif" <$first
+    refuses "camp cif: no argument" 2 "$camp" cif <$first
+    refuses "camp refusals: no such file" 1 "$camp" refusals "$work/none"
+    refuses "camp: no such command" 2 "$camp" xyz
+    refuses "camp help" 0 "$camp" help
     refuses "wall_screen: unknown option" 2 "$client" --rwo 6
     refuses "wall_screen: input cannot be read" 1 "$client" <.
 }

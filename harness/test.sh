@@ -1,42 +1,11 @@
 #!/usr/bin/env bash
-# Tests the C boundary, headers, client, trace and comparison, and the programs desk and sheet_cif.
-# What needs an archive, or one of the programs, that is not there is left out, or fails where REQUIRE_LIBS names it.
-# Needs the built harness and client (build/cargo/release/harness, build/wall_screen).
+# Tests the C boundary, headers, client, trace and comparison, and the program desk; camp has a test of its own, camp.sh.
+# Needs the built harness, client and program (build/cargo/release/harness, build/wall_screen, target/bin/desk).
 # Prints one line for each check and at the end 'N passed, M failed'.
 set -u
 . "$(dirname "$0")/checks.sh"
+need "$desk"
 warnings=(-Wall -Wextra -Werror -pedantic)
-
-# same NAME EXPECTED ACTUAL: two files are equal, and not empty.
-same() {
-    local difference
-    if [ ! -s "$2" ]; then
-        fail "$1" "nothing to compare"
-    elif difference=$(diff -a "$2" "$3" 2>&1); then
-        ok "$1"
-    else
-        fail "$1" "$(head -n 4 <<<"$difference" | tr '\n' ' ')"
-    fi
-}
-
-# runs NAME STATUS EXPECTED-OUT EXPECTED-ERR COMMAND..: exit status and both outputs, to the byte.
-runs() {
-    local name=$1 status=$2
-    printf %s "$3" >"$work/want.out"
-    printf %s "$4" >"$work/want.err"
-    shift 4
-    "$@" >"$work/out" 2>"$work/err"
-    local got=$?
-    if [ $got -ne "$status" ]; then
-        fail "$name" "exit $got, not $status"
-    elif ! cmp -s "$work/want.out" "$work/out"; then
-        fail "$name" "standard output is '$(tr '\0\n' '  ' <"$work/out" | head -c 200)'"
-    elif ! cmp -s "$work/want.err" "$work/err"; then
-        fail "$name" "standard error is '$(head -c 200 "$work/err")'"
-    else
-        ok "$name"
-    fi
-}
 
 # compiles NAME COMMAND..: the compiler takes it without a word.
 compiles() {
@@ -45,62 +14,51 @@ compiles() {
     if words=$("$@" 2>&1) && [ -z "$words" ]; then ok "$name"; else fail "$name" "$(head -n 1 <<<"$words")"; fi
 }
 
-# there NAME: the harness is linked with that archive; the program desk or sheet_cif is there.
-there() {
-    case $1 in
-        desk | sheet_cif) [ -x "target/bin/$1" ] ;;
-        *) "$harness" libraries 2>/dev/null | grep -qx "there: lib$1.a" ;;
-    esac
-}
-
-libraries() {
-    local all='export_wall test_probe test_probe_rows test_probe_keys test_play test_probe_file desk sheet_cif' name
-    runs "libraries: an absent one is required" 1 $'REQUIRED libnothing.a\n' '' \
-        bash -c 'REQUIRE_LIBS="export_wall nothing" "$1" libraries | grep REQUIRED; exit "${PIPESTATUS[0]}"' - "$harness"
-    for name in ${REQUIRE_LIBS-export_wall test_probe}; do
-        if there "$name"; then ok "libraries: $name"; else fail "libraries: $name" "not there"; fi
-    done
-    for name in $all; do
-        there "$name" || echo "not there: $name"
-    done
-}
-
 headers() {
     local name source='#include "wall.h"
-#include "sheet_file.h"
+#include "desk.h"
 #include "probe.h"
 #include "rows.h"
 #include "keys.h"
 #include "play.h"
 #include "file.h"
 #include "wall.h"
-#include "sheet_file.h"
+#include "desk.h"
 #include "probe.h"
 #include "rows.h"
 #include "keys.h"
 #include "play.h"
 #include "file.h"
-uint8_t ask(const uint8_t *text, probe_desk desk, uint8_t *log, uint8_t *out);
-uint8_t ask(const uint8_t *text, probe_desk desk, uint8_t *log, uint8_t *out)
+uint8_t ask(const uint8_t *text, const size_t *numbers, probe_desk desk, uint8_t *log, uint8_t *out);
+uint8_t ask(const uint8_t *text, const size_t *numbers, probe_desk desk, uint8_t *log, uint8_t *out)
 {
     return (uint8_t)(wall_classify(text, 0) + probe_item(text, 0) + probe_rows(desk.sheet).rows[11].level +
                      probe_key(desk, log, 0, 0, 0, 10).answer + play_sequence(text, 0, log, 0, out, 1338).answer +
-                     probe_file(desk, text, 0, out, 0).answer + sheet_file(text, 0, log, 0, text, 0, out, 0).answer);
+                     probe_file(desk, text, 0, out, 0).answer + desk_file(text, 0, numbers, 0, text, 0, out, 0).answer);
 }'
     echo "$source" >"$work/headers.c"
     cp "$work/headers.c" "$work/headers.cc"
     compiles "headers as C" gcc -std=c11 "${warnings[@]}" -Iinclude -Iharness -c "$work/headers.c" -o "$work/headers.o"
-    for name in wall_screen sheet_cif; do
-        compiles "$name without warnings" gcc -std=c11 -O2 "${warnings[@]}" -Iinclude -c client/$name.c -o "$work/client.o"
+    for name in client/*.c client/camp/*.c; do
+        compiles "$name without warnings" gcc -std=c11 -O2 "${warnings[@]}" -Iinclude -c $name -o "$work/client.o"
     done
     if command -v g++ >/dev/null; then
         compiles "headers as C++" g++ -std=c++17 "${warnings[@]}" -Iinclude -Iharness -c "$work/headers.cc" -o "$work/headers++.o"
-        nm -u "$work/headers++.o" | awk '{ print $2 }' | grep -E '^(wall|probe|play|sheet)_' | sort >"$work/symbols"
-        printf '%s\n' play_sequence probe_file probe_item probe_key probe_rows sheet_file wall_classify >"$work/want"
+        nm -u "$work/headers++.o" | awk '{ print $2 }' | grep -E '^(wall|probe|play|desk)_' | sort >"$work/symbols"
+        printf '%s\n' desk_file play_sequence probe_file probe_item probe_key probe_rows wall_classify >"$work/want"
         same "C names from C++" "$work/want" "$work/symbols"
     else
         echo "skipped: headers as C++ (no g++)"
     fi
+}
+
+# The program in docs/LINKING.md prints what stands below it.
+linking() {
+    local archive=${PROVED_LIBS:-target/staticlib}/libexport_desk.a
+    awk '/^    #include/ { on = 1 } /^[^ ]/ { on = 0 } on' docs/LINKING.md | sed 's/^    //' >"$work/linking.c"
+    awk '/^It prints/ { on = 1; next } on && /^[^ ]/ { exit } on && NF' docs/LINKING.md | sed 's/^    //' >"$work/linking.out"
+    compiles "LINKING: the program without warnings" gcc -std=c11 -O2 "${warnings[@]}" -Iinclude "$work/linking.c" "$archive" -o "$work/linking"
+    prints "LINKING: the program prints what is told" "$work/linking.out" /dev/null "$work/linking"
 }
 
 layout() {
@@ -335,22 +293,10 @@ trace_keys() {
     trace_table "reference's trace: questions" reference-trace < <(questions)
     trace_table "reference's trace: fresh desks" reference-trace < <(fresh_desks)
     trace_table "reference's trace: files" reference-trace < <(files)
-    if there test_play || there test_probe_keys; then
-        trace_table "trace: keys" < <(session)
-    else
-        trace_table "trace: keys are not there" < <(printf '%s|none\n' 'new 4096 1' 'k 0 10' dump)
-    fi
-    if there test_play; then
-        trace_table "trace: questions" < <(questions)
-        trace_table "trace: fresh desks" < <(fresh_desks)
-    else
-        trace_table "trace: questions are not there" < <(printf '%s|none\n' 'report 0 0' 'who 0 1')
-    fi
-    if ! there test_probe_file; then
-        trace_table "trace: files are not there" < <(printf '%s|none\n' 'cif 0 61 99' 'cif 0 61')
-    elif there test_play || there test_probe_keys; then
-        trace_table "trace: files" < <(files)
-    fi
+    trace_table "trace: keys" < <(session)
+    trace_table "trace: questions" < <(questions)
+    trace_table "trace: fresh desks" < <(fresh_desks)
+    trace_table "trace: files" < <(files)
 }
 
 # The answers come whenever the input pauses, in the middle of a line too.
@@ -380,11 +326,9 @@ trace_generated() {
     runs "trace: as many answers as commands" 0 $'5000\n' '' grep -c '' "$work/answers"
     { head -c 5001 "$work/commands"; sleep 0.2; tail -c +5002 "$work/commands"; } | "$harness" trace >"$work/answers"
     same "trace: the same in two parts" "$work/want" "$work/answers"
-    if there test_play || there test_probe_keys; then
-        yes 'k 0 65' | head -n $keys | "$harness" reference-trace >"$work/want"
-        yes 'k 0 65' | head -n $keys | timeout 60 "$harness" trace >"$work/answers"
-        same "trace: $keys keys of one desk" "$work/want" "$work/answers"
-    fi
+    yes 'k 0 65' | head -n $keys | "$harness" reference-trace >"$work/want"
+    yes 'k 0 65' | head -n $keys | timeout 60 "$harness" trace >"$work/answers"
+    same "trace: $keys keys of one desk" "$work/want" "$work/answers"
     runs "trace: last command without newline" 0 $'none\n5\n' '' "$harness" trace < <(printf '\xff\nline -')
     runs "tools/trace from another folder" 0 $'5\n0 3\n' '' \
         bash -c 'cd "$1" && "$2/tools/trace" more words 2>/dev/null' - "$work" "$PWD" < <(printf 'line -\ngrade 6 302e3230\n')
@@ -400,10 +344,6 @@ desk_sessions() {
     mkdir "$work/sessions"
     runs "desk: sessions recomputed" 0 '' '' "$harness" desk-sessions "$work/sessions"
     runs "desk: sessions as they are kept" 0 '' '' diff -r harness/desk-sessions "$work/sessions"
-    if ! there desk; then
-        echo "skipped: desk (not there)"
-        return
-    fi
     for input in harness/desk-sessions/*.in; do
         name=$(basename "$input" .in)
         desk_prints "desk: $name" "$input" "${input%.in}.out"
@@ -413,35 +353,8 @@ desk_sessions() {
     summary "desk: 300 generated inputs" "$harness" desk-runs "$desk" 14 300
 }
 
-# What the tools tell a person: the refused keys of a session, and wrong arguments.
+# What the tools tell a person of wrong arguments.
 tools_tell() {
-    there desk || return
-    runs "tools/refusals: the sample session" 0 $'0 of 57 keys refused\n' '' tools/refusals
-    runs "tools/refusals: refused lines" 1 "$(cat <<'END'
-pair 1, bench 0, Enter after ``: 5, not a name, a space and a value
-pair 24, bench 0, Enter after `_refine_ls_R_factor_gt`: 5, not a name, a space and a value
-pair 31, bench 0, Enter after `_refine_ls_R_factor_gt 0.16 `: 5, not a name, a space and a value
-pair 57, bench 1, Enter after `_refine_ls_R_factor 0.2`: 6, no item has this name
-pair 88, bench 1, Enter after `_refine_ls_wR_factor_obs 0.2x`: 7, not a number, or no category, as this item wants
-pair 118, bench 2, Enter after `_publ_requested_category fo`: 7, not a number, or no category, as this item wants
-pair 150, bench 3, Enter after `refine_ls_shift/su_max 0.3`: 5, not a name, a space and a value
-bench 3 has not entered `refine_ls_shift/su_max 0.3`
-7 of 150 keys refused
-END
-)"$'\n' '' tools/refusals harness/desk-sessions/refused_lines.in
-    runs "tools/refusals: a full line" 1 "$(cat <<'END'
-pair 81, bench 3, key ': 4, the line is full
-pair 82, bench 3, Enter after `_reflns_threshold_expression 'yyyyyyyyyyyyyyyyyyyyyyyyyyyyyyyyyyyyyyyyyyyyyyyyyy`: 5, not a name, a space and a value
-pair 87, bench 3, Enter after ``: 5, not a name, a space and a value
-3 of 87 keys refused
-END
-)"$'\n' '' tools/refusals harness/desk-sessions/line_of_81.in
-    runs "tools/refusals: no pairs, from another folder" 1 \
-        $'pairs 1 to 3, no bench: 1, this bench is not there: a pair begins with 0, 1, 2 or 3\npair 4, bench 0, byte 7: 3, this key does nothing here\nthe last byte has no pair and is passed over\n4 of 4 keys refused\n' '' \
-        bash -c 'cd "$1" && exec "$2/tools/refusals" -' - "$work" "$PWD" < <(printf 'camp\r\n0\a\t')
-    runs "tools/refusals: nothing typed" 0 $'0 of 0 keys refused\n' '' tools/refusals - </dev/null
-    runs "tools/refusals: no such file" 2 '' $'none: no file that can be read\n' tools/refusals none
-    runs "tools/refusals: two files" 2 '' $'usage: tools/refusals [FILE], - for standard input\n' tools/refusals a b
     runs "tools/run: no such file" 2 '' $'none: no file that can be read\n' tools/run none
     runs "tools/run: a folder" 2 '' $'.: no file that can be read\n' tools/run .
     runs "tools/run: two files" 2 '' $'usage: tools/run [FILE], - for standard input\n' tools/run a b
@@ -449,108 +362,20 @@ END
         bash -c 'cd "$1" && cp "$2/harness/desk-sessions/overwritten.in" . && "$2/tools/run" overwritten.in 2>/dev/null' - "$work" "$PWD"
 }
 
-# cif_refuses NAME STATUS COMMAND..: the exit, nothing on standard output, and one line of sheet_cif's on standard error.
-cif_refuses() {
-    local name=$1 status=$2
-    shift 2
-    "$@" >"$work/out" 2>"$work/err"
-    local got=$?
-    if [ $got -ne "$status" ]; then
-        fail "$name" "exit $got, not $status"
-    elif [ -s "$work/out" ]; then
-        fail "$name" "standard output is '$(tr '\0\n' '  ' <"$work/out" | head -c 200)'"
-    elif [ "$(wc -l <"$work/err")" -ne 1 ] || ! grep -aq '^sheet_cif: .' "$work/err" || [ -n "$(tail -c 1 "$work/err")" ]; then
-        fail "$name" "standard error is '$(head -c 200 "$work/err")'"
-    else
-        ok "$name"
-    fi
-}
-
-# holds NAME FOLDER FILE CONTENT: the folder holds that file alone, with the content of another; without FILE it is empty.
-holds() {
-    if [ "$(ls -A "$2")" != "${3-}" ]; then
-        fail "$1" "the folder holds '$(ls -A "$2" | tr '\n' ' ')'"
-    elif [ $# -eq 2 ]; then
-        ok "$1"
-    else
-        same "$1" "$4" "$2/$3"
-    fi
-}
-
-sheet_cif_runs() {
-    local first=harness/desk-sessions/document_01 folder=$work/cif input name word
-    if ! there sheet_cif; then
-        echo "skipped: sheet_cif (not there)"
-        return
-    fi
-    for input in harness/desk-sessions/*.in; do
-        name=$(basename "$input" .in)
-        runs "sheet_cif: $name" 0 "$(cat "${input%.in}.cif")"$'\n' '' "$sheet_cif" camp-1 <"$input"
-    done
-    for name in all_ten_items quoted unassigned; do
-        runs "sheet_cif: $name typed back" 0 "$(cat harness/desk-sessions/$name.cif)"$'\n' '' "$sheet_cif" camp-1 \
-            < <(tail -n +2 harness/desk-sessions/$name.cif | sed 's/./2&/g; s/$/2/')
-    done
-    summary "sheet_cif: 300 generated inputs" "$harness" cif-runs "$sheet_cif" 15 300
-    cif_refuses "sheet_cif: no argument" 2 "$sheet_cif" <$first.in
-    cif_refuses "sheet_cif: FILE is empty" 2 "$sheet_cif" camp-1 '' <$first.in
-    cif_refuses "sheet_cif: three arguments" 2 "$sheet_cif" a "$work/b" $'c\nd' <$first.in
-    for word in '' "$(printf 'a%.0s' {1..33})" camp_1 'camp 1' camp/1 $'caf\xc3\xa9' $'camp\n' data_ .; do
-        cif_refuses "sheet_cif: block name $(printf %q "$word")" 1 "$sheet_cif" "$word" <$first.in
-    done
-    runs "sheet_cif: block name of 32" 0 "data_$(printf 'a%.0s' {1..32})"$'\n' '' "$sheet_cif" "$(printf 'a%.0s' {1..32})" </dev/null
-    runs "sheet_cif: - for FILE" 0 "$(cat $first.cif)"$'\n' '' "$sheet_cif" camp-1 - <$first.in
-    runs "sheet_cif: help" 0 $'usage: sheet_cif BLOCK [FILE]\n' '' bash -c '"$1" --help | head -n 1' - "$sheet_cif" </dev/null
-    runs "sheet_cif: block name --help" 0 $'data_--help\n' '' "$sheet_cif" --help - </dev/null
-    cif_refuses "sheet_cif: input cannot be read" 1 "$sheet_cif" camp-1 <.
-    if [ -c /dev/full ]; then
-        cif_refuses "sheet_cif: output cannot be written" 1 bash -c '"$1" camp-1 >/dev/full' - "$sheet_cif" <$first.in
-    fi
-    cif_refuses "sheet_cif: output is closed" 1 bash -c '"$1" camp-1 >&-' - "$sheet_cif" <$first.in
-
-    mkdir "$folder"
-    runs "sheet_cif: FILE" 0 '' '' "$sheet_cif" camp-1 "$folder/a.cif" <$first.in
-    holds "sheet_cif: FILE is written" "$folder" a.cif $first.cif
-    yes 'an older and longer file' | head -n 1000 >"$folder/a.cif"
-    cp "$folder/a.cif" "$work/older"
-    exec 7<"$folder/a.cif"
-    runs "sheet_cif: FILE again" 0 '' '' "$sheet_cif" camp-1 "$folder/a.cif" <$first.in
-    holds "sheet_cif: FILE is replaced whole" "$folder" a.cif $first.cif
-    cat <&7 >"$work/open"
-    exec 7<&-
-    same "sheet_cif: the older file stays whole for its readers" "$work/older" "$work/open"
-    runs "sheet_cif: FILE in this folder" 0 '' '' bash -c 'cd "$1" && "$2" camp-1 a.cif' - "$folder" "$sheet_cif" </dev/null
-    holds "sheet_cif: FILE is replaced by a shorter one" "$folder" a.cif harness/desk-sessions/empty.cif
-    for word in '' camp_1 "$(printf 'a%.0s' {1..33})"; do
-        cif_refuses "sheet_cif: block name '$word' with FILE" 1 "$sheet_cif" "$word" "$folder/a.cif" <$first.in
-        cif_refuses "sheet_cif: block name '$word' with a new FILE" 1 "$sheet_cif" "$word" "$folder/b.cif" <$first.in
-    done
-    cif_refuses "sheet_cif: FILE and a third argument" 2 "$sheet_cif" camp-1 "$folder/a.cif" x <$first.in
-    # Standard error goes through a pipe, since the limit on written files would cut it too.
-    cif_refuses "sheet_cif: FILE cannot grow" 1 bash -o pipefail -c \
-        '{ (trap "" XFSZ; ulimit -f 0; exec "$1" camp-1 "$2") 2>&1 >&3 | cat >&2; } 3>&1' - "$sheet_cif" "$folder/a.cif" <$first.in
-    holds "sheet_cif: a refusal leaves FILE and nothing else" "$folder" a.cif harness/desk-sessions/empty.cif
-    rm "$folder/a.cif"
-    cif_refuses "sheet_cif: no such folder" 1 "$sheet_cif" camp-1 "$folder/none/a.cif" <$first.in
-    cif_refuses "sheet_cif: no such folder, in two lines" 1 "$sheet_cif" camp-1 "$folder/no"$'\n'"ne/a.cif" <$first.in
-    cif_refuses "sheet_cif: FILE is a folder" 1 "$sheet_cif" camp-1 "$folder" <$first.in
-    cif_refuses "sheet_cif: a folder of the system" 1 "$sheet_cif" camp-1 /proc/a.cif <$first.in
-    if [ "$(id -u)" -ne 0 ]; then
-        chmod a-w "$folder"
-        cif_refuses "sheet_cif: a folder that may not be written" 1 "$sheet_cif" camp-1 "$folder/a.cif" <$first.in
-        chmod u+w "$folder"
-    fi
-    holds "sheet_cif: nothing is left over" "$folder"
-}
-
 comparison() {
     summary "self-check of the comparison" "$harness" self-check
     summary "comparison with the reference" "$harness" compare
-    grep -a -e '^fixed seed' -e '^not there' "$work/out"
+    grep -a '^fixed seed' "$work/out"
+    if command -v python3 >/dev/null; then
+        summary "comparison with mutants of the reference" python3 harness/mutants/mutants.py
+        grep -a ' mutants, ' "$work/out"
+    else
+        echo "skipped: mutants of the reference (no python3)"
+    fi
 }
 
-libraries
 headers
+linking
 layout
 runs "client: sample" 0 "$(cat client/sample.out)"$'\n' '' "$client" <client/sample.txt
 client_arguments
@@ -563,6 +388,5 @@ trace_pauses
 trace_generated
 desk_sessions
 tools_tell
-sheet_cif_runs
 comparison
 finish

@@ -15,11 +15,13 @@ ensure_programs || exit 2
 
 # The proved libraries that C and Rust link.
 archives=(export_wall test_probe test_probe_rows test_probe_keys test_play test_probe_file)
-export REQUIRE_LIBS="${archives[*]} desk sheet_cif"
 
-# stale ARCHIVE: it is missing, or crates.txt or some file under crates/ is newer.
+# stale FILE [SOURCE..]: it is missing, or some file of these sources is newer; without them, of crates/ or crates.txt.
 stale() {
-    [ ! -e "$1" ] || [ -n "$(find crates crates.txt -type f -newer "$1" -print -quit)" ]
+    local built=$1
+    shift
+    [ $# -gt 0 ] || set -- crates crates.txt
+    [ ! -e "$built" ] || [ -n "$(find "$@" -type f -newer "$built" -print -quit)" ]
 }
 
 # with_used NAME..: these crates and all that they use, by crates.txt.
@@ -101,10 +103,10 @@ build_harness() {
     cargo build --release --offline --quiet --manifest-path harness/Cargo.toml
 }
 
-# compile SOURCE ARCHIVE PROGRAM: a C client of a proved library.
+# compile SOURCES ARCHIVE PROGRAM: a C client of a proved library; the sources may be a pattern.
 compile() {
     mkdir -p "$(dirname "$3")"
-    gcc -std=c11 -O2 -Wall -Wextra -Werror -pedantic -Iinclude "$1" "${PROVED_LIBS:-target/staticlib}/lib$2.a" -o "$3"
+    gcc -std=c11 -O2 -Wall -Wextra -Werror -pedantic -Iinclude $1 "${PROVED_LIBS:-target/staticlib}/lib$2.a" -o "$3"
 }
 
 # The C client of the wall screen, of a library that is there.
@@ -112,9 +114,10 @@ build_client() {
     compile client/wall_screen.c export_wall build/wall_screen
 }
 
-# The program sheet_cif, the C client of the library sheet_file, in target/bin.
-build_sheet_cif() {
-    build_archive export_sheet_file && compile client/sheet_cif.c export_sheet_file target/bin/sheet_cif
+# The program camp, the C client of the library export_desk, in target/bin.
+build_camp() {
+    build_archive export_desk || return 1
+    ! stale target/bin/camp client/camp include "${PROVED_LIBS:-target/staticlib}/libexport_desk.a" || compile 'client/camp/*.c' export_desk target/bin/camp
 }
 
 # The program desk, proved, in target/bin. One that is unchanged is not built again, so its time is set.

@@ -1,7 +1,5 @@
 //! Speed: both programs over the same inputs in one run, and one round of one program to be counted.
 
-use crate::program::Program;
-use crate::proved::Proved;
 use crate::workloads::{Side, Workload, WORKLOADS};
 use std::collections::HashMap;
 use std::hint::black_box;
@@ -24,9 +22,9 @@ const SKIPPED: &str = "skipped";
 /// By workload: how many inputs were counted, and the instructions that each program took.
 type Counts = HashMap<String, [u64; 3]>;
 
-/// The names of the workloads whose archive is there.
+/// The names of the workloads.
 pub fn names() -> impl Iterator<Item = &'static str> {
-    there().map(|workload| workload.name)
+    WORKLOADS.iter().map(|workload| workload.name)
 }
 
 /// Times every workload; prints a table with these counts beside the times.
@@ -37,7 +35,7 @@ pub fn run(counts: &str) -> Result<(), String> {
     );
     row(HEAD);
     row(["---", "---:", "---:", "---:", "---:", "---:", "---:"]);
-    for workload in there() {
+    for workload in &WORKLOADS {
         let [proved, reference, ratio] = times(workload);
         let times = [format!("{proved:.0}"), format!("{reference:.0}"), format!("{ratio:.2}")];
         let instructions = counts.get(workload.name).map_or([SKIPPED; 3].map(String::from), shown);
@@ -56,7 +54,7 @@ fn shown(&[inputs, proved, reference]: &[u64; 3]) -> [String; 3] {
 
 /// Answers about so many inputs of a workload once, and prints how many they were.
 pub fn count(name: &str, side: Side, inputs: usize) -> Result<(), String> {
-    let workload = there().find(|workload| workload.name == name);
+    let workload = WORKLOADS.iter().find(|workload| workload.name == name);
     let (inputs, mut round) = workload.ok_or(format!("no workload '{name}'"))?.round(inputs);
     counted_round(&mut || round(side));
     println!("{inputs}");
@@ -68,10 +66,6 @@ pub fn count(name: &str, side: Side, inputs: usize) -> Result<(), String> {
 #[inline(never)]
 pub fn counted_round(round: &mut dyn FnMut() -> u64) -> u64 {
     black_box(round())
-}
-
-fn there() -> impl Iterator<Item = &'static Workload> {
-    WORKLOADS.iter().filter(|workload| Proved.has(workload.library))
 }
 
 /// Lines of a workload's name, the inputs, the proved library's instructions and the reference's.

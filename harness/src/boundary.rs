@@ -1,7 +1,6 @@
 //! The structs of the C boundary, and their sizes and offsets.
 
-use crate::program::Values;
-use reference::desk::{self, BENCHES};
+use reference::desk::BENCHES;
 use reference::line::LIMIT;
 use reference::names::ITEMS;
 use reference::rows::ROWS;
@@ -106,84 +105,33 @@ pub struct Filed {
     pub answer: u8,
 }
 
-impl From<(u8, u64)> for Filed {
-    fn from((answer, count): (u8, u64)) -> Self {
-        Filed { count, answer }
+impl Sheet {
+    /// A sheet that holds these values as typed, each of at most 80 bytes. Its benches and entry
+    /// numbers are zero: the rows do not look at them.
+    pub fn holding<T: AsRef<[u8]>>(values: &[T; ITEMS.len()]) -> Self {
+        let item = |value: &T| item_state(value.as_ref(), 0, 0);
+        Sheet { items: values.each_ref().map(item), count: 0 }
+    }
+
+    /// The values as typed.
+    pub fn values(&self) -> [&[u8]; ITEMS.len()] {
+        self.items.each_ref().map(|item| &item.value[..item.len as usize])
     }
 }
 
-impl From<(u64, u8)> for PlayResult {
-    fn from((written, answer): (u64, u8)) -> Self {
-        PlayResult { written, answer }
-    }
+/// The text with zeros after it.
+pub fn padded(text: &[u8]) -> [u8; LIMIT] {
+    let mut bytes = [0; LIMIT];
+    bytes[..text.len()].copy_from_slice(text);
+    bytes
 }
 
-impl From<(u8, u8)> for Graded {
-    fn from((answer, level): (u8, u8)) -> Self {
-        Graded { answer, level }
-    }
+pub fn text_line(text: &[u8]) -> TextLine {
+    TextLine { bytes: padded(text), len: text.len() as u64 }
 }
 
-impl From<Option<i64>> for NumberResult {
-    fn from(number: Option<i64>) -> Self {
-        NumberResult { millionths: number.unwrap_or(0), found: number.is_some().into() }
-    }
-}
-
-impl From<[reference::rows::Row; ROWS]> for RowsResult {
-    fn from(rows: [reference::rows::Row; ROWS]) -> Self {
-        RowsResult { rows: rows.map(|row| Row { level: row.level, reason: row.reason }) }
-    }
-}
-
-impl From<RowsResult> for [reference::rows::Row; ROWS] {
-    fn from(result: RowsResult) -> Self {
-        result.rows.map(|Row { level, reason }| reference::rows::Row { level, reason })
-    }
-}
-
-/// A sheet that holds these values as typed. Its benches and entry numbers are zero: the rows do not look at them.
-impl From<&Values> for Sheet {
-    fn from(values: &Values) -> Self {
-        let parts = values.parts();
-        let items = std::array::from_fn(|place| {
-            let mut value = [0; LIMIT];
-            value[..parts[place].len()].copy_from_slice(parts[place]);
-            ItemState { value, len: parts[place].len() as u64, entry: 0, bench: 0 }
-        });
-        Sheet { items, count: 0 }
-    }
-}
-
-impl From<&desk::Desk> for Desk {
-    fn from(desk: &desk::Desk) -> Self {
-        let line = |line: desk::Line| TextLine { bytes: line.bytes, len: line.len };
-        let item = |item: desk::Item| ItemState {
-            value: item.value,
-            len: item.len,
-            entry: item.entry,
-            bench: item.bench,
-        };
-        let sheet = Sheet { items: desk.items.map(item), count: desk.count };
-        Desk { lines: desk.lines.map(line), sheet }
-    }
-}
-
-impl From<&Desk> for desk::Desk {
-    fn from(desk: &Desk) -> Self {
-        let line = |line: TextLine| desk::Line { bytes: line.bytes, len: line.len };
-        let item = |item: ItemState| desk::Item {
-            value: item.value,
-            len: item.len,
-            bench: item.bench,
-            entry: item.entry,
-        };
-        desk::Desk {
-            lines: desk.lines.map(line),
-            items: desk.sheet.items.map(item),
-            count: desk.sheet.count,
-        }
-    }
+pub fn item_state(value: &[u8], bench: u8, entry: u64) -> ItemState {
+    ItemState { value: padded(value), len: value.len() as u64, entry, bench }
 }
 
 /// Prints one struct's C name and size, and each field's name and offset.
@@ -209,5 +157,5 @@ pub fn print() {
     print_layout!("probe_key_result", KeyResult, desk, used, answer);
     print_layout!("play_result", PlayResult, written, answer);
     print_layout!("probe_filed", Filed, count, answer);
-    print_layout!("sheet_filed", Filed, count, answer);
+    print_layout!("desk_filed", Filed, count, answer);
 }

@@ -1,7 +1,7 @@
 //! Ways to break a sound desk, each in one place.
 
-use crate::boundary::{ItemState, TextLine};
-use crate::desks::{item_state, longest_value, Desks, State};
+use crate::boundary::{item_state, ItemState, TextLine};
+use crate::desks::{longest_value, Desks, State};
 use crate::random::Random;
 use reference::desk::{BENCHES, LOG_LIMIT, RECORD_HEAD};
 use reference::line::LIMIT;
@@ -21,7 +21,7 @@ type Break = fn(&mut State, &mut Random);
 pub const DESK_WAYS: usize = 32;
 
 /// Each way by name.
-pub const WAYS: [(&str, Break); 36] = [
+pub const WAYS: [(&str, Break); 37] = [
     ("line longer than the limit", |state, random| {
         line(state, random).len = random.pick(&BAD_LENGTHS);
     }),
@@ -115,11 +115,9 @@ pub const WAYS: [(&str, Break); 36] = [
         state.desk.sheet.count =
             random.pick(&[count, count, u64::MAX, u64::MAX.div_ceil(RECORD_HEAD as u64), 1 << 63]);
     }),
-    ("used below six times the count", |state, random| {
-        state.used = match random.below(2) {
-            0 => 0,
-            _ => RECORD_HEAD as u64 * state.desk.sheet.count - 1,
-        };
+    ("used none of some entries", |state, _| state.used = 0),
+    ("used one below six times the count", |state, _| {
+        state.used = RECORD_HEAD as u64 * state.desk.sheet.count - 1;
     }),
     ("used above the log's length", |state, random| {
         let length = state.log.len() as u64;

@@ -1,6 +1,7 @@
 //! What the C client must print, by the reference program.
 
-use crate::program::{Program, Reference};
+use crate::by_reference::Reference;
+use crate::program::Program;
 use reference::{line, names, value};
 use std::io::{Read, Result as IoResult, Write};
 

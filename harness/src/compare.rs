@@ -6,11 +6,13 @@ mod play;
 mod sheets;
 
 use crate::boundary::{Graded, NumberResult};
+use crate::by_reference::gathered;
 use crate::inputs::{Inputs, ROWS};
 use crate::lists;
-use crate::program::{Library, Program};
+use crate::program::Program;
 use crate::tally::{Question, Tally};
 use std::fmt::Debug;
+use std::panic::{catch_unwind, resume_unwind, AssertUnwindSafe};
 
 /// Rows that judge no single value: neighbours of 6, 8 and 10, and what a cut-off number would
 /// turn into one of them.
@@ -38,6 +40,8 @@ pub const OTHER_ROWS: [u64; 22] = [
     (1 << 63) + 6,
     u64::MAX,
 ];
+/// What such a row is answered with.
+const NO_GRADE: Graded = Graded { answer: 6, level: 0 };
 /// How many differences are printed.
 const SHOWN: usize = 10;
 
@@ -73,13 +77,19 @@ impl Group {
     }
 }
 
+/// The places of encoded calls in gathered order.
+pub type Gather = fn(&[u8]) -> Vec<usize>;
+
 pub struct Comparison<'a> {
     tested: &'a dyn Program,
     expected: &'a dyn Program,
+    gather: Gather,
     pub groups: Vec<Group>,
     pub tally: Tally,
     examples: Vec<String>,
     lists: bool,
+    /// Whether the first difference ends the run.
+    ends: bool,
 }
 
 /// Runs the whole comparison.
@@ -88,30 +98,32 @@ pub fn compare<'a>(
     expected: &'a dyn Program,
     plan: &Plan,
 ) -> Comparison<'a> {
-    let mut run = Comparison {
-        tested,
-        expected,
-        groups: vec![],
-        tally: Tally::default(),
-        examples: vec![],
-        lists: plan.lists,
-    };
-    if tested.has(Library::Wall) || tested.has(Library::Probe) {
-        run.readers(plan);
-    }
-    if tested.has(Library::Rows) {
-        run.all_sheets(plan);
-    }
-    if tested.has(Library::Keys) {
-        run.all_keys(plan);
-    }
-    if tested.has(Library::Play) {
-        run.all_sequences(plan);
-    }
-    if tested.has(Library::File) {
-        run.all_files(plan);
-    }
+    let mut run = Comparison::new(tested, expected, gathered, plan);
+    run.whole(plan);
     run
+}
+
+/// What unwinds a run that its first difference ends.
+struct Difference(String);
+
+/// The first difference, or that a program panicked, or an answer that was never seen; none where the
+/// comparison passes.
+pub fn first_difference(
+    tested: &dyn Program,
+    expected: &dyn Program,
+    gather: Gather,
+    plan: &Plan,
+) -> Option<String> {
+    let run = AssertUnwindSafe(|| {
+        let mut run = Comparison::new(tested, expected, gather, plan);
+        run.ends = true;
+        run.whole(plan);
+        run.missing().first().map(|answer| format!("never seen: {answer}"))
+    });
+    catch_unwind(run).unwrap_or_else(|panic| match panic.downcast::<Difference>() {
+        Ok(difference) => Some(difference.0),
+        Err(_) => Some("a panic".into()),
+    })
 }
 
 /// The names of a check from the fixed seed and from the new one.
@@ -122,7 +134,25 @@ macro_rules! from_seeds {
 }
 use from_seeds;
 
-impl Comparison<'_> {
+impl<'a> Comparison<'a> {
+    fn new(
+        tested: &'a dyn Program,
+        expected: &'a dyn Program,
+        gather: Gather,
+        plan: &Plan,
+    ) -> Self {
+        Comparison {
+            tested,
+            expected,
+            gather,
+            groups: vec![],
+            tally: Tally::default(),
+            examples: vec![],
+            lists: plan.lists,
+            ends: false,
+        }
+    }
+
     /// A check of inputs from both seeds, one for each so many lines.
     fn seeded(
         &mut self,
@@ -136,26 +166,42 @@ impl Comparison<'_> {
         }
     }
 
+    /// First what is generated, then the fixed lists.
+    fn whole(&mut self, plan: &Plan) {
+        self.some_texts(plan);
+        self.some_sheets(plan);
+        self.some_keys(plan);
+        self.some_sequences(plan);
+        self.some_files(plan);
+        if plan.lists {
+            self.listed_sheets();
+            self.listed_keys(plan);
+            self.listed_sequences();
+            self.listed_files();
+            self.listed_texts();
+        }
+    }
+
     /// The readers of a line.
-    fn readers(&mut self, plan: &Plan) {
+    fn some_texts(&mut self, plan: &Plan) {
         self.seeded(plan, from_seeds!("lines"), 1, Self::generated_lines);
         self.seeded(plan, from_seeds!("values"), 1, Self::generated_values);
         self.values("single bytes", lists::single_bytes());
         self.lines("line lengths", lists::line_lengths());
-        if !plan.lists {
-            return;
-        }
-        self.values("short texts as values", lists::short_texts(lists::SHORT_VALUE));
-        self.lines(
-            "short texts in lines",
-            lists::in_lines(lists::short_texts(lists::SHORT_IN_LINE)),
-        );
-        self.values("reserved words as values", lists::reserved_words());
-        self.lines("reserved words in lines", lists::in_lines(lists::reserved_words()));
+    }
+
+    fn listed_texts(&mut self) {
         self.values("numbers at the limits", lists::numbers_at_limits());
         self.values("numbers at the bounds", lists::numbers_at_bounds());
         self.lines("items with values", lists::items_with_values());
         self.lines("names one byte off", lists::names_one_byte_off());
+        self.values("reserved words as values", lists::reserved_words());
+        self.lines("reserved words in lines", lists::in_lines(lists::reserved_words()));
+        self.lines(
+            "short texts in lines",
+            lists::in_lines(lists::short_texts(lists::SHORT_IN_LINE)),
+        );
+        self.values("short texts as values", lists::short_texts(lists::SHORT_VALUE));
     }
 
     pub fn differences(&self) -> u64 {
@@ -169,7 +215,7 @@ impl Comparison<'_> {
             let Group { name, inputs, answers, different } = group;
             println!("{name:<26} {inputs:>9} {answers:>9} {different:>9}");
         }
-        self.tally.print(|library| self.tested.has(library));
+        self.tally.print();
         let missing = self.missing();
         missing.iter().for_each(|answer| println!("NEVER SEEN {answer}"));
         self.examples.iter().for_each(|example| println!("DIFFERENT {example}"));
@@ -183,7 +229,7 @@ impl Comparison<'_> {
         if !self.lists {
             return vec![];
         }
-        self.tally.missing(|library| self.tested.has(library))
+        self.tally.missing()
     }
 
     fn generated_lines(&mut self, name: &'static str, seed: u64, count: u64) {
@@ -222,44 +268,36 @@ impl Comparison<'_> {
 
     fn line(&mut self, line: &[u8]) {
         let (tested, expected) = (self.tested, self.expected);
-        if tested.has(Library::Wall) {
-            let answer =
-                self.same(&"wall_classify", line, tested.classify(line), expected.classify(line));
-            self.tally.note(
-                Question::Line,
-                [0, 5, 6, 7].iter().position(|&known| known == answer).unwrap_or(usize::MAX),
-            );
-        }
-        if tested.has(Library::Probe) {
-            let form = self.same(&"probe_line", line, tested.line(line), expected.line(line));
-            self.tally.note(Question::Form, form.found as usize);
+        let answer =
+            self.same(&"wall_classify", line, tested.classify(line), expected.classify(line));
+        let place = [0, 5, 6, 7].iter().position(|&known| known == answer);
+        self.tally.note(Question::Line, place.unwrap_or(usize::MAX));
 
-            let name = line.split(|&byte| byte == b' ').next().unwrap_or(line);
-            let item = self.same(&"probe_item", name, tested.item(name), expected.item(name));
-            self.tally.note(Question::Item, item as usize);
-        }
+        let form = self.same(&"probe_line", line, tested.line(line), expected.line(line));
+        self.tally.note(Question::Form, form.found as usize);
+
+        let name = line.split(|&byte| byte == b' ').next().unwrap_or(line);
+        let item = self.same(&"probe_item", name, tested.item(name), expected.item(name));
+        self.tally.note(Question::Item, item as usize);
     }
 
     fn value(&mut self, value: &[u8], other_row: u64) {
         let (tested, expected) = (self.tested, self.expected);
-        if tested.has(Library::Probe) {
-            let number =
-                self.same(&"probe_number", value, tested.number(value), expected.number(value));
-            self.tally.note(Question::Number, number_place(number));
+        let number =
+            self.same(&"probe_number", value, tested.number(value), expected.number(value));
+        self.tally.note(Question::Number, number_place(number));
 
-            let form = self.same(&"probe_value", value, tested.value(value), expected.value(value));
-            self.tally.note(Question::Value, form as usize);
+        let form = self.same(&"probe_value", value, tested.value(value), expected.value(value));
+        self.tally.note(Question::Value, form as usize);
+
+        let questions = [Question::Row6, Question::Row8, Question::Row10];
+        for (row, question) in ROWS.into_iter().zip(questions) {
+            let graded = self.grade(row, value);
+            self.tally.note(question, grade_place(graded));
         }
-        if tested.has(Library::Wall) {
-            let questions = [Question::Row6, Question::Row8, Question::Row10];
-            for (row, question) in ROWS.into_iter().zip(questions) {
-                let graded = self.grade(row, value);
-                self.tally.note(question, grade_place(graded));
-            }
-            let graded = self.grade(other_row, value);
-            let place = if graded == (6, 0).into() { 0 } else { usize::MAX };
-            self.tally.note(Question::OtherRow, place);
-        }
+        let graded = self.grade(other_row, value);
+        let place = if graded == NO_GRADE { 0 } else { usize::MAX };
+        self.tally.note(Question::OtherRow, place);
     }
 
     fn grade(&mut self, row: u64, value: &[u8]) -> Graded {
@@ -292,6 +330,9 @@ impl Comparison<'_> {
 
     /// Counts one difference; the first ones are shown.
     fn different(&mut self, example: impl FnOnce() -> String) {
+        if self.ends {
+            resume_unwind(Box::new(Difference(example())));
+        }
         self.group().different += 1;
         if self.examples.len() < SHOWN {
             self.examples.push(example());

@@ -1,4 +1,4 @@
-//! The programs `desk` and `sheet_cif` run on generated inputs, their outputs held equal to the
+//! The programs `desk` and `camp cif` run on generated inputs, their outputs held equal to the
 //! reference's.
 
 use crate::files::Files;
@@ -21,12 +21,12 @@ pub fn run(path: &Path, seed: u64, count: u64) -> (usize, usize) {
     each(seed, count, |input, _| printed(output(path, &[], input), program(input).as_bytes()))
 }
 
-/// Runs the program `sheet_cif` on generated inputs and block names.
+/// Runs the command `cif` of the program `camp` on generated inputs and block names.
 pub fn run_cif(path: &Path, seed: u64, count: u64) -> (usize, usize) {
     each(seed, count, |input, seed| {
         let mut block = Files::new(seed).block();
         block.retain(|&byte| byte != 0); // no argument holds one
-        let output = output(path, &[&block], input);
+        let output = output(path, &[b"cif", &block], input);
         match cif_program(input, &block) {
             Some(file) => printed(output, &file),
             None => refused(output),
@@ -78,8 +78,7 @@ fn refused(run: IoResult<Output>) -> Option<String> {
         Ok(Output { stdout, .. }) if !stdout.is_empty() => Some(format!("wrote {}", text(&stdout))),
         Ok(Output { stderr, .. }) => {
             let said = text(&stderr);
-            let one_line =
-                said.starts_with("sheet_cif: ") && said.find('\n') == Some(said.len() - 1);
+            let one_line = said.starts_with("camp: ") && said.find('\n') == Some(said.len() - 1);
             (!one_line).then(|| format!("said {said}"))
         }
     }

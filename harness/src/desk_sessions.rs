@@ -1,6 +1,6 @@
-//! Sessions of the programs `desk` and `sheet_cif` by readable scripts, and what each must print.
+//! Sessions of the programs `desk` and `camp cif` by readable scripts, and what each must print.
 
-use crate::program::Library;
+use crate::by_reference::told;
 use crate::tally::Tally;
 use reference::desk::{key, report, FRESH, LOG_FULL, NOT_SOUND, RECORD_HEAD};
 use reference::line::LIMIT;
@@ -305,20 +305,43 @@ fn not_judgeable() -> Vec<u8> {
 /// The block name of the sessions' files.
 const BLOCK: &[u8] = b"camp-1";
 
-/// Writes each session's input, what `desk` must print, and the file that `sheet_cif` must write with
-/// the block name camp-1, as NAME.in, NAME.out and NAME.cif. Fails where the sessions leave out a
+/// A session with what `desk` prints for it, and the file that `camp cif` writes with the block
+/// name camp-1.
+#[derive(PartialEq, Eq)]
+pub struct Session {
+    pub name: &'static str,
+    pub input: Vec<u8>,
+    pub printed: String,
+    pub file: Option<Vec<u8>>,
+}
+
+/// All sessions by two programs, one that prints and one that writes.
+pub fn sessions_by(
+    program: fn(&[u8]) -> String,
+    cif_program: fn(&[u8], &[u8]) -> Option<Vec<u8>>,
+) -> Vec<Session> {
+    let session = |(name, input): Script| {
+        let (printed, file) = (program(&input), cif_program(&input, BLOCK));
+        Session { name, input, printed, file }
+    };
+    scripts().into_iter().map(session).collect()
+}
+
+/// All sessions as they must be.
+pub fn sessions() -> Vec<Session> {
+    sessions_by(program, cif_program)
+}
+
+/// Writes each session as NAME.in, NAME.out and NAME.cif. Fails where the sessions leave out a
 /// refusal, or a level or reason of a row.
 pub fn write(folder: &Path) -> Result<(), String> {
-    let scripts = scripts();
-    let missing = left_out(&scripts);
+    let missing = left_out(&scripts());
     if !missing.is_empty() {
         return Err(format!("the sessions leave out {}", missing.join(", ")));
     }
-    for (name, input) in scripts {
-        let file = cif_program(&input, BLOCK).expect("a good block name");
-        for (end, content) in
-            [("in", &input[..]), ("out", program(&input).as_bytes()), ("cif", &file)]
-        {
+    for Session { name, input, printed, file } in sessions() {
+        let file = file.expect("a good block name");
+        for (end, content) in [("in", &input[..]), ("out", printed.as_bytes()), ("cif", &file)] {
             let path = folder.join(format!("{name}.{end}"));
             fs::write(&path, content).map_err(|fault| format!("{}: {fault}", path.display()))?;
         }
@@ -335,10 +358,10 @@ fn left_out(scripts: &[Script]) -> Vec<String> {
         for (bench, byte) in keys(input) {
             seen[usize::from(key(&mut desk, &mut log, &mut used, bench, byte))] = true;
         }
-        tally.note_rows(&report(&desk).1.into());
+        tally.note_rows(&told(&report(&desk).1));
     }
     let answers =
         (0..=LOG_FULL).filter(|&answer| answer != NOT_SOUND && !seen[usize::from(answer)]);
     let answers = answers.map(|answer| format!("answer {answer}"));
-    answers.chain(tally.missing(|library| library == Library::Rows)).collect()
+    answers.chain(tally.missing_rows()).collect()
 }

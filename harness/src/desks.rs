@@ -1,6 +1,7 @@
 //! Desks with their logs: fresh, and generated sound ones.
 
-use crate::boundary::{Desk, ItemState, KeyResult, TextLine};
+use crate::boundary::{item_state, text_line, Desk, ItemState, KeyResult, TextLine};
+use crate::by_reference::lent;
 use crate::inputs::Inputs;
 use crate::program::Program;
 use crate::random::Random;
@@ -21,7 +22,7 @@ impl State {
     /// A fresh desk and a log whose byte i is (seed + 7 * i) mod 256, none used.
     pub fn fresh(length: usize, seed: u64) -> Self {
         let byte = |at: u64| seed.wrapping_add(at.wrapping_mul(7)) as u8;
-        State { desk: (&FRESH).into(), log: (0..length as u64).map(byte).collect(), used: 0 }
+        State { desk: lent(&FRESH), log: (0..length as u64).map(byte).collect(), used: 0 }
     }
 
     /// A key call by one program; its result is the new state.
@@ -30,21 +31,6 @@ impl State {
         (self.desk, self.used) = (result.desk, result.used);
         result
     }
-}
-
-/// The text with zeros after it.
-pub fn padded(text: &[u8]) -> [u8; LIMIT] {
-    let mut bytes = [0; LIMIT];
-    bytes[..text.len()].copy_from_slice(text);
-    bytes
-}
-
-pub fn text_line(text: &[u8]) -> TextLine {
-    TextLine { bytes: padded(text), len: text.len() as u64 }
-}
-
-pub fn item_state(value: &[u8], bench: u8, entry: u64) -> ItemState {
-    ItemState { value: padded(value), len: value.len() as u64, entry, bench }
 }
 
 /// The longest value that an item takes: with its name and one space a line at the limit.
@@ -92,7 +78,7 @@ impl Desks {
     /// A sound desk, not always one that keys can reach, and a sound log. The room left is often
     /// just what the record of one bench's line takes, or a byte less.
     pub fn sound(&mut self) -> State {
-        let mut desk = Desk::from(&FRESH);
+        let mut desk = lent(&FRESH);
         desk.sheet.count = self.random.pick(&[0, 1, 1, 2, 3, 10, 10, 40, 600]);
         let filled = self.random.pick(&[0, 1, 2, 2]);
         for (place, value) in self.sheets.values().into_iter().enumerate() {
@@ -120,7 +106,7 @@ impl Desks {
 
     /// A desk and a log of random bytes, with random numbers, many of them small.
     pub fn random(&mut self) -> State {
-        let mut desk = Desk::from(&FRESH);
+        let mut desk = lent(&FRESH);
         for line in &mut desk.lines {
             *line = TextLine { bytes: self.bytes(), len: self.number() };
         }

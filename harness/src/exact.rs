@@ -2,9 +2,9 @@
 //! tool that watches the memory sees every access beyond it.
 
 use crate::boundary::{
-    Desk, Filed, Graded, KeyResult, LineResult, NumberResult, PlayResult, RowsResult,
+    Desk, Filed, Graded, KeyResult, LineResult, NumberResult, PlayResult, RowsResult, Sheet,
 };
-use crate::program::{Library, Program, Values};
+use crate::program::Program;
 
 pub struct Exact<P>(pub P);
 
@@ -22,10 +22,6 @@ fn lent<T>(bytes: &mut [u8], asked: impl FnOnce(&mut [u8]) -> T) -> T {
 }
 
 impl<P: Program> Program for Exact<P> {
-    fn has(&self, library: Library) -> bool {
-        self.0.has(library)
-    }
-
     fn classify(&self, line: &[u8]) -> u8 {
         self.0.classify(&block(line))
     }
@@ -50,8 +46,8 @@ impl<P: Program> Program for Exact<P> {
         self.0.item(&block(name))
     }
 
-    fn rows(&self, values: &Values) -> RowsResult {
-        self.0.rows(values)
+    fn rows(&self, sheet: &Sheet) -> RowsResult {
+        self.0.rows(sheet)
     }
 
     fn key(&self, desk: &Desk, log: &mut [u8], used: u64, bench: u64, byte: u8) -> KeyResult {

@@ -1,7 +1,8 @@
 //! Sheets to be written as files, block names, and rooms for them.
 
-use crate::boundary::Desk;
-use crate::desks::{item_state, longest_value, Desks};
+use crate::boundary::{item_state, Desk};
+use crate::by_reference::{held, lent};
+use crate::desks::{longest_value, Desks};
 use crate::inputs::WORDS;
 use crate::lists::numbers_at_limits;
 use crate::random::Random;
@@ -29,7 +30,7 @@ const AWKWARD: [&str; 44] = [
 
 /// How long the file of a sound desk would be with this name; of an unsound one there is none.
 pub fn length(desk: &Desk, block: &[u8]) -> usize {
-    let desk = desk.into();
+    let desk = held(desk);
     if is_sound(&desk) {
         file(&desk, block).len()
     } else {
@@ -39,7 +40,7 @@ pub fn length(desk: &Desk, block: &[u8]) -> usize {
 
 /// A desk that holds these values, entered in turn by all benches.
 pub fn holding(values: &[(usize, &[u8])]) -> Desk {
-    let mut desk = Desk::from(&FRESH);
+    let mut desk = lent(&FRESH);
     for (entry, (item, value)) in (1..).zip(values) {
         desk.sheet.items[item - 1] = item_state(value, (entry % BENCHES as u64) as u8, entry);
         desk.sheet.count = entry;

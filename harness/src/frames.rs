@@ -10,11 +10,12 @@
 //! | 2 | length of a text, a row, 0, 0 | the text | number of the line; answer and level as one number, 16 for each answer |
 //! | 3 | length of ten values, 0, 10, 24 | the values, their lengths, the room | two zeros; level and reason of each of `probe_rows` |
 
-use crate::boundary::Desk;
+use crate::boundary::Sheet;
+use crate::by_reference::{lent, Reference};
 use crate::desk_sessions;
 use crate::files::Files;
 use crate::inputs::{Inputs, ROWS};
-use crate::program::{Program, Reference, Values};
+use crate::program::Program;
 use crate::random::Random;
 use crate::sequences::{
     desk_sessions, few_calls, log_lengths, measured_examples, Sequence, Sequences,
@@ -90,7 +91,7 @@ impl Frames {
             [input.len(), LOG, block.len(), out.len()],
             &[input, &before, block, &out],
         );
-        let filed = Reference.file(&Desk::from(&desk), block, &mut out);
+        let filed = Reference.file(&lent(&desk), block, &mut out);
         self.answer(filed.count, filed.answer, &[&log, &out]);
     }
 
@@ -100,11 +101,11 @@ impl Frames {
         self.answer(Reference.classify(text).into(), 16 * graded.answer + graded.level, &[]);
     }
 
-    fn rows(&mut self, values: &Values) {
-        let Values { texts, lens } = values;
-        let room = [FILL; 2 * ROW_COUNT];
-        self.frame(ROWS_OF, [texts.len(), 0, lens.len(), room.len()], &[texts, lens, &room]);
-        let rows = Reference.rows(values).rows.map(|row| [row.level, row.reason]);
+    fn rows(&mut self, sheet: &Sheet) {
+        let (texts, room) = (sheet.values().concat(), [FILL; 2 * ROW_COUNT]);
+        let lens = sheet.values().map(|value| value.len() as u8);
+        self.frame(ROWS_OF, [texts.len(), 0, lens.len(), room.len()], &[&texts, &lens, &room]);
+        let rows = Reference.rows(sheet).rows.map(|row| [row.level, row.reason]);
         self.answer(0, 0, &[rows.as_flattened()]);
     }
 
@@ -120,7 +121,7 @@ impl Frames {
 /// interpreter.
 pub fn write_examples(folder: &Path) -> Result<(), String> {
     let mut frames = Frames::default();
-    sheet_lists::measured_examples().iter().for_each(|values| frames.rows(values));
+    sheet_lists::measured_examples().iter().for_each(|sheet| frames.rows(sheet));
     let keys = b"_refine_ls_R_factor_gt 0.16\n".map(|byte| Call::Key { bench: 0, byte });
     let calls: Vec<u8> = keys.iter().flat_map(encode_call).collect();
     frames.play(&calls, &[0xee; 10], length(keys.len()));
@@ -135,7 +136,7 @@ pub fn write_examples(folder: &Path) -> Result<(), String> {
 /// length of the log and the order of few calls.
 pub fn write_lists(folder: &Path) -> Result<(), String> {
     let mut frames = Frames::default();
-    sheet_lists::measured_examples().iter().for_each(|values| frames.rows(values));
+    sheet_lists::measured_examples().iter().for_each(|sheet| frames.rows(sheet));
     let lists = measured_examples().chain(log_lengths()).chain(desk_sessions());
     lists.chain(few_calls().step_by(9)).for_each(|sequence| frames.sequence(&sequence));
     for (number, (_, input)) in (1..).zip(desk_sessions::scripts()) {

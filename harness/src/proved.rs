@@ -1,43 +1,18 @@
-//! The proved library through its C boundary: the archives that are there.
+//! The proved library through its C boundary.
 
-#[cfg(proved = "test_probe_file")]
-use crate::boundary::Filed;
-#[cfg(proved = "export_wall")]
-use crate::boundary::Graded;
-#[cfg(proved = "test_probe_keys")]
-use crate::boundary::KeyResult;
-#[cfg(proved = "test_play")]
-use crate::boundary::PlayResult;
-#[cfg(proved = "test_probe_rows")]
-use crate::boundary::Sheet;
-use crate::boundary::{Desk, RowsResult};
-#[cfg(proved = "test_probe")]
-use crate::boundary::{LineResult, NumberResult};
-#[cfg(proved = "test_probe_rows")]
-use crate::program::Values;
-use crate::program::{Library, Program};
+use crate::boundary::{
+    Desk, Filed, Graded, KeyResult, LineResult, NumberResult, PlayResult, RowsResult, Sheet,
+};
+use crate::program::Program;
 
-#[cfg(proved = "export_wall")]
 extern "C" {
     fn wall_classify(line: *const u8, length: usize) -> u8;
     fn wall_grade(row: u64, value: *const u8, length: usize) -> Graded;
-}
-
-#[cfg(proved = "test_probe")]
-extern "C" {
     fn probe_number(text: *const u8, length: usize) -> NumberResult;
     fn probe_value(text: *const u8, length: usize) -> u64;
     fn probe_line(text: *const u8, length: usize) -> LineResult;
     fn probe_item(name: *const u8, length: usize) -> u64;
-}
-
-#[cfg(proved = "test_probe_rows")]
-extern "C" {
     fn probe_rows(sheet: Sheet) -> RowsResult;
-}
-
-#[cfg(proved = "test_probe_keys")]
-extern "C" {
     fn probe_key(
         desk: Desk,
         log: *mut u8,
@@ -46,10 +21,6 @@ extern "C" {
         bench: u64,
         byte: u8,
     ) -> KeyResult;
-}
-
-#[cfg(proved = "test_play")]
-extern "C" {
     fn play_sequence(
         calls: *const u8,
         calls_len: usize,
@@ -58,10 +29,6 @@ extern "C" {
         out: *mut u8,
         out_len: usize,
     ) -> PlayResult;
-}
-
-#[cfg(proved = "test_probe_file")]
-extern "C" {
     fn probe_file(
         desk: Desk,
         name: *const u8,
@@ -74,79 +41,47 @@ extern "C" {
 /// The proved library.
 pub struct Proved;
 
-/// A method that hands one run of bytes to an archive's function.
-macro_rules! asks {
-    ($library:tt, $method:ident, $function:ident, $answer:ty) => {
-        #[cfg(proved = $library)]
-        fn $method(&self, text: &[u8]) -> $answer {
-            unsafe { $function(text.as_ptr(), text.len()) }
-        }
-    };
-}
-
-// Every call below lends a live slice for the call; a slice's pointer is never null.
+// Every call lends a live slice for the call; a slice's pointer is never null.
 impl Program for Proved {
-    fn has(&self, library: Library) -> bool {
-        match library {
-            Library::Wall => cfg!(proved = "export_wall"),
-            Library::Probe => cfg!(proved = "test_probe"),
-            Library::Rows => cfg!(proved = "test_probe_rows"),
-            Library::Keys => cfg!(proved = "test_probe_keys"),
-            Library::Play => cfg!(proved = "test_play"),
-            Library::File => cfg!(proved = "test_probe_file"),
-        }
+    fn classify(&self, line: &[u8]) -> u8 {
+        unsafe { wall_classify(line.as_ptr(), line.len()) }
     }
 
-    asks!("export_wall", classify, wall_classify, u8);
-    asks!("test_probe", number, probe_number, NumberResult);
-    asks!("test_probe", value, probe_value, u64);
-    asks!("test_probe", line, probe_line, LineResult);
-    asks!("test_probe", item, probe_item, u64);
-
-    #[cfg(proved = "export_wall")]
     fn grade(&self, row: u64, value: &[u8]) -> Graded {
         unsafe { wall_grade(row, value.as_ptr(), value.len()) }
     }
 
-    #[cfg(proved = "test_probe_rows")]
-    fn rows(&self, values: &Values) -> RowsResult {
-        self.sheet_rows(&Sheet::from(values))
+    fn number(&self, text: &[u8]) -> NumberResult {
+        unsafe { probe_number(text.as_ptr(), text.len()) }
     }
 
-    #[cfg(proved = "test_probe_rows")]
-    fn sheet_rows(&self, sheet: &Sheet) -> RowsResult {
+    fn value(&self, text: &[u8]) -> u64 {
+        unsafe { probe_value(text.as_ptr(), text.len()) }
+    }
+
+    fn line(&self, text: &[u8]) -> LineResult {
+        unsafe { probe_line(text.as_ptr(), text.len()) }
+    }
+
+    fn item(&self, name: &[u8]) -> u64 {
+        unsafe { probe_item(name.as_ptr(), name.len()) }
+    }
+
+    fn rows(&self, sheet: &Sheet) -> RowsResult {
         unsafe { probe_rows(*sheet) }
     }
 
-    #[cfg(proved = "test_probe_keys")]
     fn key(&self, desk: &Desk, log: &mut [u8], used: u64, bench: u64, byte: u8) -> KeyResult {
         unsafe { probe_key(*desk, log.as_mut_ptr(), log.len(), used, bench, byte) }
     }
 
-    #[cfg(proved = "test_play")]
     fn play(&self, calls: &[u8], log: &mut [u8], out: &mut [u8]) -> PlayResult {
-        unsafe {
-            play_sequence(
-                calls.as_ptr(),
-                calls.len(),
-                log.as_mut_ptr(),
-                log.len(),
-                out.as_mut_ptr(),
-                out.len(),
-            )
-        }
+        let (log_len, out_len) = (log.len(), out.len());
+        let (log, out) = (log.as_mut_ptr(), out.as_mut_ptr());
+        unsafe { play_sequence(calls.as_ptr(), calls.len(), log, log_len, out, out_len) }
     }
 
-    #[cfg(proved = "test_probe_file")]
     fn file(&self, desk: &Desk, block: &[u8], out: &mut [u8]) -> Filed {
         unsafe { probe_file(*desk, block.as_ptr(), block.len(), out.as_mut_ptr(), out.len()) }
-    }
-
-    fn report(&self, _desk: &Desk) -> Option<(u8, RowsResult)> {
-        None
-    }
-
-    fn who(&self, _desk: &Desk, _item: u64) -> Option<(u8, u8, u64)> {
-        None
     }
 }

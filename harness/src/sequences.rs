@@ -264,9 +264,9 @@ pub fn desk_sessions() -> impl Iterator<Item = Sequence> {
 /// The measured examples of document 01 typed item by item, each by another bench, with every
 /// question at the end.
 pub fn measured_examples() -> impl Iterator<Item = Sequence> {
-    sheet_lists::measured_examples().into_iter().map(|values| {
+    sheet_lists::measured_examples().into_iter().map(|sheet| {
         let filled =
-            ITEMS.iter().zip(values.parts()).zip(0..).filter(|((_, value), _)| !value.is_empty());
+            ITEMS.iter().zip(sheet.values()).zip(0..).filter(|((_, value), _)| !value.is_empty());
         let keys = filled.flat_map(|(((name, _), value), place)| {
             let line = [name.as_bytes(), b" ", value, &[ENTER]].concat();
             line.into_iter().map(move |byte| Call::Key { bench: place % BENCHES as u64, byte })

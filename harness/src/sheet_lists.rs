@@ -1,9 +1,9 @@
 //! Fixed lists of sheets: every symbol, every mixture of missing items, and every place next to a
 //! bound of the twelve rows.
 
+use crate::boundary::Sheet;
 use crate::inputs::{decimal, near};
 use crate::lists::numbers_at_bounds;
-use crate::program::Values;
 use crate::sheets::{fits, most_places, weight_bounds, MISSING};
 use reference::formula::{self, SYMBOLS, WEIGHTS};
 use reference::line::BYTES;
@@ -12,17 +12,17 @@ use reference::number::PLACES;
 use reference::rows::THRESHOLDS;
 
 /// A sheet on which the items with a number are filled.
-fn sheet(filled: &[(usize, &str)]) -> Values {
+fn sheet(filled: &[(usize, &str)]) -> Sheet {
     let mut values = [""; ITEMS.len()];
     for (item, value) in filled {
         debug_assert!(fits(*item, value.as_bytes()), "item {item}: {value}");
         values[item - 1] = value;
     }
-    Values::new(&values)
+    Sheet::holding(&values)
 }
 
 /// Sheets of document 01, "Measured examples".
-pub fn measured_examples() -> Vec<Values> {
+pub fn measured_examples() -> Vec<Sheet> {
     let mut sheets = vec![];
     let weights = ["138.8673", "138.8672", "133.2565", "133.2564", "126.243", "126.242", "154.297"];
     for weight in weights.into_iter().chain(["141.27", "141.271"]) {
@@ -48,7 +48,7 @@ pub fn measured_examples() -> Vec<Values> {
 }
 
 /// Each item assigned, empty or unassigned, in every mixture; with two sets of assigned values.
-pub fn missing_mixtures() -> impl Iterator<Item = Values> {
+pub fn missing_mixtures() -> impl Iterator<Item = Sheet> {
     let sets = [
         ["'C10 H20'", "140.27", "FO", "0.2", "0.3", "0.3", "0.5", "0.1", "-0.3", "'I > 5\\s(I)'"],
         ["'C10 Xx'", "1", "'CI'", "0.05", "0.12", "0.2", "0.4", "0", "0.06", "'I > 5'"],
@@ -61,13 +61,13 @@ pub fn missing_mixtures() -> impl Iterator<Item = Values> {
                 1 => MISSING[0],
                 _ => MISSING[1 + (mixture + place) % 2],
             };
-            Values::new(&std::array::from_fn::<_, { ITEMS.len() }, _>(item))
+            Sheet::holding(&std::array::from_fn::<_, { ITEMS.len() }, _>(item))
         })
     })
 }
 
 /// Each capital, alone and before every byte, in formulas with and without C and H.
-pub fn symbols() -> impl Iterator<Item = Values> {
+pub fn symbols() -> impl Iterator<Item = Sheet> {
     let seconds = BYTES.filter(|byte| !b"' ".contains(byte)).map(|byte| (byte as char).to_string());
     let seconds: Vec<String> = [String::new()].into_iter().chain(seconds).collect();
     (b'A'..=b'Z').flat_map(move |capital| {
@@ -85,7 +85,7 @@ pub fn symbols() -> impl Iterator<Item = Values> {
 }
 
 /// Each symbol of the table with each category and its own weight, with C and H and alone.
-pub fn classes() -> impl Iterator<Item = Values> {
+pub fn classes() -> impl Iterator<Item = Sheet> {
     SYMBOLS.into_iter().flat_map(|symbol| {
         CATEGORIES.into_iter().flat_map(move |category| {
             [
@@ -104,14 +104,14 @@ pub fn classes() -> impl Iterator<Item = Values> {
 }
 
 /// Every two symbols of the table, one after the other.
-pub fn pairs() -> impl Iterator<Item = Values> {
+pub fn pairs() -> impl Iterator<Item = Sheet> {
     SYMBOLS.into_iter().flat_map(|first| {
         SYMBOLS.into_iter().map(move |second| sheet(&[(1, &format!("'{first} {second}'"))]))
     })
 }
 
 /// Every count up to beyond the largest, some with zeros before them.
-pub fn counts() -> impl Iterator<Item = Values> {
+pub fn counts() -> impl Iterator<Item = Sheet> {
     (0..=10_100).flat_map(|count| {
         let weight = decimal(1000 * 1008 * count, 2);
         ["", "0"].map(|zero| sheet(&[(1, &format!("H{zero}{count}")), (2, &weight), (3, "FO")]))
@@ -120,7 +120,7 @@ pub fn counts() -> impl Iterator<Item = Values> {
 
 /// Each weighted symbol and some formulas with weights at and beside each bound, in every number
 /// of places.
-pub fn weights_at_bounds() -> Vec<Values> {
+pub fn weights_at_bounds() -> Vec<Sheet> {
     let longer = ["C10 H20", "C18 H19 N7 O8 S", "C H H", "Pb9999 Pb9999 Pb9999", "C9999 H9999"];
     let mut sheets = vec![];
     for text in WEIGHTS.map(|(symbol, _)| symbol).into_iter().chain(longer) {
@@ -141,7 +141,7 @@ pub fn weights_at_bounds() -> Vec<Values> {
 }
 
 /// Numbers at and beside the bounds of rows 6, 8 and 10, under the new, the old and both names.
-pub fn numbers() -> impl Iterator<Item = Values> {
+pub fn numbers() -> impl Iterator<Item = Sheet> {
     numbers_at_bounds().into_iter().filter(|text| fits(4, text)).flat_map(|number| {
         let number = String::from_utf8(number).expect("a number is text");
         let new = [(4, &number[..]), (6, &number), (8, &number)];
@@ -152,7 +152,7 @@ pub fn numbers() -> impl Iterator<Item = Values> {
 }
 
 /// Each shape of row 12 with each bound, and one unit beside it in each place, in both quotes.
-pub fn thresholds_at_bounds() -> Vec<Values> {
+pub fn thresholds_at_bounds() -> Vec<Sheet> {
     let mut sheets = vec![];
     for (compared, _) in THRESHOLDS {
         for bound in THRESHOLDS.into_iter().flat_map(|(_, bounds)| bounds) {
@@ -173,7 +173,7 @@ pub fn thresholds_at_bounds() -> Vec<Values> {
 }
 
 /// Texts of items 1 and 10 with one byte changed into every other byte, removed or doubled.
-pub fn texts_one_byte_off() -> impl Iterator<Item = Values> {
+pub fn texts_one_byte_off() -> impl Iterator<Item = Sheet> {
     let expressions = THRESHOLDS.map(|(compared, _)| format!("{compared} > 6.5\\s({compared})"));
     let formulas = ["C10 H20 Br", "C H3 Na O", "H Br", "Cl2", "C18 H19 N7 O8 S"].map(String::from);
     let texts =

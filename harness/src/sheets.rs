@@ -1,7 +1,7 @@
 //! Generated sheets: ten values that could stand on a desk, about every bound of the twelve rows.
 
+use crate::boundary::Sheet;
 use crate::inputs::{decimal, near, Inputs, ROWS};
-use crate::program::Values;
 use crate::random::Random;
 use reference::formula::{self, SYMBOLS, WEIGHTS};
 use reference::line::{BYTES, LIMIT};
@@ -44,8 +44,8 @@ impl Sheets {
         Sheets { random: Random::new(seed), inputs: Inputs::new(seed.rotate_left(32)) }
     }
 
-    pub fn sheet(&mut self) -> Values {
-        Values::new(&self.values())
+    pub fn sheet(&mut self) -> Sheet {
+        Sheet::holding(&self.values())
     }
 
     /// Ten values; on some sheets all are there, on others many are missing.

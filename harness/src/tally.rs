@@ -2,49 +2,48 @@
 
 use crate::boundary::RowsResult;
 use crate::broken::{DESK_WAYS, WAYS};
-use crate::program::Library;
 use reference::names::ITEMS;
 use reference::rows::{NAMES, ROWS};
 
 const GRADES: &[&str] = &["0 0", "0 2", "0 3", "0 4", "7 0"];
 
-/// Each question with its archive and its possible answers.
-const QUESTIONS: [(Library, &str, &[&str]); 26] = [
-    (Library::Wall, "line", &["0", "5", "6", "7"]),
-    (Library::Wall, "row 6", GRADES),
-    (Library::Wall, "row 8", GRADES),
-    (Library::Wall, "row 10", GRADES),
-    (Library::Wall, "another row", &["6 0"]),
-    (Library::Probe, "number", &["none", "below 0", "0", "above 0"]),
-    (Library::Probe, "value", &["none", "unassigned", "bare", "quoted"]),
-    (Library::Probe, "line's form", &["no", "yes"]),
-    (Library::Probe, "item", &["none", "1", "2", "3", "4", "5", "6", "7", "8", "9", "10"]),
-    (Library::Keys, "key", &["0", "1", "2", "3", "4", "5", "6", "7", "8"]),
-    (Library::Keys, "key accepted", &["append", "erase", "erase nothing", "empty", "Enter"]),
-    (Library::Keys, "entry's bench", &["0", "1", "2", "3"]),
-    (Library::Keys, "entry's item", &["1", "2", "3", "4", "5", "6", "7", "8", "9", "10"]),
-    (Library::Play, "play", &["0", "1", "2", "3"]),
-    (Library::Play, "log played on", &["of none", "shorter", "of the limit", "too long"]),
-    (Library::Play, "gathering", &["changes nothing", "moves keys"]),
-    (Library::Play, "played key", &["0", "1", "2", "3", "4", "5", "6", "7", "8"]),
-    (Library::Play, "taken key", &["append", "erase", "empty", "Enter"]),
-    (Library::Play, "played Report", &["0"]),
-    (Library::Play, "played Who", &["0 by 0", "0 by 1", "0 by 2", "0 by 3", "0 empty", "6"]),
-    (Library::File, "file", &["0", "2", "10", "11"]),
-    (Library::File, "filled items", &["0", "1", "2", "3", "4", "5", "6", "7", "8", "9", "10"]),
-    (Library::File, "block name of", &["0", "1", "2 to 30", "31", "32", "33", "more"]),
-    (Library::File, "room for it", &["0", "less", "one less", "exact", "one more", "more"]),
-    (Library::File, "log typed into", &["exact", "one more", "longer", "of the limit"]),
-    (Library::File, "typed by bench", &["0", "1", "2", "3"]),
+/// Each question with its possible answers.
+const QUESTIONS: [(&str, &[&str]); 26] = [
+    ("line", &["0", "5", "6", "7"]),
+    ("row 6", GRADES),
+    ("row 8", GRADES),
+    ("row 10", GRADES),
+    ("another row", &["6 0"]),
+    ("number", &["none", "below 0", "0", "above 0"]),
+    ("value", &["none", "unassigned", "bare", "quoted"]),
+    ("line's form", &["no", "yes"]),
+    ("item", &["none", "1", "2", "3", "4", "5", "6", "7", "8", "9", "10"]),
+    ("key", &["0", "1", "2", "3", "4", "5", "6", "7", "8"]),
+    ("key accepted", &["append", "erase", "erase nothing", "empty", "Enter"]),
+    ("entry's bench", &["0", "1", "2", "3"]),
+    ("entry's item", &["1", "2", "3", "4", "5", "6", "7", "8", "9", "10"]),
+    ("play", &["0", "1", "2", "3"]),
+    ("log played on", &["of none", "shorter", "of the limit", "too long"]),
+    ("gathering", &["changes nothing", "moves keys"]),
+    ("played key", &["0", "1", "2", "3", "4", "5", "6", "7", "8"]),
+    ("taken key", &["append", "erase", "empty", "Enter"]),
+    ("played Report", &["0"]),
+    ("played Who", &["0 by 0", "0 by 1", "0 by 2", "0 by 3", "0 empty", "6"]),
+    ("file", &["0", "2", "10", "11"]),
+    ("filled items", &["0", "1", "2", "3", "4", "5", "6", "7", "8", "9", "10"]),
+    ("block name of", &["0", "1", "2 to 30", "31", "32", "33", "more"]),
+    ("room for it", &["0", "less", "one less", "exact", "one more", "more"]),
+    ("log typed into", &["exact", "one more", "longer", "of the limit"]),
+    ("typed by bench", &["0", "1", "2", "3"]),
 ];
 /// The most answers of a question.
 const MOST: usize = ITEMS.len() + 1;
 
 /// The lists that go by item have them all.
 const _: () = assert!(
-    QUESTIONS[Question::Item as usize].2.len() == MOST
-        && QUESTIONS[Question::EntryItem as usize].2.len() == ITEMS.len()
-        && QUESTIONS[Question::FilledItems as usize].2.len() == MOST
+    QUESTIONS[Question::Item as usize].1.len() == MOST
+        && QUESTIONS[Question::EntryItem as usize].1.len() == ITEMS.len()
+        && QUESTIONS[Question::FilledItems as usize].1.len() == MOST
 );
 
 #[derive(Clone, Copy)]
@@ -96,8 +95,8 @@ const POSSIBLE: [&[(u8, u8)]; ROWS] = [
     &[(0, 0), (2, 0), (3, 0), (4, 0), (2, 1), (2, 2)],
 ];
 
-/// One question: its archive, its name, and each possible answer with its count.
-type Counted = (Library, String, Vec<(String, u64)>);
+/// One question: its name, and each possible answer with its count.
+type Counted = (String, Vec<(String, u64)>);
 
 pub struct Tally {
     counts: [[u64; MOST]; QUESTIONS.len()],
@@ -150,21 +149,19 @@ impl Tally {
         }
     }
 
-    /// The possible answers to the asked archives' questions that were never given.
-    pub fn missing(&self, asked: impl Fn(Library) -> bool) -> Vec<String> {
-        let counted = self.counted().into_iter().filter(|(library, ..)| asked(*library));
-        counted
-            .flat_map(|(_, question, row)| {
-                let unseen = row.into_iter().filter(|(_, count)| *count == 0);
-                unseen.map(move |(answer, _)| format!("{question}: {answer}")).collect::<Vec<_>>()
-            })
-            .collect()
+    /// The possible answers that were never given.
+    pub fn missing(&self) -> Vec<String> {
+        never_given(self.counted())
     }
 
-    pub fn print(&self, asked: impl Fn(Library) -> bool) {
+    /// The levels and reasons of a sheet's rows that were never given.
+    pub fn missing_rows(&self) -> Vec<String> {
+        never_given(counted_rows("", &self.rows).collect())
+    }
+
+    pub fn print(&self) {
         println!("answers seen");
-        for (_, question, row) in self.counted().into_iter().filter(|(library, ..)| asked(*library))
-        {
+        for (question, row) in self.counted() {
             let row: Vec<String> =
                 row.into_iter().map(|(answer, count)| format!("{answer}: {count}")).collect();
             let parts: Vec<String> = row.chunks(MOST).map(|part| part.join(", ")).collect();
@@ -173,19 +170,30 @@ impl Tally {
     }
 
     fn counted(&self) -> Vec<Counted> {
-        let questions = QUESTIONS.iter().zip(&self.counts).map(|((library, name, all), counts)| {
+        let questions = QUESTIONS.iter().zip(&self.counts).map(|((name, all), counts)| {
             let row = all.iter().map(|answer| answer.to_string()).zip(*counts).collect();
-            (*library, name.to_string(), row)
+            (name.to_string(), row)
         });
-        let rows = counted_rows(Library::Rows, "", &self.rows);
-        let played_rows = counted_rows(Library::Play, "played ", &self.played_rows);
         let names = || WAYS.iter().map(|(name, _)| name.to_string());
         let ways = [
-            (Library::Keys, "not sound".into(), names().zip(self.ways).collect()),
-            (Library::File, "no file".into(), names().zip(self.file_ways).collect()),
+            ("not sound".into(), names().zip(self.ways).collect()),
+            ("no file".into(), names().zip(self.file_ways).collect()),
         ];
-        questions.chain(rows).chain(ways).chain(played_rows).collect()
+        let rows = counted_rows("", &self.rows);
+        questions
+            .chain(rows)
+            .chain(ways)
+            .chain(counted_rows("played ", &self.played_rows))
+            .collect()
     }
+}
+
+fn never_given(counted: Vec<Counted>) -> Vec<String> {
+    let unseen = |(question, row): Counted| {
+        let unseen = row.into_iter().filter(|(_, count)| *count == 0);
+        unseen.map(|(answer, _)| format!("{question}: {answer}")).collect::<Vec<_>>()
+    };
+    counted.into_iter().flat_map(unseen).collect()
 }
 
 fn note_each(counts: &mut [[u64; MOST]; ROWS], result: &RowsResult) {
@@ -197,13 +205,12 @@ fn note_each(counts: &mut [[u64; MOST]; ROWS], result: &RowsResult) {
 }
 
 fn counted_rows<'a>(
-    library: Library,
     before: &'a str,
     counts: &'a [[u64; MOST]; ROWS],
 ) -> impl Iterator<Item = Counted> + 'a {
     let rows = (1..).zip(NAMES).zip(POSSIBLE).zip(counts);
     rows.map(move |(((number, name), possible), counts)| {
         let pairs = possible.iter().map(|(level, reason)| format!("{level}/{reason}"));
-        (library, format!("{before}{number:02} {name}"), pairs.zip(*counts).collect())
+        (format!("{before}{number:02} {name}"), pairs.zip(*counts).collect())
     })
 }

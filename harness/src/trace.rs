@@ -6,9 +6,10 @@ mod stepped;
 
 pub use commands::commands;
 
+use crate::by_reference::Reference;
 use crate::compare::hex;
 use crate::desks::State;
-use crate::program::{Library, Program};
+use crate::program::Program;
 use played::Played;
 use reference::sequence::{Answer, Call};
 use std::fmt::Write as _;
@@ -56,8 +57,6 @@ impl Look {
 
 /// Who keeps the desk that the commands are about.
 trait Keeper {
-    /// Whether a command about the desk is there.
-    fn knows(&self, command: &str) -> bool;
     /// A fresh desk and a log. Every reply was settled before.
     fn fresh(&mut self, length: usize, seed: u64);
     fn call(&mut self, call: Call) -> Reply;
@@ -66,18 +65,14 @@ trait Keeper {
     fn settle(&mut self, replies: &mut [Reply]);
 }
 
-/// Answers every command of the input by the proved library's player, where there is one.
-pub fn run_proved(program: &dyn Program, input: impl Read, output: impl Write) -> IoResult<()> {
-    if program.has(Library::Play) {
-        run(program, Played::new(program), input, output)
-    } else {
-        run(program, Stepped::new(program), input, output)
-    }
+/// Answers every command of the input by a program's player.
+pub fn run_played(program: &dyn Program, input: impl Read, output: impl Write) -> IoResult<()> {
+    run(program, Played::new(program), input, output)
 }
 
-/// Answers every command of the input call by call.
-pub fn run_stepped(program: &dyn Program, input: impl Read, output: impl Write) -> IoResult<()> {
-    run(program, Stepped::new(program), input, output)
+/// Answers every command of the input by the reference, call by call.
+pub fn run_stepped(input: impl Read, output: impl Write) -> IoResult<()> {
+    run(&Reference, Stepped::new(), input, output)
 }
 
 /// The answers are settled and handed on whenever the input pauses: when no further whole line has
@@ -108,7 +103,7 @@ fn run(
     Ok(())
 }
 
-/// The reply to one command; `none` for one that is not there, or whose archive is not there.
+/// The reply to one command; `none` for one that is not there.
 fn answer(
     program: &dyn Program,
     keeper: &mut dyn Keeper,
@@ -116,37 +111,37 @@ fn answer(
     command: &str,
 ) -> Result<Reply, String> {
     let words: Vec<&str> = command.split_ascii_whitespace().collect();
-    let wall = program.has(Library::Wall);
-    Ok(match words[..] {
-        ["line", ref arguments @ ..] if wall => {
+    let [command, ref arguments @ ..] = words[..] else {
+        return Ok(Reply::Known("none".into()));
+    };
+    Ok(match command {
+        "line" => {
             let [line] = named(arguments, ["HEX"])?;
             Reply::Known(program.classify(&bytes(1, line)?).to_string())
         }
-        ["grade", ref arguments @ ..] if wall => {
+        "grade" => {
             let [row, value] = named(arguments, ["ROW", "HEX"])?;
             let graded = program.grade(number(1, row)?, &bytes(2, value)?);
             Reply::Known(format!("{} {}", graded.answer, graded.level))
         }
-        [command, ref arguments @ ..] if keeper.knows(command) => match command {
-            "new" => {
-                let [length, seed] = named(arguments, ["LEN", "SEED"])?;
-                let (length, seed) = (up_to(1, length, LONGEST_LOG)?, number(2, seed)?);
-                keeper.settle(before);
-                keeper.fresh(length as usize, seed);
-                Reply::Known("ok".into())
-            }
-            "dump" => {
-                let [] = named(arguments, [])?;
-                keeper.look(Look::Dump)
-            }
-            "cif" => {
-                let [sheet, block, room] = named(arguments, ["SHEET", "NAMEHEX", "ROOM"])?;
-                number(1, sheet)?;
-                let (block, room) = (bytes(2, block)?, up_to(3, room, MOST_ROOM)? as usize);
-                keeper.look(Look::File { block, room })
-            }
-            _ => keeper.call(call(command, arguments)?),
-        },
+        "new" => {
+            let [length, seed] = named(arguments, ["LEN", "SEED"])?;
+            let (length, seed) = (up_to(1, length, LONGEST_LOG)?, number(2, seed)?);
+            keeper.settle(before);
+            keeper.fresh(length as usize, seed);
+            Reply::Known("ok".into())
+        }
+        "dump" => {
+            let [] = named(arguments, [])?;
+            keeper.look(Look::Dump)
+        }
+        "cif" => {
+            let [sheet, block, room] = named(arguments, ["SHEET", "NAMEHEX", "ROOM"])?;
+            number(1, sheet)?;
+            let (block, room) = (bytes(2, block)?, up_to(3, room, MOST_ROOM)? as usize);
+            keeper.look(Look::File { block, room })
+        }
+        "k" | "report" | "who" => keeper.call(call(command, arguments)?),
         _ => Reply::Known("none".into()),
     })
 }

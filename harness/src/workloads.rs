@@ -1,10 +1,11 @@
 //! What is measured: the same inputs for both programs, each of which holds them in its own form.
 
 use crate::boundary::{Desk, Sheet};
+use crate::by_reference::{held, Reference};
 use crate::desks::{longest_value, State};
 use crate::files::{Files, LONG_ROOM};
 use crate::inputs::{Inputs, ROWS};
-use crate::program::{Library, Program, Reference};
+use crate::program::Program;
 use crate::proved::Proved;
 use crate::sequences::Sequences;
 use crate::session::Session;
@@ -43,21 +44,20 @@ impl Side {
 /// Answers every input once; a sum of the answers.
 type Round = Box<dyn FnMut(Side) -> u64>;
 
-/// One kind of work: the archive that it needs, and how a round of about so many inputs is made.
+/// One kind of work, and how a round of about so many inputs is made.
 pub struct Workload {
     pub name: &'static str,
-    pub library: Library,
     make: fn(usize) -> (usize, Round),
 }
 
 pub const WORKLOADS: [Workload; 7] = [
-    Workload { name: "lines", library: Library::Wall, make: lines },
-    Workload { name: "values", library: Library::Wall, make: values },
-    Workload { name: "reports", library: Library::Rows, make: reports },
-    Workload { name: "keys", library: Library::Keys, make: keys },
-    Workload { name: "session", library: Library::Play, make: session },
-    Workload { name: "sequences", library: Library::Play, make: sequences },
-    Workload { name: "files", library: Library::File, make: files },
+    Workload { name: "lines", make: lines },
+    Workload { name: "values", make: values },
+    Workload { name: "reports", make: reports },
+    Workload { name: "keys", make: keys },
+    Workload { name: "session", make: session },
+    Workload { name: "sequences", make: sequences },
+    Workload { name: "files", make: files },
 ];
 
 impl Workload {
@@ -96,11 +96,11 @@ fn values(inputs: usize) -> (usize, Round) {
 /// Sheets, each with its twelve rows.
 fn reports(inputs: usize) -> (usize, Round) {
     let mut source = Sheets::new(SEED);
-    let sheets: Vec<Sheet> = (0..inputs).map(|_| Sheet::from(&source.sheet())).collect();
+    let sheets: Vec<Sheet> = (0..inputs).map(|_| source.sheet()).collect();
     let round = move |side: Side| {
         let program = side.program();
         let levels = |sheet: &Sheet| {
-            program.sheet_rows(black_box(sheet)).rows.iter().map(|row| u64::from(row.level)).sum()
+            program.rows(black_box(sheet)).rows.iter().map(|row| u64::from(row.level)).sum()
         };
         sheets.iter().map::<u64, _>(levels).sum()
     };
@@ -122,7 +122,7 @@ fn keys(inputs: usize) -> (usize, Round) {
             keys.iter().map(answer).sum()
         }
         Side::Reference => {
-            let (mut desk, mut used) = ((&start.desk).into(), start.used);
+            let (mut desk, mut used) = (held(&start.desk), start.used);
             let answer = |&(bench, byte): &(u64, u8)| {
                 u64::from(desk::key(&mut desk, &mut log, &mut used, black_box(bench), byte))
             };
@@ -153,7 +153,7 @@ fn files(inputs: usize) -> (usize, Round) {
     let mut source = Files::new(SEED);
     let desks: Vec<(Desk, Vec<u8>)> =
         (0..inputs).map(|at| (source.desk(), source.name_of(1 + at % 32))).collect();
-    let own: Vec<desk::Desk> = desks.iter().map(|(desk, _)| desk.into()).collect();
+    let own: Vec<desk::Desk> = desks.iter().map(|(desk, _)| held(desk)).collect();
     let mut out = [0; LONG_ROOM];
     let round = move |side: Side| {
         let mut sum = 0;

@@ -1,5 +1,5 @@
 //! The program `desk` and its printed form: document 01, the end of "Measured examples"; and the
-//! file that the program `sheet_cif` writes of the same input, by document 02, request No. 1.
+//! file that `camp cif` writes of the same input, by document 02, request No. 1.
 
 use crate::cif_file::{file, is_block_name};
 use crate::desk::{key, report, Desk, FRESH};
@@ -18,7 +18,7 @@ pub fn program(input: &[u8]) -> String {
     print_report(&played(input))
 }
 
-/// What the program `sheet_cif` writes for its standard input; none for a bad block name.
+/// What `camp cif` writes for its standard input; none for a bad block name.
 pub fn cif_program(input: &[u8], block: &[u8]) -> Option<Vec<u8>> {
     is_block_name(block).then(|| file(&played(input), block))
 }
@@ -36,7 +36,7 @@ fn played(input: &[u8]) -> Desk {
 /// byte"; "a last odd byte" is passed over.
 pub fn keys(input: &[u8]) -> impl Iterator<Item = (u64, u8)> + '_ {
     input.chunks_exact(2).map(|pair| match pair[0] {
-        digit @ b'0'..=b'9' => (u64::from(digit - b'0'), pair[1]),
+        digit @ b'0'..=b'3' => (u64::from(digit - b'0'), pair[1]),
         _ => (OTHER_BENCH, pair[1]),
     })
 }

@@ -1,4 +1,4 @@
--- The trailing keys of a gathered sequence are those of the sequence, in the order they had.
+-- An example of `gather`; and the trailing keys of a gathered sequence are those of the sequence, in the order they had.
 -- Assumes nothing.
 use mathlib.Core.Path.{_≡_, refl, sym, ap, _∙_}
 use mathlib.Core.Bool.{Bool, true, false, cond}
@@ -7,8 +7,13 @@ use Prim.Native.Nat.{ℕ}
 use lib.Dec.{eqb}
 use lib.Seq.{append-snoc}
 use borrow.Author.Tests.{eqb-true, eqb-false, eq-eqb, ne-eqb}
-use Rattle.theorem_sequences.specs.Calls.{Call, key, ask}
-use Rattle.theorem_sequences.specs.Gather.{kind, Kind, plain, enter, question, own, others, consIf, gatherFrom, unlessPlain, marks, isEmpty, trailing}
+use Rattle.theorem_sequences.specs.Calls.{Call, key, ask, report}
+use Rattle.theorem_sequences.specs.Gather.{kind, Kind, plain, enter, question, own, others, consIf, gatherFrom, gather, unlessPlain, marks, isEmpty, trailing}
+
+-- benches 0 and 1 type in turn, bench 0 enters, goes on, bench 1 enters, and bench 7 presses Enter
+example : gather (key 0 65 ∷ key 1 66 ∷ ask report ∷ key 0 67 ∷ key 0 10 ∷ key 0 68 ∷ key 1 10 ∷ key 7 10 ∷ [])
+    ≡ ask report ∷ key 0 65 ∷ key 0 67 ∷ key 0 10 ∷ key 1 66 ∷ key 1 10 ∷ key 7 10 ∷ key 0 68 ∷ []
+example = refl
 
 abbrev pub id : Call → Call
 id c = c

@@ -1,4 +1,4 @@
--- Checks of the definition of `gather`: an example, and that it does what its words in specs/Gather.antt say, `Regrouped`.
+-- Checks of the definition of `gather`: it does what its words in specs/Gather.antt say, `Regrouped`.
 -- Assumes nothing.
 use mathlib.Core.Path.{_≡_, refl, sym, ap, _∙_}
 use mathlib.Core.Bool.{Bool, true, false}
@@ -8,14 +8,9 @@ use native.Mathlib.Omega.{arith}
 use lib.Dec.{eqb}
 use lib.Seq.{append-snoc}
 use borrow.Author.Tests.{eqb-true, eqb-false, eq-eqb, ne-eqb}
-use Rattle.theorem_sequences.specs.Calls.{Call, key, ask, report}
+use Rattle.theorem_sequences.specs.Calls.{Call, key, ask}
 use Rattle.theorem_sequences.specs.Gather.{ofBench, own, others, consIf, gatherFrom, gather, marks, nextOf, Gathered, at-end, before-own, at-enter, at-question, weight, Regrouped}
 use Rattle.theorem_sequences.proofs.EndOrder.{id, marks-append, marks-parts, trailing-from}
-
--- benches 0 and 1 type in turn, bench 0 enters, goes on, bench 1 enters, bench 7 presses Enter, and benches 1 and 0 type on
-example : gather (key 0 65 ∷ key 1 66 ∷ ask report ∷ key 0 67 ∷ key 0 10 ∷ key 0 68 ∷ key 1 10 ∷ key 7 10 ∷ key 1 69 ∷ key 0 70 ∷ [])
-    ≡ ask report ∷ key 0 65 ∷ key 0 67 ∷ key 0 10 ∷ key 1 66 ∷ key 1 10 ∷ key 7 10 ∷ key 0 68 ∷ key 1 69 ∷ key 0 70 ∷ []
-example = refl
 
 own-append : (b : ℕ) (P Q : List Call) → own id b (P ++ Q) ≡ own id b P ++ own id b Q
 own-append b [] Q = refl

@@ -34,7 +34,7 @@ refused-entries x a j t es e = cond-false (accepts x) (cond (eqb j 10) (withEntr
 
 pub refused-work : (x : ℕ) (a j : ℕ) (w : Work) → accepts x ≡ false → keyWork x a j w ≡ w
 refused-work x a j w e =
-    work-eq (ap (set (w .typed) a) (refused-text x j (typedBy w a) e) ∙ set-getD (w .typed) a []) (refused-entries x a j (typedBy w a) (w .entries) e)
+    work-eq (ap (set (w .typed) a) (refused-text x j (typedBy w a) e) ∙ set-getD (w .typed) a []) (refused-entries x _ j (typedBy w a) (w .entries) e)
 
 plain-answer : (len u v a j : ℕ) (t : List ℕ) → eqb j 10 ≡ false → tableAnswer len u t a j ≡ tableAnswer len v t a j
 unfolding tableAnswer

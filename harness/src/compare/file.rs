@@ -38,17 +38,18 @@ impl Written {
 }
 
 impl Comparison<'_> {
-    pub(super) fn all_files(&mut self, plan: &Plan) {
+    pub(super) fn some_files(&mut self, plan: &Plan) {
         self.seeded(plan, from_seeds!("files"), FILES_ONE_IN, Self::generated_files);
         self.every_room("every room for a file", plan.new_seed, 2 * plan.half(ROOMS_ONE_IN));
         self.seeded(plan, from_seeds!("no file"), BROKEN_ONE_IN, Self::files_of_broken_desks);
         self.seeded(plan, from_seeds!("typed back"), TYPED_ONE_IN, Self::files_typed_back);
         self.names("block names, every length", files::names_by_length());
-        if plan.lists {
-            self.names("block names, every byte", files::names_by_byte());
-            self.files("subsets of items", files::subsets());
-            self.files("single values", files::single_values());
-        }
+    }
+
+    pub(super) fn listed_files(&mut self) {
+        self.names("block names, every byte", files::names_by_byte());
+        self.files("subsets of items", files::subsets());
+        self.files("single values", files::single_values());
     }
 
     fn generated_files(&mut self, name: &'static str, seed: u64, count: u64) {

@@ -1,9 +1,9 @@
 //! The comparison of key calls.
 
 use super::{from_seeds, hex, Comparison, Plan};
-use crate::boundary::{Desk, ItemState, KeyResult, TextLine};
+use crate::boundary::{text_line, Desk, ItemState, KeyResult, TextLine};
 use crate::broken::{each_broken, WAYS};
-use crate::desks::{text_line, Desks, State};
+use crate::desks::{Desks, State};
 use crate::random::Random;
 use crate::session::{Session, OTHER_BENCHES};
 use crate::tally::Question;
@@ -35,15 +35,16 @@ impl Both {
 }
 
 impl Comparison<'_> {
-    pub(super) fn all_keys(&mut self, plan: &Plan) {
+    pub(super) fn some_keys(&mut self, plan: &Plan) {
         self.seeded(plan, from_seeds!("sessions"), SESSIONS_ONE_IN, Self::sessions);
         self.seeded(plan, from_seeds!("single calls"), CALLS_ONE_IN, Self::single_calls);
         self.seeded(plan, from_seeds!("broken desks"), BROKEN_ONE_IN, Self::broken_desks);
         self.seeded(plan, from_seeds!("random desks"), RANDOM_ONE_IN, Self::random_desks);
         self.room("room in the log");
-        if plan.lists {
-            self.every_byte("every byte", plan.fixed_seed);
-        }
+    }
+
+    pub(super) fn listed_keys(&mut self, plan: &Plan) {
+        self.every_byte("every byte", plan.fixed_seed);
     }
 
     /// Whole sessions from a fresh desk.

@@ -2,6 +2,7 @@
 
 use super::{from_seeds, hex, Comparison, Plan};
 use crate::boundary::PlayResult;
+use crate::by_reference::told;
 use crate::program::Program;
 use crate::random::Random;
 use crate::sequences::{
@@ -45,15 +46,16 @@ impl Play {
 }
 
 impl Comparison<'_> {
-    pub(super) fn all_sequences(&mut self, plan: &Plan) {
+    pub(super) fn some_sequences(&mut self, plan: &Plan) {
         self.seeded(plan, from_seeds!("sequences"), SEQUENCES_ONE_IN, Self::generated_sequences);
         self.seeded(plan, from_seeds!("damaged"), DAMAGED_ONE_IN, Self::damaged_sequences);
         self.sequences("measured examples typed", measured_examples());
         self.sequences("lengths of the log", log_lengths());
-        if plan.lists {
-            self.sequences("sessions of desk", desk_sessions());
-            self.sequences("orders of few calls", few_calls());
-        }
+    }
+
+    pub(super) fn listed_sequences(&mut self) {
+        self.sequences("sessions of desk", desk_sessions());
+        self.sequences("orders of few calls", few_calls());
     }
 
     fn generated_sequences(&mut self, name: &'static str, seed: u64, count: u64) {
@@ -92,7 +94,7 @@ impl Comparison<'_> {
         self.group().inputs += 1;
         let Sequence { calls, log, beyond } = sequence;
         let (bytes, room) = (calls.concat(), length(calls.len()) + beyond);
-        let order = self.tested.gathered(&decode(&bytes));
+        let order = (self.gather)(&bytes);
         let gathered: Vec<u8> = order.iter().flat_map(|&at| calls[at]).collect();
         let first = self.play(&bytes, log, room, place);
         let second = self.play(&gathered, log, room, &format_args!("{place} gathered"));
@@ -175,7 +177,7 @@ impl Comparison<'_> {
             }
             (_, Answer::Report { answer, rows }) => {
                 self.tally.note(Question::PlayedReport, answer.into());
-                self.tally.note_played_rows(&rows.into());
+                self.tally.note_played_rows(&told(&rows));
             }
             (_, Answer::Who { answer, bench, .. }) => {
                 let place = match (answer, bench) {

@@ -1,8 +1,7 @@
 //! The comparison of the twelve rows.
 
 use super::{from_seeds, hex, Comparison, Plan};
-use crate::boundary::{Row, RowsResult};
-use crate::program::Values;
+use crate::boundary::{Row, RowsResult, Sheet};
 use crate::sheet_lists;
 use crate::sheets::Sheets;
 use reference::rows::NAMES;
@@ -11,13 +10,12 @@ use reference::rows::NAMES;
 const ONE_IN: u64 = 2;
 
 impl Comparison<'_> {
-    pub(super) fn all_sheets(&mut self, plan: &Plan) {
+    pub(super) fn some_sheets(&mut self, plan: &Plan) {
         self.seeded(plan, from_seeds!("sheets"), ONE_IN, Self::generated_sheets);
         self.sheets("measured examples", sheet_lists::measured_examples());
-        if !plan.lists {
-            return;
-        }
-        self.sheets("mixtures of missing items", sheet_lists::missing_mixtures());
+    }
+
+    pub(super) fn listed_sheets(&mut self) {
         self.sheets("symbols", sheet_lists::symbols());
         self.sheets("symbols with categories", sheet_lists::classes());
         self.sheets("symbols in pairs", sheet_lists::pairs());
@@ -26,6 +24,7 @@ impl Comparison<'_> {
         self.sheets("numbers on sheets", sheet_lists::numbers());
         self.sheets("thresholds at the bounds", sheet_lists::thresholds_at_bounds());
         self.sheets("texts one byte off", sheet_lists::texts_one_byte_off());
+        self.sheets("mixtures of missing items", sheet_lists::missing_mixtures());
     }
 
     fn generated_sheets(&mut self, name: &'static str, seed: u64, count: u64) {
@@ -33,27 +32,27 @@ impl Comparison<'_> {
         self.sheets(name, (0..count).map(|_| sheets.sheet()));
     }
 
-    fn sheets(&mut self, name: &'static str, sheets: impl IntoIterator<Item = Values>) {
+    fn sheets(&mut self, name: &'static str, sheets: impl IntoIterator<Item = Sheet>) {
         self.begin(name);
-        for values in sheets {
+        for sheet in sheets {
             self.group().inputs += 1;
-            self.sheet(&values);
+            self.sheet(&sheet);
         }
     }
 
-    fn sheet(&mut self, values: &Values) {
-        let (tested, expected) = (self.tested.rows(values), self.expected.rows(values));
+    fn sheet(&mut self, sheet: &Sheet) {
+        let (tested, expected) = (self.tested.rows(sheet), self.expected.rows(sheet));
         self.group().answers += expected.rows.len() as u64;
         self.tally.note_rows(&tested);
         if tested != expected {
-            self.different(|| sheet_example(values, &tested, &expected));
+            self.different(|| sheet_example(sheet, &tested, &expected));
         }
     }
 }
 
 /// The values, and the rows that differ.
-fn sheet_example(values: &Values, tested: &RowsResult, expected: &RowsResult) -> String {
-    let values = values.parts().map(hex).join(",");
+fn sheet_example(sheet: &Sheet, tested: &RowsResult, expected: &RowsResult) -> String {
+    let values = sheet.values().map(hex).join(",");
     let told = |row: &Row| format!("{}/{}", row.level, row.reason);
     let rows: Vec<String> = NAMES
         .iter()

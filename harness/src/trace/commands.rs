@@ -1,14 +1,14 @@
 //! Generated trace commands.
 
+use crate::by_reference::Reference;
 use crate::compare::hex;
 use crate::desks::State;
 use crate::files::{length, Files};
 use crate::inputs::Inputs;
-use crate::program::{Library, Program, Reference};
 use crate::random::Random;
 use crate::session::Session;
 
-/// Commands that are not there or lack something; the first ones are about files.
+/// Commands that are not there or lack something.
 const MALFORMED: [&str; 12] = [
     "cif",
     "cif 0 61",
@@ -23,24 +23,21 @@ const MALFORMED: [&str; 12] = [
     "key 0 10",
     "stick",
 ];
-const CIF: usize = 3;
 
-/// Generated commands, some of them malformed: those that the program answers.
-pub fn commands(program: &dyn Program, seed: u64, count: u64) -> impl Iterator<Item = Vec<u8>> {
+/// Generated commands, some of them malformed.
+pub fn commands(seed: u64, count: u64) -> impl Iterator<Item = Vec<u8>> {
     let (mut inputs, mut random) = (Inputs::new(seed), Random::new(!seed));
     let (mut keys, mut state) = (Session::new(seed), State::fresh(0, 0));
-    let questions = program.has(Library::Play);
-    let all = questions || program.has(Library::Keys);
-    let (cif, mut files) = (all && program.has(Library::File), Files::new(seed));
+    let mut files = Files::new(seed);
     (0..count).map(move |_| {
-        let command = match random.below(if all { 20 } else { 2 }) {
+        let command = match random.below(20) {
             0 => format!("line {}", hex(&inputs.line())),
             1 => format!("grade {} {}", inputs.row(), hex(&inputs.value())),
             2 => "dump".into(),
-            3 if questions => format!("report {} {}", random.below(2), random.next()),
-            4 if questions && random.once_in(8) => format!("who 0 {}", random.next()),
-            4 if questions => format!("who {} {}", random.below(2), random.below(12)),
-            5 if cif => {
+            3 => format!("report {} {}", random.below(2), random.next()),
+            4 if random.once_in(8) => format!("who 0 {}", random.next()),
+            4 => format!("who {} {}", random.below(2), random.below(12)),
+            5 => {
                 let block = files.block();
                 let room = random.pick(&files.rooms(length(&state.desk, &block)));
                 format!("cif {} {} {room}", random.below(2), hex(&block))
@@ -57,7 +54,7 @@ pub fn commands(program: &dyn Program, seed: u64, count: u64) -> impl Iterator<I
             }
         };
         match random.below(12) {
-            0 => random.pick(&MALFORMED[usize::from(!cif) * CIF..]).into(),
+            0 => random.pick(&MALFORMED).into(),
             1 => format!("{command} {}", random.below(9)),
             2 => command.replacen(random.pick(&["2", "-", " ", "e"]), "x", 1),
             _ => command,

@@ -1,8 +1,9 @@
 //! A desk kept as the calls since it was fresh, which are played as one sequence.
 
 use super::{told, Keeper, Look, Reply};
+use crate::by_reference::lent;
 use crate::desks::State;
-use crate::program::{Library, Program};
+use crate::program::Program;
 use reference::encoded::{decode_answer, decode_desk, encode_call, length, ANSWER, PLAYED};
 use reference::sequence::Call;
 
@@ -31,7 +32,7 @@ impl<'a> Played<'a> {
         let answers = calls.iter().zip(answers.chunks_exact(ANSWER));
         let answers = answers.map(|(call, bytes)| told(&decode_answer(call, bytes))).collect();
         let (desk, used) = decode_desk(desk);
-        Ok((answers, State { desk: (&desk).into(), log, used }))
+        Ok((answers, State { desk: lent(&desk), log, used }))
     }
 
     fn look_after(&self, count: usize, look: &Look) -> String {
@@ -40,13 +41,6 @@ impl<'a> Played<'a> {
 }
 
 impl Keeper for Played<'_> {
-    fn knows(&self, command: &str) -> bool {
-        match command {
-            "cif" => self.program.has(Library::File),
-            _ => ["new", "k", "dump", "report", "who"].contains(&command),
-        }
-    }
-
     fn fresh(&mut self, length: usize, seed: u64) {
         (self.log, self.calls) = (State::fresh(length, seed).log, vec![]);
     }

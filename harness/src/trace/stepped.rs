@@ -1,60 +1,35 @@
-//! A desk kept call by call.
+//! A desk of the reference, kept call by call.
 
 use super::{told, Keeper, Look, Reply};
+use crate::by_reference::{lent, Reference};
 use crate::desks::State;
-use crate::program::{Library, Program};
-use reference::sequence::{Answer, Call};
+use reference::desk::{Desk, FRESH};
+use reference::sequence::{answer, Call};
 
-pub struct Stepped<'a> {
-    program: &'a dyn Program,
-    state: State,
+pub struct Stepped {
+    desk: Desk,
+    log: Vec<u8>,
+    used: u64,
 }
 
-impl<'a> Stepped<'a> {
-    pub fn new(program: &'a dyn Program) -> Self {
-        Stepped { program, state: State::fresh(0, 0) }
-    }
-
-    /// The answer to a call; none where the program does not answer it.
-    fn answer(&mut self, call: Call) -> Option<Answer> {
-        match call {
-            Call::Key { bench, byte } => {
-                let answer = self.state.key(self.program, bench, byte).answer;
-                Some(Answer::Key { answer })
-            }
-            Call::Report => {
-                let (answer, rows) = self.program.report(&self.state.desk)?;
-                Some(Answer::Report { answer, rows: rows.into() })
-            }
-            Call::Who { item } => {
-                let (answer, bench, entry) = self.program.who(&self.state.desk, item)?;
-                Some(Answer::Who { answer, bench, entry })
-            }
-        }
+impl Stepped {
+    pub fn new() -> Self {
+        Stepped { desk: FRESH, log: vec![], used: 0 }
     }
 }
 
-impl Keeper for Stepped<'_> {
-    fn knows(&self, command: &str) -> bool {
-        match command {
-            "new" | "k" | "dump" => self.program.has(Library::Keys),
-            "cif" => self.program.has(Library::Keys) && self.program.has(Library::File),
-            "report" => self.program.report(&self.state.desk).is_some(),
-            "who" => self.program.who(&self.state.desk, 1).is_some(),
-            _ => false,
-        }
-    }
-
+impl Keeper for Stepped {
     fn fresh(&mut self, length: usize, seed: u64) {
-        self.state = State::fresh(length, seed);
+        *self = Stepped { log: State::fresh(length, seed).log, ..Stepped::new() };
     }
 
     fn call(&mut self, call: Call) -> Reply {
-        Reply::Known(self.answer(call).map_or("none".into(), |answer| told(&answer)))
+        Reply::Known(told(&answer(&mut self.desk, &mut self.log, &mut self.used, &call)))
     }
 
     fn look(&mut self, look: Look) -> Reply {
-        Reply::Known(look.answer(self.program, &self.state))
+        let state = State { desk: lent(&self.desk), log: self.log.clone(), used: self.used };
+        Reply::Known(look.answer(&Reference, &state))
     }
 
     fn settle(&mut self, _replies: &mut [Reply]) {}

@@ -1,0 +1,22 @@
+/* What the numbers of refusals mean, in words to the counsellor: document 01, document 02 from 10 on. */
+#include "meanings.h"
+
+#include <stddef.h>
+
+static const char *const meanings[] = {
+    [1] = "this bench is not there: a pair begins with 0, 1, 2 or 3",
+    [2] = "the desk is not sound",
+    [3] = "this key does nothing here",
+    [4] = "the line is full",
+    [5] = "not a name, a space and a value",
+    [6] = "no item has this name",
+    [7] = "not a number, or no category, as this item wants",
+    [8] = "the rest of the log is too short for this entry",
+    [10] = "the file is longer than the bytes lent for it",
+    [11] = "not 1 to 32 letters, digits or -",
+};
+
+const char *meaning_of(unsigned number)
+{
+    return number < sizeof meanings / sizeof meanings[0] ? meanings[number] : NULL;
+}

@@ -1,0 +1,285 @@
+#!/usr/bin/env bash
+# Tests the program camp: each command's outputs and exit, to the byte; wrong uses; files that cannot be read or written.
+# Needs the built harness, client and camp (target/bin/camp). Prints one line for each check and at the end 'N passed, M failed'.
+set -u
+. "$(dirname "$0")/checks.sh"
+need "$camp"
+sessions=harness/desk-sessions
+first=$sessions/document_01
+
+# typed BENCH: the lines of standard input as one bench types them.
+typed() {
+    sed "s/./$1&/g; s/\$/$1/"
+}
+
+# misuse NAME MESSAGE ARGUMENT..: wrong use, told in this one line.
+misuse() {
+    local name=$1 message=$2
+    shift 2
+    runs "camp: $name" 2 '' "camp: $message"$'\n' "$camp" "$@" <$first.in
+}
+
+# fails NAME MESSAGE COMMAND..: a refusal or trouble with a file, told in this one line.
+fails() {
+    local name=$1 message=$2
+    shift 2
+    runs "camp $name" 1 '' "camp: $message"$'\n' "$@"
+}
+
+commands() {
+    local name help="see 'camp help'" long
+    long=$(printf 'a%.0s' {1..300})
+    runs "camp: version" 0 "camp $(sed -n 's/^#define CAMP_VERSION "\(.*\)"$/\1/p' client/camp/version.h)"$'\n' '' "$camp" --version
+    runs "camp: --help is help" 0 "$("$camp" help)"$'\n' '' "$camp" --help
+    for name in cif help refusals; do
+        runs "camp help: $name is listed" 0 $'1\n' '' bash -c '"$1" help | grep -c "^  $2  *[a-z]"' - "$camp" "$name"
+        runs "camp help: $name" 0 $'usage: camp '"$name"$'\n' '' bash -c '"$1" help "$2" | head -n 1 | cut -d " " -f 1-3' - "$camp" "$name"
+        runs "camp help: $name has an example" 0 $'Example:\n' '' bash -c '"$1" help "$2" | grep -x Example:' - "$camp" "$name"
+        runs "camp: $name --help" 0 "$("$camp" help "$name")"$'\n' '' "$camp" "$name" --help
+    done
+    runs "camp help: nothing else is listed" 0 $'3\n' '' bash -c '"$1" help | sed -n "/The commands:/,/^.camp help/p" | grep -c "^  "' - "$camp"
+    misuse "no command" "a command is missing; $help"
+    misuse "no such command" "'xyz' is not a command; $help" xyz
+    misuse "a command in capitals" "'CIF' is not a command; $help" CIF
+    misuse "an empty command" "'' is not a command; $help" ''
+    misuse "a command in two lines" "'ci\\x0af\\x1b[m' is not a command; $help" $'ci\nf\e[m'
+    misuse "no such option" "'--versoin' is not an option; $help" --versoin
+    misuse "an argument after --version" "'x' is one argument too many; $help" --version x
+    misuse "help for no command" "'xyz' is not a command; $help" help xyz
+    misuse "help for two" "help: 'cif' is one argument too many; see 'camp help help'" help refusals cif
+    misuse "refusals without SESSION" "refusals: SESSION, the file of keys, is missing; see 'camp help refusals'" refusals
+    misuse "refusals of two" "refusals: 'b' is one argument too many; see 'camp help refusals'" refusals a b
+    misuse "refusals: an option" "refusals: '--all' is not an option; see 'camp help refusals'" refusals --all
+    misuse "refusals: an empty name" "refusals: '' is not the name of a file; see 'camp help refusals'" refusals ''
+    misuse "cif without BLOCK" "cif: BLOCK, the name of the data block, is missing; see 'camp help cif'" cif
+    misuse "cif: three arguments" "cif: 'c\\x0ad' is one argument too many; see 'camp help cif'" cif a "$work/b" $'c\nd'
+    misuse "cif: FILE is empty" "cif: '' is not the name of a file; see 'camp help cif'" cif camp-1 ''
+    misuse "cif: FILE is an option" "cif: '--force' is not an option; see 'camp help cif'" cif camp-1 --force
+    misuse "a long command" "'$long' is not a command; $help" "$long"
+}
+
+# example NAME COMMAND..: a command's help shows what its example prints, from a folder with the session.
+example() {
+    local name=$1
+    shift
+    "$camp" help ${name:+"$name"} | sed -n '/^Example:$/,$p' | sed -n 's/^  //p' | grep -av '^\$' >"$work/want"
+    (cd "$work/example" && "$@") >"$work/out" 2>&1
+    same "camp help${name:+: $name}: its example is true" "$work/want" "$work/out"
+}
+
+examples() {
+    mkdir "$work/example"
+    cp crates/desk/stdin "$work/example/session"
+    example '' "$camp" refusals session
+    example cif bash -c '"$1" cif camp-1 sheet.cif <session && cat sheet.cif' - "$camp"
+    echo '_refine_ls_wR_factor_gt 0.16' | typed 1 >"$work/example/session"
+    example refusals "$camp" refusals session
+}
+
+# refusals_of NAME FILE: what camp refusals prints of a session, by the reference's answers; NAME as messages name it.
+refusals_of() {
+    od -An -v -t u1 -w2 "$2" | awk 'NF == 2 { print ($1 >= 48 && $1 <= 51 ? $1 - 48 : 255), $2 }' >"$work/pairs"
+    { echo "new 4096 0"; sed 's/^/k /' "$work/pairs"; } | "$harness" reference-trace | tail -n +2 >"$work/answers"
+    paste -d ' ' "$work/pairs" "$work/answers" | LC_ALL=C awk -v bytes="$(wc -c <"$2")" -v about="camp: $1: " '
+    BEGIN {
+        split("this bench is not there: a pair begins with 0, 1, 2 or 3|the desk is not sound|this key does nothing here|the line is full" \
+            "|not a name, a space and a value|no item has this name|not a number, or no category, as this item wants" \
+            "|the rest of the log is too short for this entry", means, "|")
+    }
+    function named(bench, b) {
+        return b == 10 ? "Enter after `" line[bench] "`" : b == 8 ? "erase" : b == 24 ? "empty the line" : b >= 32 && b <= 126 ? "key " sprintf("%c", b) : "byte " b
+    }
+    function none_told() {
+        if (none) print about (none < last ? "pairs " none " to " last : "pair " none) ", no bench: 1, " means[1]
+        none = 0
+    }
+    $3 != 0 { refused++ }
+    $3 == 1 { if (!none) none = NR; last = NR; next }
+    { none_told() }
+    $3 > 1 { print about "pair " NR ", bench " $1 ": " $3 ", " means[$3] " (" named($1, $2) ")" }
+    $3 == 0 && $2 >= 32 { line[$1] = line[$1] sprintf("%c", $2) }
+    $3 == 0 && $2 == 8 { line[$1] = substr(line[$1], 1, length(line[$1]) - 1) }
+    $3 == 0 && ($2 == 10 || $2 == 24) { line[$1] = "" }
+    END {
+        none_told()
+        if (bytes % 2) print about "the last byte has no pair and is passed over"
+        for (b = 0; b < 4; b++) if (line[b] != "") print about "bench " b " has not entered `" line[b] "`"
+        print about refused + 0 " of " NR " keys refused"
+        exit refused > 0
+    }'
+}
+
+# refusals_agree NAME FILE: what camp refusals prints, and its exit, are those by the reference.
+refusals_agree() {
+    local want status
+    refusals_of "$2" "$2" >"$work/told"
+    want=$?
+    "$camp" refusals "$2" >"$work/out" 2>"$work/err"
+    status=$?
+    if [ $status -ne $want ]; then
+        fail "$1" "exit $status, not $want"
+    elif [ -s "$work/err" ]; then
+        fail "$1" "standard error is '$(head -c 200 "$work/err")'"
+    else
+        same "$1" "$work/told" "$work/out"
+    fi
+}
+
+refusals() {
+    local input seed about="camp: standard input: " name
+    runs "camp refusals: the sample session" 0 $'camp: crates/desk/stdin: 0 of 57 keys refused\n' '' "$camp" refusals crates/desk/stdin
+    runs "camp refusals: refused lines" 1 "$(sed "s/^/$about/" <<'END_OF_LINES'
+pair 1, bench 0: 5, not a name, a space and a value (Enter after ``)
+pair 24, bench 0: 5, not a name, a space and a value (Enter after `_refine_ls_R_factor_gt`)
+pair 31, bench 0: 5, not a name, a space and a value (Enter after `_refine_ls_R_factor_gt 0.16 `)
+pair 57, bench 1: 6, no item has this name (Enter after `_refine_ls_R_factor 0.2`)
+pair 88, bench 1: 7, not a number, or no category, as this item wants (Enter after `_refine_ls_wR_factor_obs 0.2x`)
+pair 118, bench 2: 7, not a number, or no category, as this item wants (Enter after `_publ_requested_category fo`)
+pair 150, bench 3: 5, not a name, a space and a value (Enter after `refine_ls_shift/su_max 0.3`)
+bench 3 has not entered `refine_ls_shift/su_max 0.3`
+7 of 150 keys refused
+END_OF_LINES
+)"$'\n' '' "$camp" refusals - <$sessions/refused_lines.in
+    runs "camp refusals: a full line" 1 "$(sed "s/^/$about/" <<'END_OF_LINES'
+pair 81, bench 3: 4, the line is full (key ')
+pair 82, bench 3: 5, not a name, a space and a value (Enter after `_reflns_threshold_expression 'yyyyyyyyyyyyyyyyyyyyyyyyyyyyyyyyyyyyyyyyyyyyyyyyyy`)
+pair 87, bench 3: 5, not a name, a space and a value (Enter after ``)
+3 of 87 keys refused
+END_OF_LINES
+)"$'\n' '' "$camp" refusals - <$sessions/line_of_81.in
+    runs "camp refusals: no bench, no key, an odd byte" 1 "$(sed "s/^/$about/" <<'END_OF_LINES'
+pairs 1 to 3, no bench: 1, this bench is not there: a pair begins with 0, 1, 2 or 3
+pair 4, bench 0: 3, this key does nothing here (byte 7)
+the last byte has no pair and is passed over
+4 of 4 keys refused
+END_OF_LINES
+)"$'\n' '' "$camp" refusals - < <(printf 'camp\r\n0\a\t')
+    runs "camp refusals: pairs of no bench apart, at the end too" 1 "$(sed "s/^/$about/" <<'END_OF_LINES'
+pair 1, no bench: 1, this bench is not there: a pair begins with 0, 1, 2 or 3
+pairs 3 to 4, no bench: 1, this bench is not there: a pair begins with 0, 1, 2 or 3
+bench 3 has not entered `a`
+3 of 4 keys refused
+END_OF_LINES
+)"$'\n' '' "$camp" refusals - < <(printf '4\n3a/\n\0\0')
+    runs "camp refusals: the first entry that the log has no room for" 1 $'8, the rest of the log is too short for this entry\n' '' \
+        bash -o pipefail -c '"$1" refusals "$2" | sed -n "1s/.*bench [0-3]: \(.*\) (Enter after .*/\1/p"' - "$camp" $sessions/log_one_byte_too_short.in
+    runs "camp refusals: an odd byte alone" 0 "$about"$'the last byte has no pair and is passed over\n'"$about"$'0 of 0 keys refused\n' '' "$camp" refusals - < <(printf 0)
+    runs "camp refusals: a line not entered is no refusal" 0 "${about}bench 2 has not entered \`x\`"$'\n'"${about}0 of 1 keys refused"$'\n' '' "$camp" refusals - < <(printf 2x)
+    runs "camp refusals: nothing typed" 0 "$about"$'0 of 0 keys refused\n' '' "$camp" refusals - </dev/null
+    : >"$work/empty"
+    runs "camp refusals: an empty file" 0 "camp: $work/empty: 0 of 0 keys refused"$'\n' '' "$camp" refusals "$work/empty"
+    name=$'no\nline\t\xc3\xa9'
+    cp $first.in "$work/$name"
+    runs "camp refusals: a name in two lines" 0 "camp: $work/no\\x0aline\\x09\\xc3\\xa9: 0 of 57 keys refused"$'\n' '' "$camp" refusals "$work/$name"
+    for input in $sessions/*.in; do
+        refusals_agree "camp refusals: $(basename "$input" .in)" "$input"
+    done
+    for seed in {1..30}; do
+        "$harness" desk-input "$seed" >"$work/generated"
+        refusals_agree "camp refusals: generated input $seed" "$work/generated"
+    done
+    head -c 200000 /dev/urandom >"$work/random"
+    refusals_agree "camp refusals: 200000 random bytes" "$work/random"
+
+    fails "refusals: no such file" "none: No such file or directory" "$camp" refusals none
+    fails "refusals: a folder" "harness: Is a directory" "$camp" refusals harness
+    fails "refusals: a file taken for a folder" "README.md/x: Not a directory" "$camp" refusals README.md/x
+    fails "refusals: input cannot be read" "standard input: Is a directory" "$camp" refusals - <.
+    fails "refusals: input is closed" "standard input: Bad file descriptor" bash -c 'exec "$1" refusals - <&-' - "$camp"
+    if [ "$(id -u)" -ne 0 ]; then
+        cp $first.in "$work/closed" && chmod a-r "$work/closed"
+        fails "refusals: a file that may not be read" "$work/closed: Permission denied" "$camp" refusals "$work/closed"
+    fi
+    runs "tools/camp from another folder" 0 $'camp: session: 0 of 57 keys refused\n' '' \
+        bash -c 'cd "$1" && cp "$2/crates/desk/stdin" session && "$2/tools/camp" refusals session 2>/dev/null' - "$work" "$PWD"
+}
+
+# Where some of the output is not written, it is told, and the exit is 1.
+outputs() {
+    local full="standard output: No space left on device" closed="standard output: Bad file descriptor" words
+    for words in help 'help cif' 'cif --help' --version 'cif camp-1' 'cif camp-1 -' "refusals $first.in" "refusals $work/random"; do
+        if [ -c /dev/full ]; then
+            fails "${words/$work\//}: output cannot be written" "$full" bash -c '"$1" $2 >/dev/full' - "$camp" "$words" <$first.in
+        fi
+        fails "${words/$work\//}: output is closed" "$closed" bash -c '"$1" $2 >&-' - "$camp" "$words" <$first.in
+    done
+    runs "camp: output is closed, and nothing to print" 2 '' $'camp: \'x\' is not a command; see \'camp help\'\n' bash -c '"$1" x >&-' - "$camp"
+}
+
+cif() {
+    local input name word long
+    long=$(printf 'a%.0s' {1..33})
+    for input in $sessions/*.in; do
+        name=$(basename "$input" .in)
+        prints "camp cif: $name" "${input%.in}.cif" "$input" "$camp" cif camp-1
+    done
+    for name in all_ten_items quoted unassigned; do
+        tail -n +2 $sessions/$name.cif | typed 2 >"$work/typed"
+        prints "camp cif: $name typed back" $sessions/$name.cif "$work/typed" "$camp" cif camp-1
+    done
+    summary "camp cif: 300 generated inputs" "$harness" cif-runs "$camp" 15 300
+    for word in '' "$long" camp_1 'camp 1' camp/1 data_ .; do
+        fails "cif: block name $(printf %q "$word")" "block name '$word': 11, not 1 to 32 letters, digits or -" "$camp" cif "$word" <$first.in
+    done
+    fails "cif: block name in two lines" "block name 'camp\\x0a': 11, not 1 to 32 letters, digits or -" "$camp" cif $'camp\n' <$first.in
+    fails "cif: block name with an accent" "block name 'caf\\xc3\\xa9': 11, not 1 to 32 letters, digits or -" "$camp" cif $'caf\xc3\xa9' <$first.in
+    runs "camp cif: block name of 32" 0 "data_${long:1}"$'\n' '' "$camp" cif "${long:1}" </dev/null
+    runs "camp cif: block name -" 0 $'data_-\n' '' "$camp" cif - </dev/null
+    runs "camp cif: block name --help" 0 $'data_--help\n' '' "$camp" cif --help - </dev/null
+    prints "camp cif: - for FILE" $first.cif $first.in "$camp" cif camp-1 -
+    fails "cif: input cannot be read" "standard input: Is a directory" "$camp" cif camp-1 <.
+    fails "cif: input is closed" "standard input: Bad file descriptor" bash -c 'exec "$1" cif camp-1 <&-' - "$camp"
+}
+
+# The file under its name: whole, or as it was before.
+cif_file() {
+    local folder=$work/cif word refusal="11, not 1 to 32 letters, digits or -"
+    mkdir "$folder"
+    runs "camp cif: FILE" 0 '' '' "$camp" cif camp-1 "$folder/a.cif" <$first.in
+    holds "camp cif: FILE is written" "$folder" a.cif $first.cif
+    runs "camp cif: FILE has the rights of a new file" 0 $'640\n' '' \
+        bash -c 'umask 027 && "$1" cif camp-1 "$2" <"$3" && stat -c %a "$2"' - "$camp" "$folder/a.cif" $first.in
+    yes 'an older and longer file' | head -n 1000 >"$folder/a.cif"
+    cp "$folder/a.cif" "$work/older"
+    exec 7<"$folder/a.cif"
+    runs "camp cif: FILE again" 0 '' '' "$camp" cif camp-1 "$folder/a.cif" <$first.in
+    holds "camp cif: FILE is replaced whole" "$folder" a.cif $first.cif
+    cat <&7 >"$work/open"
+    exec 7<&-
+    same "camp cif: the older file stays whole for its readers" "$work/older" "$work/open"
+    runs "camp cif: FILE in this folder" 0 '' '' bash -c 'cd "$1" && "$2" cif camp-1 a.cif' - "$folder" "$camp" </dev/null
+    holds "camp cif: FILE is replaced by a shorter one" "$folder" a.cif $sessions/empty.cif
+    for word in '' camp_1 "$(printf 'a%.0s' {1..33})"; do
+        fails "cif: block name '$word' with FILE" "block name '$word': $refusal" "$camp" cif "$word" "$folder/a.cif" <$first.in
+        fails "cif: block name '$word' with a new FILE" "block name '$word': $refusal" "$camp" cif "$word" "$folder/b.cif" <$first.in
+    done
+    fails "cif: input cannot be read, with FILE" "standard input: Is a directory" "$camp" cif camp-1 "$folder/a.cif" <.
+    misuse "cif: FILE and a third argument" "cif: 'x' is one argument too many; see 'camp help cif'" cif camp-1 "$folder/a.cif" x
+    # Standard error goes through a pipe, since the limit on written files would cut it too.
+    fails "cif: FILE cannot grow" "$folder/a.cif: File too large" bash -o pipefail -c \
+        '{ (trap "" XFSZ; ulimit -f 0; exec "$1" cif camp-1 "$2") 2>&1 >&3 | cat >&2; } 3>&1' - "$camp" "$folder/a.cif" <$first.in
+    holds "camp cif: a refusal leaves FILE and nothing else" "$folder" a.cif $sessions/empty.cif
+    rm "$folder/a.cif"
+    mkfifo "$folder/pipe"
+    fails "cif: FILE is a pipe" "$folder/pipe: not an ordinary file" "$camp" cif camp-1 "$folder/pipe" <$first.in
+    runs "camp cif: a pipe stays" 0 $'fifo\n' '' stat -c %F "$folder/pipe"
+    rm "$folder/pipe"
+    fails "cif: FILE is a folder" "$folder: not an ordinary file" "$camp" cif camp-1 "$folder" <$first.in
+    fails "cif: no such folder" "$folder/none/a.cif: No such file or directory" "$camp" cif camp-1 "$folder/none/a.cif" <$first.in
+    fails "cif: no such folder, in two lines" "$folder/no\\x0ane/a.cif: No such file or directory" "$camp" cif camp-1 "$folder/no"$'\n'"ne/a.cif" <$first.in
+    fails "cif: a folder of the system" "/proc/a.cif: No such file or directory" "$camp" cif camp-1 /proc/a.cif <$first.in
+    if [ "$(id -u)" -ne 0 ]; then
+        chmod a-w "$folder"
+        fails "cif: a folder that may not be written" "$folder/a.cif: Permission denied" "$camp" cif camp-1 "$folder/a.cif" <$first.in
+        chmod u+w "$folder"
+    fi
+    holds "camp cif: nothing is left over" "$folder"
+}
+
+commands
+examples
+refusals
+outputs
+cif
+cif_file
+finish

@@ -1,0 +1,83 @@
+//! Faulty readers of lines and values.
+
+use super::Wrong;
+use crate::boundary::{Graded, NumberResult};
+use crate::by_reference::Reference;
+use crate::program::Program;
+use reference::grade;
+use reference::line::{self, NO_SUCH_NAME};
+use reference::names::{item, ITEMS};
+use reference::number::{number, DIGITS};
+use reference::value;
+
+pub const FAULTS: [(&str, Wrong); 9] = [
+    (
+        "spaces at the end are passed over",
+        Wrong::Classify(|line| line::classify(line.trim_ascii_end())),
+    ),
+    ("the name is looked at before the form", Wrong::Classify(name_first)),
+    ("the bound itself earns the level", Wrong::Grade(at_least)),
+    ("the last bound passed decides", Wrong::Grade(last_bound)),
+    ("rows count modulo 2^32", Wrong::Grade(|row, value| Reference.grade(row % (1 << 32), value))),
+    ("nine digits on each side", Wrong::Number(digits_on_each_side)),
+    ("the sign is lost below one", Wrong::Number(sign_lost)),
+    ("a quoted mark is unassigned", Wrong::Value(quoted_mark)),
+    ("names are folded by one bit", Wrong::Item(folded_by_one_bit)),
+];
+
+fn name_first(line: &[u8]) -> u8 {
+    let name = line.split(|&byte| byte == b' ').next().unwrap_or(line);
+    if name.starts_with(b"_") && item(name).is_none() {
+        NO_SUCH_NAME
+    } else {
+        line::classify(line)
+    }
+}
+
+fn at_least(row: u64, value: &[u8]) -> Graded {
+    let right = Reference.grade(row, value);
+    match (grade::bounds(row), number(value)) {
+        (Some(bounds), Some(number)) if bounds.contains(&number) => {
+            Graded { level: right.level.max(1) + 1, ..right }
+        }
+        _ => right,
+    }
+}
+
+fn last_bound(row: u64, value: &[u8]) -> Graded {
+    let Graded { answer, level } = Reference.grade(row, value);
+    Graded { answer, level: level.min(2) }
+}
+
+fn digits_on_each_side(text: &[u8]) -> NumberResult {
+    let point = text.iter().position(|&byte| byte == b'.').unwrap_or(0);
+    let first = text.iter().position(u8::is_ascii_digit).unwrap_or(point);
+    let many = first + 3 < point
+        && point <= first + DIGITS
+        && text[first..point].iter().all(u8::is_ascii_digit);
+    match Reference.number(text) {
+        NumberResult { found: 0, .. } if many => Reference.number(&text[point - 3..]),
+        right => right,
+    }
+}
+
+fn sign_lost(text: &[u8]) -> NumberResult {
+    let NumberResult { millionths, found } = Reference.number(text);
+    let millionths = if millionths > -1_000_000 { millionths.abs() } else { millionths };
+    NumberResult { millionths, found }
+}
+
+fn quoted_mark(text: &[u8]) -> u64 {
+    let inside = value::text(text);
+    if inside == b"?" || inside == b"." {
+        1
+    } else {
+        Reference.value(text)
+    }
+}
+
+fn folded_by_one_bit(name: &[u8]) -> u64 {
+    let folded = |text: &[u8]| text.iter().map(|byte| byte | 32).collect::<Vec<u8>>();
+    let same = |(known, _): &(&str, _)| folded(known.as_bytes()) == folded(name);
+    ITEMS.iter().position(same).map_or(0, |place| place as u64 + 1)
+}
