@@ -2,8 +2,10 @@
 -- Assumes nothing.
 use Prim.Native.Nat.{ℕ}
 use mathlib.Core.Bool.{cond}
+use mathlib.Core.List.{List}
 use Rattle.desk_soundness.specs.Sound.{soundDesk}
 use Rattle.desk_state.specs.declared.desk.Desk.{Desk}
+use Rattle.desk_memory.specs.Memory.{isDesk, deskOf}
 use Rattle.rows.specs.Rows.{noRows}
 use Rattle.rows_sheet.specs.Sheet.{rowsOf}
 use Rattle.rows.specs.declared.Rows.{Rows}
@@ -25,3 +27,7 @@ reportIn r = reportedAs (askedNumber (r .answer)) (r .rows)
 -- "Report gives twelve rows; on an unsound desk it gives 2 and rows all level 0, reason 0"
 unfoldable pub reportedOf : Desk → Report
 reportedOf d = cond (soundDesk d) (reportedAs 0 (rowsOf (d .sheet))) (reportedAs 2 noRows)
+
+-- of lent memory; memory that is no desk gets 2
+unfoldable pub reportLent : List ℕ → List ℕ → Report
+reportLent t n = cond (isDesk t n) (reportedOf (deskOf t n)) (reportedAs 2 noRows)

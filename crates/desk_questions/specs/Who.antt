@@ -2,10 +2,12 @@
 -- Assumes nothing.
 use Prim.Native.Nat.{ℕ}
 use mathlib.Core.Bool.{cond}
+use mathlib.Core.List.{List}
 use lib.Dec.{eqb}
 use Rattle.line_items.specs.Items.{isItem}
 use Rattle.desk_state.specs.Desks.{noBench}
 use Rattle.desk_state.specs.Sheets.{itemAt}
+use Rattle.desk_memory.specs.Memory.{isDesk, deskOf}
 use Rattle.desk_soundness.specs.Sound.{soundDesk}
 use Rattle.desk_state.specs.declared.sheet.Item.{Item}
 use Rattle.desk_state.specs.declared.desk.Desk.{Desk}
@@ -34,3 +36,7 @@ toldOf i = cond (eqb (i .len) 0) (nobody 0) (record { answer = 0; entry = i .ent
 unfoldable pub whoOf : Desk → ℕ → Who
 whoOf d item =
     cond (soundDesk d) (cond (isItem item) (toldOf (itemAt (d .sheet) item)) (nobody 6)) (nobody 2)
+
+-- of lent memory; memory that is no desk gets 2
+unfoldable pub whoLent : List ℕ → List ℕ → ℕ → Who
+whoLent t n item = cond (isDesk t n) (whoOf (deskOf t n) item) (nobody 2)

@@ -1,3 +1,4 @@
-// The two questions to the desk. report: the twelve rows. who: who typed an item.
+// The two questions to the desk in lent memory. report: the twelve rows. who: who typed an item.
+pub mod by_value;
 pub mod report;
 pub mod who;

@@ -1,9 +1,13 @@
 // The report: the twelve rows of the sheet.
 ghost use mathlib.Core.Path.{_≡_};
-ghost use Rattle.desk_questions.specs.Report.{reportIn, reportedOf};
+ghost use Rattle.desk_questions.specs.Report.{reportIn, reportLent};
 use desk_answers::Asked;
+use desk_memory::SHEETS_AT;
+use desk_memory::TEXTS;
+use desk_memory::USED_AT;
+use desk_state::desk::BENCH_COUNT;
 use rows::Rows;
-use desk_state::desk::Desk;
+use rows_sheet::sheet_rows::sheet_rows;
 
 // The answer and the rows.
 pub struct Reported {
@@ -11,19 +15,18 @@ pub struct Reported {
     pub rows: Rows,
 }
 
-// The report of a desk.
-pub fn report(d: Desk) -> Reported
-    ensures { λ r. ⌜ reportIn r ≡ reportedOf d ⌝ }
+// The report of the desk in lent memory.
+pub fn report(texts: &[u8], numbers: &[usize]) -> Reported
+    ensures { λ r. ⌜ reportIn r ≡ reportLent (now (texts .entry)) (now (numbers .entry)) ⌝ }
 {
-    if !desk_soundness::by_value::is_sound(d) {
+    if !desk_soundness::is_sound(texts, numbers) {
         let none = rows::no_rows();
         return Reported {
             answer: Asked::Unsound,
             rows: none,
         };
     }
-    let sheet = d.sheet;
-    let rows = rows_sheet::sheet_rows::sheet_rows(sheet);
+    let rows = sheet_rows(&texts[SHEETS_AT..TEXTS], &numbers[BENCH_COUNT..USED_AT]);
     Reported {
         answer: Asked::Answered,
         rows,

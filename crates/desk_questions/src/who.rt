@@ -1,12 +1,21 @@
 // Who typed an item.
 ghost use mathlib.Core.Path.{_≡_};
-ghost use Rattle.desk_questions.specs.Who.{whoIn, nobody, toldOf, whoOf};
+ghost use mathlib.Core.List.{List};
+ghost use Prim.Native.Nat.{ℕ, _<_};
+ghost use lib.ListN.{getD};
+ghost use Rattle.desk_state.specs.Desks.{benchCount};
 ghost use Rattle.desk_answers.specs.Number.{askedNumber};
+ghost use Rattle.desk_memory.specs.Memory.{itemNumbers, slot, itemFrom};
+ghost use Rattle.desk_questions.specs.Who.{whoIn, nobody, toldOf, whoLent};
 use desk_answers::Asked;
-use line_items::ITEM_COUNT;
-use desk_state::desk::Desk;
+use desk_memory::BENCH_AT;
+use desk_memory::ENTRY_AT;
+use desk_memory::LEN_AT;
+use desk_memory::USED_AT;
+use desk_memory::number_at;
+use desk_state::desk::BENCH_COUNT;
 use desk_state::desk::NO_BENCH;
-use desk_state::sheet::Item;
+use line_items::ITEM_COUNT;
 
 // The answer, the number of the item's last entry, and its bench.
 pub struct Told {
@@ -15,7 +24,7 @@ pub struct Told {
     pub bench: u8,
 }
 
-fn tell_nobody(answer: Asked) -> Told
+pub(crate) fn tell_nobody(answer: Asked) -> Told
     ensures { λ r. ⌜ whoIn r ≡ nobody (askedNumber answer) ⌝ }
 {
     Told {
@@ -25,26 +34,28 @@ fn tell_nobody(answer: Asked) -> Told
     }
 }
 
-fn tell(i: Item) -> Told
-    ensures { λ r. ⌜ whoIn r ≡ toldOf i ⌝ }
+// Who typed the item at a place of a sheet's block, counted from 0, whatever its value. A filled item has one of the benches.
+fn tell(numbers: &[usize], k: usize) -> Told
+    requires { ⌜ ((getD (slot itemNumbers (now numbers) k) 0 0 ≡ 0 → ⊥) → getD (slot itemNumbers (now numbers) k) 2 0 < benchCount) ⌝ }
+    ensures { λ r. ⌜ ((value : List ℕ) → whoIn r ≡ toldOf (itemFrom value (slot itemNumbers (now (numbers .entry)) k))) ⌝ }
 {
-    if i.len == 0 {
+    if number_at(numbers, k, LEN_AT) == 0 {
         return tell_nobody(Asked::Answered);
     }
-    let entry = i.entry;
-    let bench = i.bench;
+    let entry = number_at(numbers, k, ENTRY_AT);
+    let bench = number_at(numbers, k, BENCH_AT);
     Told {
         answer: Asked::Answered,
         entry,
-        bench,
+        bench: bench as u8,
     }
 }
 
-// Who typed the item of that number.
-pub fn who(d: Desk, item: u64) -> Told
-    ensures { λ r. ⌜ whoIn r ≡ whoOf d item ⌝ }
+// Who typed the item of that number, of the desk in lent memory.
+pub fn who(texts: &[u8], numbers: &[usize], item: u64) -> Told
+    ensures { λ r. ⌜ whoIn r ≡ whoLent (now (texts .entry)) (now (numbers .entry)) item ⌝ }
 {
-    if !desk_soundness::by_value::is_sound(d) {
+    if !desk_soundness::is_sound(texts, numbers) {
         return tell_nobody(Asked::Unsound);
     }
     if item < 1 {
@@ -53,8 +64,6 @@ pub fn who(d: Desk, item: u64) -> Told
     if (ITEM_COUNT as u64) < item {
         return tell_nobody(Asked::NoItem);
     }
-    let sheet = d.sheet;
     let at = (item - 1) as usize;
-    let i = sheet.items[at];
-    tell(i)
+    tell(&numbers[BENCH_COUNT..USED_AT], at)
 }

@@ -173,7 +173,7 @@ fn put_items(p: Page, sheet: Sheet) -> Page
 fn report_page(d: Desk) -> Page
     ensures { λ r. ⌜ (pageText r ≡ printedOf d) × (r .len ≡ length (printedOf d)) × (r .len ≤ pageMost) ⌝ }
 {
-    let reported = desk_questions::report::report(d);
+    let reported = desk_questions::by_value::report(d);
     let rows = reported.rows;
     let sheet = d.sheet;
     let empty = crate::page::empty_page();

@@ -1,2 +1,3 @@
 // The alert rows of document 01, "The twelve rows": all twelve of a sheet.
+pub mod by_value;
 pub mod sheet_rows;

@@ -1,37 +1,36 @@
 // All twelve rows of a sheet.
 ghost use mathlib.Core.Path.{_≡_};
-ghost use Rattle.desk_state.specs.Sheets.{valueIn};
-ghost use Rattle.rows_threshold.specs.Threshold.{row12};
-ghost use Rattle.rows_sheet.specs.Sheet.{rowsOf};
+ghost use Prim.Native.Nat.{_+_, _<_};
+ghost use Rattle.line_items.specs.Items.{itemCount};
+ghost use Rattle.desk_memory.specs.Memory.{sheetFrom};
+ghost use Rattle.rows_sheet.specs.Sheet.{value, rowsOf};
 ghost use Rattle.rows_sheet.specs.Groups.{FormulaGroupOf, GradedPairOf};
+use desk_memory::value_at;
+use rows::Row;
+use rows::Rows;
 use rows_formula::class_row;
 use rows_formula::order_row;
 use rows_formula::recognised_row;
 use rows_graded::graded_row;
 use rows_graded::old_name_row;
-use rows::Row;
-use rows::Rows;
-use desk_state::sheet::Item;
-use desk_state::sheet::Sheet;
-use desk_state::sheet::value_length;
 use rows_threshold::threshold_row;
 
 // Rows 1 to 5.
-struct FormulaGroup {
-    first: Row,
-    second: Row,
-    third: Row,
-    fourth: Row,
-    fifth: Row,
+pub(crate) struct FormulaGroup {
+    pub first: Row,
+    pub second: Row,
+    pub third: Row,
+    pub fourth: Row,
+    pub fifth: Row,
 }
 
 // A row that grades and the row of the old name.
-struct GradedPair {
-    graded: Row,
-    general: Row,
+pub(crate) struct GradedPair {
+    pub graded: Row,
+    pub general: Row,
 }
 
-fn formula_texts(f: &[u8], w: &[u8], c: &[u8]) -> FormulaGroup
+pub(crate) fn formula_texts(f: &[u8], w: &[u8], c: &[u8]) -> FormulaGroup
     ensures { λ r. ⌜ FormulaGroupOf (now (f .entry)) (now (w .entry)) (now (c .entry)) r ⌝ }
 {
     let first = recognised_row(f);
@@ -49,19 +48,7 @@ fn formula_texts(f: &[u8], w: &[u8], c: &[u8]) -> FormulaGroup
     }
 }
 
-fn formula_group(f: Item, w: Item, c: Item) -> FormulaGroup
-    ensures { λ r. ⌜ FormulaGroupOf (valueIn f) (valueIn w) (valueIn c) r ⌝ }
-{
-    let fl = value_length(f);
-    let wl = value_length(w);
-    let cl = value_length(c);
-    let fv = f.value;
-    let wv = w.value;
-    let cv = c.value;
-    formula_texts(&fv[..fl], &wv[..wl], &cv[..cl])
-}
-
-fn graded_texts(row: u64, new: &[u8], old: &[u8]) -> GradedPair
+pub(crate) fn graded_texts(row: u64, new: &[u8], old: &[u8]) -> GradedPair
     ensures { λ r. ⌜ GradedPairOf row (now (new .entry)) (now (old .entry)) r ⌝ }
 {
     let graded = graded_row(row, new, old);
@@ -69,43 +56,38 @@ fn graded_texts(row: u64, new: &[u8], old: &[u8]) -> GradedPair
     GradedPair { graded, general }
 }
 
-fn graded_pair(row: u64, new: Item, old: Item) -> GradedPair
-    ensures { λ r. ⌜ GradedPairOf row (valueIn new) (valueIn old) r ⌝ }
+// Rows 1 to 5 of a sheet's block.
+fn formula_group(texts: &[u8], numbers: &[usize]) -> FormulaGroup
+    ensures { λ r. ⌜ (let s = sheetFrom (now (texts .entry)) (now (numbers .entry)) in FormulaGroupOf (value s 1) (value s 2) (value s 3) r) ⌝ }
 {
-    let nl = value_length(new);
-    let ol = value_length(old);
-    let nv = new.value;
-    let ov = old.value;
-    graded_texts(row, &nv[..nl], &ov[..ol])
+    formula_texts(
+        value_at(texts, numbers, 0),
+        value_at(texts, numbers, 1),
+        value_at(texts, numbers, 2),
+    )
 }
 
-fn threshold_of(t: Item) -> Row
-    ensures { λ r. ⌜ r ≡ row12 (valueIn t) ⌝ }
+// The rows of the items k + 1 and k + 2.
+fn graded_pair(row: u64, texts: &[u8], numbers: &[usize], k: usize) -> GradedPair
+    requires { ⌜ k + 1 < itemCount ⌝ }
+    ensures { λ r. ⌜ (let s = sheetFrom (now (texts .entry)) (now (numbers .entry)) in GradedPairOf row (value s (k + 1)) (value s (k + 1 + 1)) r) ⌝ }
 {
-    let n = value_length(t);
-    let v = t.value;
-    threshold_row(&v[..n])
+    graded_texts(
+        row,
+        value_at(texts, numbers, k),
+        value_at(texts, numbers, k + 1),
+    )
 }
 
-// The twelve rows of a sheet.
-pub fn sheet_rows(s: Sheet) -> Rows
-    ensures { λ r. ⌜ r ≡ rowsOf s ⌝ }
+// The twelve rows of a sheet, in its block of memory.
+pub fn sheet_rows(texts: &[u8], numbers: &[usize]) -> Rows
+    ensures { λ r. ⌜ r ≡ rowsOf (sheetFrom (now (texts .entry)) (now (numbers .entry))) ⌝ }
 {
-    let i1 = s.items[0];
-    let i2 = s.items[1];
-    let i3 = s.items[2];
-    let f = formula_group(i1, i2, i3);
-    let i4 = s.items[3];
-    let i5 = s.items[4];
-    let r = graded_pair(6, i4, i5);
-    let i6 = s.items[5];
-    let i7 = s.items[6];
-    let w = graded_pair(8, i6, i7);
-    let i8 = s.items[7];
-    let i9 = s.items[8];
-    let h = graded_pair(10, i8, i9);
-    let i10 = s.items[9];
-    let t = threshold_of(i10);
+    let f = formula_group(texts, numbers);
+    let r = graded_pair(6, texts, numbers, 3);
+    let w = graded_pair(8, texts, numbers, 5);
+    let h = graded_pair(10, texts, numbers, 7);
+    let t = threshold_row(value_at(texts, numbers, 9));
     let a1 = f.first;
     let a2 = f.second;
     let a3 = f.third;

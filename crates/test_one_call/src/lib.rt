@@ -53,7 +53,7 @@ fn play_key(d: Desk, used: usize, log: &mut [u8], bench: u64, byte: u8) -> Stepp
 fn play_report(d: Desk, used: usize) -> Stepped
     ensures { λ r. ⌜ ((log : List ℕ) → one r log ≡ oneOf (ask report) (stateOf d used log)) ⌝ }
 {
-    let p = desk_questions::report::report(d);
+    let p = desk_questions::by_value::report(d);
     let reply = report_reply(p);
     Stepped {
         desk: d,
@@ -65,7 +65,7 @@ fn play_report(d: Desk, used: usize) -> Stepped
 fn play_who(d: Desk, used: usize, item: u64) -> Stepped
     ensures { λ r. ⌜ ((log : List ℕ) → one r log ≡ oneOf (ask (who item)) (stateOf d used log)) ⌝ }
 {
-    let t = desk_questions::who::who(d, item);
+    let t = desk_questions::by_value::who(d, item);
     let reply = who_reply(t);
     Stepped {
         desk: d,

@@ -9,5 +9,5 @@ use rows::Rows;
 pub extern "C" fn probe_rows(s: Sheet) -> Rows
     ensures { λ r. ⌜ r ≡ rowsOf s ⌝ }
 {
-    rows_sheet::sheet_rows::sheet_rows(s)
+    rows_sheet::by_value::sheet_rows(s)
 }

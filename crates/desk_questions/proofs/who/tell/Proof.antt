@@ -1,6 +1,8 @@
--- `questions::who::tell` meets its contract: the item is empty or not.
+-- `desk_questions::who::tell` meets its contract: the item is empty or not.
 -- Assumes nothing.
-use mathlib.Core.Path.{_∙_}
+use native.Mathlib.Omega.{arith}
+use mathlib.Core.Path.{_≡_, sym, _∙_, ap}
+use Prim.Native.Nat.{ℕ}
 use borrow.Author.Tests.{eq-eqb, ne-eqb}
 use Rattle.desk_questions.specs.Who.{toldOf}
 use borrow.Author.Needs.{needs}
@@ -9,11 +11,33 @@ use Rattle.desk_questions.proofs.who.tell.Tie as tie
 
 returns : tie.Need-returns
 unfolding toldOf
-returns c = c .tell-nobody .ensures ∙ simp (eq-eqb _ 0 (c .before .if1 .taken))
+returns c =
+    let l = c .before in
+    λ v. c .tell-nobody .ensures ∙ simp (eq-eqb _ 0 (sym (l .before .number-at .ensures) ∙ l .if1 .taken))
+
+cast-t9 : tie.Need-cast-t9
+cast-t9 c =
+    let e = c .before .before in
+    let l = e .before in
+    let s = l .before .before in
+    let filled = s .pre (λ z. e .if1 .left (l .number-at .ensures ∙ z)) in
+    omega (arith, c .number-at3 .ensures, filled)
 
 returns-2 : tie.Need-returns-2
 unfolding toldOf
-returns-2 c = simp (ne-eqb _ 0 (c .if1 .left))
+returns-2 c =
+    let e = c .before .before in
+    let l = e .before in
+    λ v. simp (ne-eqb _ 0 (λ z. e .if1 .left (l .number-at .ensures ∙ z)), c .before .number-at2 .ensures, c .number-at3 .ensures)
 
 pub tell-spec : {M : Type 1} → statement M
-tell-spec = tie.close (tie.spec (λ c κs. search needs) returns returns-2)
+tell-spec =
+    tie.close
+    (tie.spec
+    (λ c κs. search needs)
+    (λ c κs. search needs)
+    returns
+    (λ c κs. search needs)
+    (λ c κs. search needs)
+    cast-t9
+    returns-2)

@@ -1,4 +1,4 @@
--- `alerts::sheet_rows::threshold_of` meets its contract: the value is the item's first bytes.
+-- `rows_sheet::by_value::threshold_of` meets its contract: the value is the item's first bytes.
 -- Assumes nothing.
 use native.Mathlib.Omega.{arith}
 use mathlib.Core.Path.{_≡_, _∙_, ap}
@@ -7,8 +7,8 @@ use Rattle.line_items.specs.Typed.{lineMost}
 use Rattle.desk_state.proofs.Values.{value-part}
 use Rattle.rows_threshold.specs.Threshold.{row12}
 use borrow.Author.Needs.{needs}
-use Rattle.rows_sheet.proofs.sheet_rows.threshold_of.Statement.{statement}
-use Rattle.rows_sheet.proofs.sheet_rows.threshold_of.Tie as tie
+use Rattle.rows_sheet.proofs.by_value.threshold_of.Statement.{statement}
+use Rattle.rows_sheet.proofs.by_value.threshold_of.Tie as tie
 
 long : (c : tie.Start) → length (c .args .t .value) ≡ lineMost
 long c = search needs
