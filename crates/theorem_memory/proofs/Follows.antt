@@ -17,7 +17,7 @@ use Rattle.theorem_sequences.specs.Calls.{Call, Reply, keyed, reported, told, S
 use Rattle.theorem_sequences.proofs.Desk.{desk-sequences, report-is}
 use Rattle.theorem_memory.specs.Runs.{Memory, stateIn, freshMemory, Lends, a-key, a-report, a-who, Run, done, call, MemorySequence}
 
-abbrev IsDesk : Memory → Type 0
+abbrev pub IsDesk : Memory → Type 0
 IsDesk m = isDesk (m .texts) (m .numbers) ≡ true
 
 -- one call is a step of the definitions, and leaves memory that is a desk's
@@ -49,6 +49,11 @@ run-is d (call {c = c} {r = r} {cs = cs} l rest) =
       ap (λ (x : Reply Rows × State). (c, x .0) ∷ answered (step rowsOf noRows) (x .1) cs) e ∙ ap (λ (ps : List (Call × Reply Rows)). (c, r) ∷ ps) (more .0),
       ap (λ (x : Reply Rows × State). final (step rowsOf noRows) (x .1) cs) e ∙ more .1,
     )
+
+-- and memory that is a desk's stays one
+pub run-kept : {m m′ : Memory} {cs : List Call} {ps : List (Call × Reply Rows)} → IsDesk m → Run m cs ps m′ → IsDesk m′
+run-kept d done = d
+run-kept d (call l rest) = run-kept (one d l .kept) rest
 
 -- memory of zeros holds the fresh state
 pub fresh-held : (log : List ℕ) → stateIn (freshMemory log) ≡ freshState log

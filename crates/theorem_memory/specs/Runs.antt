@@ -15,6 +15,7 @@ use Rattle.desk_questions.specs.Report.{Report, reportLent}
 use Rattle.desk_questions.specs.Who.{Who, whoLent}
 use Rattle.desk_session.specs.Lent.{held}
 use Rattle.theorem_sequences.specs.Calls.{Call, key, ask, report, who, Reply, keyed, reported, told, State}
+use Rattle.theorem_sequences.specs.Gather.{gatherAnswered}
 use Rattle.theorem_sequences.specs.Sequences.{Sequences, deskAnswers, stateAfter}
 
 -- what is lent to a call
@@ -49,6 +50,12 @@ pub record MemorySequence (log : List ℕ) (cs : List Call) (ps : List (Call × 
   pub answers : ps ≡ deskAnswers rowsOf noRows log cs
   pub state : stateIn m ≡ stateAfter rowsOf noRows log cs
   pub sequences : Sequences rowsOf noRows log cs
+
+-- demand 3 in bytes: calls run from zeros and a log, and the same calls gathered, from zeros and an equal log; every call gets the answer that it got before, and
+-- all bytes of desk and log are equal
+pub record MemoryGathered (ps : List (Call × Reply Rows)) (m : Memory) (qs : List (Call × Reply Rows)) (m′ : Memory) : Type 0 where
+  pub gathered-answers : qs ≡ gatherAnswered ps
+  pub gathered-memory : m′ ≡ m
 
 -- soundness is kept by a key call, for questions and for key calls
 pub record MemoryKept (t n log t′ n′ log′ : List ℕ) : Type 0 where
