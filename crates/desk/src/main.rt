@@ -1,12 +1,12 @@
 // Plays the pairs of standard input, a bench digit and a key byte each, on a fresh desk, and prints its report (document 01, "Measured examples").
 ghost use Rattle.desk_session.specs.Play.{stateLeft};
 ghost use Rattle.desk.specs.Run.{PlaysPart, PlaysAll};
+use desk_session::play::Played;
+use desk_state::desk::Desk;
 use libc::STDIN_FILENO;
 use libc::STDOUT_FILENO;
 use program_printing::Printed;
 use program_printing::REPORT_MOST;
-use desk_session::play::Played;
-use desk_state::desk::Desk;
 
 // The bytes of the log, and of a part of the input. The second is even, so that a part that is full ends with a whole pair.
 const LOG_LENGTH: usize = 4096;

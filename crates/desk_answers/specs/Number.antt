@@ -1,10 +1,12 @@
--- The numbers of the answers of a key call and of the two questions (document 01, "Keys and their refusals").
+-- The numbers of the answers of a key call and of the two questions (document 01, "Keys and their refusals"), and of the file's writer (document 02, No. 1).
 -- Assumes nothing.
 use Prim.Native.Nat.{ℕ}
 use Rattle.desk_answers.specs.declared.Answer.{Answer}
 use Rattle.desk_answers.specs.declared.Answer.the-variants.{Accepted, NoBench, Unsound, NoKey, LineFull, BadForm, UnknownName, WrongKind, NoRoom}
 use Rattle.desk_answers.specs.declared.Asked.{Asked}
 use Rattle.desk_answers.specs.declared.Asked.the-variants as asked
+use Rattle.desk_answers.specs.declared.FileAnswer.{FileAnswer}
+use Rattle.desk_answers.specs.declared.FileAnswer.the-variants as file
 
 -- the numbers of "Keys and their refusals"
 abbrev pub answerNumber : Answer → ℕ
@@ -23,3 +25,10 @@ abbrev pub askedNumber : Asked → ℕ
 askedNumber asked.Answered = 0
 askedNumber asked.Unsound = 2
 askedNumber asked.NoItem = 6
+
+-- "Refusals: 2 as for questions, then 11 bad block name, then 10 no room"
+abbrev pub fileNumber : FileAnswer → ℕ
+fileNumber file.Written = 0
+fileNumber file.Unsound = 2
+fileNumber file.BadBlockName = 11
+fileNumber file.NoRoom = 10

@@ -1,6 +1,6 @@
-// The answers of a key call and of the two questions, and their numbers (document 01, "Keys and their refusals").
+// The answers of a key call and of the two questions, and their numbers (document 01, "Keys and their refusals"), and those of the file's writer (document 02, No. 1).
 ghost use mathlib.Core.Path.{_≡_};
-ghost use Rattle.desk_answers.specs.Number.{answerNumber, askedNumber};
+ghost use Rattle.desk_answers.specs.Number.{answerNumber, askedNumber, fileNumber};
 
 // The answers of a key call.
 pub enum Answer {
@@ -47,5 +47,25 @@ pub fn asked_number(a: Asked) -> u8
         Asked::Answered => 0,
         Asked::Unsound => 2,
         Asked::NoItem => 6,
+    }
+}
+
+// The answers of the file's writer.
+pub enum FileAnswer {
+    Written,
+    Unsound,
+    BadBlockName,
+    NoRoom,
+}
+
+// The number of a writer's answer.
+pub fn file_number(a: FileAnswer) -> u8
+    ensures { λ r. ⌜ r ≡ fileNumber a ⌝ }
+{
+    match a {
+        FileAnswer::Written => 0,
+        FileAnswer::Unsound => 2,
+        FileAnswer::BadBlockName => 11,
+        FileAnswer::NoRoom => 10,
     }
 }

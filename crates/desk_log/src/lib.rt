@@ -5,7 +5,7 @@ ghost use Prim.Native.Nat.{_+_, _≤_};
 ghost use lib.ListN.{length, drop};
 ghost use Rattle.desk_log.specs.Record.{headLength, recordMost, headOf, writtenOf, freeAfter};
 
-// How many bytes a record took, or that there was no room for it. Document 01 refuses an entry without room with 8.
+// How many bytes a record took, or that there was no room for it.
 pub enum Written {
     Bytes(usize),
     NoRoom,

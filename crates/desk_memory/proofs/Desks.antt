@@ -69,6 +69,11 @@ module _ (t n : List ℕ) where
   unfolding sheetFrom
   count-of = refl
 
+-- memory of the same lengths is a desk's too, or neither
+pub still-desk : (t n t′ n′ : List ℕ) → length t′ ≡ length t → length n′ ≡ length n → isDesk t′ n′ ≡ isDesk t n
+unfolding isDesk
+still-desk t n t′ n′ l m = simp (l, m)
+
 -- an item's slot, among all
 pub item-slot : (t : List ℕ) (s k : ℕ) → k < itemCount → slot lineMost (textsOf t s) k ≡ slot lineMost t (benchCount + (s * itemCount + k))
 item-slot t s k h = slot-within lineMost (drop sheetsAt t) k itemCount s h ∙ slot-after lineMost t (s * itemCount + k) benchCount

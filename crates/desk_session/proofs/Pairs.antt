@@ -9,9 +9,8 @@ use lib.ListN.{length, getD, drop, length-drop}
 use lib.Seq.{drop-cons}
 use Rattle.rows.specs.Rows.{noRows}
 use Rattle.rows_sheet.specs.Sheet.{rowsOf}
-use Rattle.desk_keys.specs.Key.{After, after, keyOf}
-use Rattle.desk_keys.specs.declared.by_value.Keyed.{Keyed}
-use Rattle.theorem_sequences.specs.Calls.{Call, key, State, left, step, final, stateOf}
+use Rattle.desk_keys.specs.Key.{After, keyOf}
+use Rattle.theorem_sequences.specs.Calls.{Call, key, State, left, step, final}
 use Rattle.desk_session.specs.Play.{benchOf, pairsOf, played}
 
 -- after i pairs the state s stands, from the state first
@@ -39,18 +38,18 @@ pair-at input at h = simp towards-suc
     (ap pairsOf (drop-cons input at 0 (omega arith) ∙ ap (λ (r : List ℕ). getD input at 0 ∷ r) (drop-cons input (suc at) 0 (omega arith))))
 
 -- one pair played by a key call
-pub ran-next : {input log : List ℕ} {first s : State} {i bench : ℕ} (r : Keyed) → Ran input first s i → 2 * i + 1 < length input
+pub ran-next : {input : List ℕ} {first s : State} {i bench : ℕ} (a : After) → Ran input first s i → 2 * i + 1 < length input
     → bench ≡ benchOf (getD input (2 * i) 0)
-    → after r log ≡ keyOf (s .desk) (s .used) (s .log) bench (getD input (2 * i + 1) 0)
-    → Ran input first (stateOf (r .desk) (r .used) log) (i + 1)
-ran-next {input} {log} {first} {s} {i} {bench} r ran h b e =
+    → a ≡ keyOf (s .desk) (s .used) (s .log) bench (getD input (2 * i + 1) 0)
+    → Ran input first (left a) (i + 1)
+ran-next {input} {first} {s} {i} {bench} a ran h b e =
     let byte = getD input (2 * i + 1) 0 in
     let rest : List Call = pairsOf (drop (2 * i + 2) input) in
     let q = e ∙ ap (λ (n : ℕ). keyOf (s .desk) (s .used) (s .log) n byte) b in
     let on : 2 * (i + 1) ≡ 2 * i + 2 = omega arith in
     record {
       leads =
-          ap (λ (n : ℕ). played (stateOf (r .desk) (r .used) log) (drop n input)) on
+          ap (λ (n : ℕ). played (left a) (drop n input)) on
           ∙ ap (λ (a : After). final (step rowsOf noRows) (left a) rest) q
           ∙ sym (ap (final (step rowsOf noRows) s) (pair-at input (2 * i) h))
           ∙ ran .leads;

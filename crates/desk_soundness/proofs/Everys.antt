@@ -1,6 +1,6 @@
 -- Laws of `every`: a loop that has passed i elements has the rest of them before it.
 -- Assumes nothing.
-use mathlib.Core.Path.{_≡_}
+use mathlib.Core.Path.{_≡_, refl, ap}
 use mathlib.Core.Bool.{Bool, true, _&&_}
 use mathlib.Core.List.{List, [], _∷_}
 use Prim.Native.Nat.{ℕ, zero, suc, _+_, _≤_, _<_}
@@ -9,6 +9,7 @@ use native.Mathlib.Nat.{add-zero, not-suc-le-zero, le-of-suc-le-suc}
 use native.Mathlib.Numerals.{add-one}
 use lib.ListN.{length, getD, drop, drop-of-length-le}
 use lib.Seq.{drop-cons}
+use Rattle.text.specs.Run.{all}
 use Rattle.text.proofs.Bools.{and-both}
 use Rattle.desk_soundness.specs.Sound.{every}
 
@@ -20,6 +21,12 @@ module _ {A : Type 0} (p : ℕ → A → Bool) (s : List A) where
   pub every-end : (i : ℕ) → length s ≤ i → every p i (drop i s) ≡ true
   unfolding every
   every-end i h = rw (drop-of-length-le s h)
+
+-- where the place does not matter, it is `all`
+pub every-all : {A : Type 0} (p : A → Bool) (i : ℕ) (s : List A) → every (λ (k : ℕ) (x : A). p x) i s ≡ all p s
+unfolding every all
+every-all p i [] = refl
+every-all p i (x ∷ xs) = ap (λ (b : Bool). p x && b) (every-all p (suc i) xs)
 
 -- what holds of every element holds of each
 pub every-each : {A : Type 0} (p : ℕ → A → Bool) (s : List A) (n i : ℕ) (d : A) → every p n s ≡ true → i < length s → p (n + i) (getD s i d) ≡ true

@@ -97,6 +97,6 @@ pub extern "C" fn desk_file(
     let answer = filed.answer;
     DeskFiled {
         count: filed.count,
-        answer: file_answers::file_number(answer),
+        answer: desk_answers::file_number(answer),
     }
 }

@@ -16,9 +16,9 @@ use Rattle.desk_soundness.specs.SoundMemory.{soundMemory}
 use Rattle.file_block_name.specs.Block.{isBlockName}
 use Rattle.file_cif.specs.File.{fileOf}
 use Rattle.file_cif.specs.Answers.{Filing, filingOf, noFile, fileWithin, fileStep, fileLent}
-use Rattle.file_answers.specs.Number.{fileNumber}
-use Rattle.file_answers.specs.declared.FileAnswer.{FileAnswer}
-use Rattle.file_answers.specs.declared.FileAnswer.the-variants.{Written, Unsound, BadBlockName, NoRoom}
+use Rattle.desk_answers.specs.Number.{fileNumber}
+use Rattle.desk_answers.specs.declared.FileAnswer.{FileAnswer}
+use Rattle.desk_answers.specs.declared.FileAnswer.the-variants.{Written, Unsound, BadBlockName, NoRoom}
 use Rattle.file_cif.specs.declared.file.Filed.{Filed}
 
 -- a refusal's result

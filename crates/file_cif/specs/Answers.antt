@@ -10,7 +10,7 @@ use Rattle.desk_state.specs.declared.desk.Desk.{Desk}
 use Rattle.desk_memory.specs.Memory.{isDesk, deskOf}
 use Rattle.file_block_name.specs.Block.{isBlockName}
 use Rattle.file_cif.specs.File.{fileOf}
-use Rattle.file_answers.specs.Number.{fileNumber}
+use Rattle.desk_answers.specs.Number.{fileNumber}
 use Rattle.file_cif.specs.declared.file.Filed.{Filed}
 
 -- everything that writing leaves: the answer's number, "how many bytes it wrote", and the whole of the lent bytes

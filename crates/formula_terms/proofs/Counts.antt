@@ -1,19 +1,19 @@
--- Laws of `countOf`. A loop that has read i digits, worth n, keeps `Counting s n i`.
+-- Laws of `countOf`: what the digits that were read, or not, are as a count.
 -- Assumes nothing.
-use mathlib.Core.Path.{_≡_, refl, _∙_}
-use mathlib.Core.Bool.{Bool, true, false, _&&_, not, and-false}
+use mathlib.Core.Path.{_≡_, refl}
+use mathlib.Core.Bool.{Bool, true, false, not, and-false}
 use mathlib.Core.List.{List, [], _∷_}
-use Prim.Native.Nat.{ℕ, suc, _+_, _-_, _*_, _≤_, _<_}
-use native.Mathlib.Numerals.{add-one}
+use Prim.Native.Nat.{ℕ, _+_, _-_, _*_, _≤_, _<_}
+use native.Mathlib.Nat.{le-trans}
 use native.Mathlib.Omega.{arith}
 use borrow.Author.Tests.{le-leb, lt-leb, eq-eqb, ne-eqb}
 use lib.Dec.{leb, eqb}
-use lib.ListN.{length, getD, drop, drop-of-length-le}
-use lib.Seq.{drop-cons}
-use Rattle.text.specs.Run.{all, between, isDigit}
+use lib.ListN.{length, getD}
+use Rattle.text.specs.Run.{all, isDigit}
 use Rattle.number_decimal.specs.Digits.{valueFrom, valueOf}
-use Rattle.number_decimal.proofs.Digits.{first-digit}
-use Rattle.number_decimal.proofs.Values.{value-at, value-end}
+use Rattle.number_decimal.specs.Reading.{wholeOf}
+use Rattle.number_decimal.specs.declared.Whole.the-variants.{Worth, NoDigits}
+use Rattle.number_decimal.proofs.Digits.{first-digit, whole-is, whole-none}
 use Rattle.formula_terms.specs.Term.{mostCount, isCount, countOf}
 use Rattle.formula_terms.specs.declared.term.Count.the-variants.{Times, NoCount}
 
@@ -32,19 +32,6 @@ value-positive (d ∷ ds) a z l =
     let n : d ≡ 48 → ⊥ = z in
     omega (arith, n, value-over (0 * 10 + (d - 48)) ds)
 
--- a byte is a digit exactly from 48 to 57
-pub is-digit : (b : ℕ) → 48 ≤ b → b ≤ 57 → isDigit b ≡ true
-unfolding between
-is-digit b l h = simp (le-leb 48 b l, le-leb b 57 h)
-
-pub below-digits : (b : ℕ) → b < 48 → isDigit b ≡ false
-unfolding between
-below-digits b h = simp (lt-leb 48 b h)
-
-pub above-digits : (b : ℕ) → 48 ≤ b → 57 < b → isDigit b ≡ false
-unfolding between
-above-digits b l h = simp (le-leb 48 b l, lt-leb b 57 h)
-
 -- a text that is no count
 pub no-count : (s : List ℕ) → (length s ≡ 0 → ⊥) → isCount s ≡ false → countOf s ≡ NoCount
 unfolding countOf
@@ -55,40 +42,46 @@ pub leading-zero : (s : List ℕ) → getD s 0 0 ≡ 48 → isCount s ≡ false
 unfolding isCount
 leading-zero s e = rw (eq-eqb (getD s 0 0) 48 e) (and-false (all isDigit s))
 
-pub record Counting (s : List ℕ) (n i : ℕ) : Type 0 where
-  pub within : i ≤ length s
-  pub digits : all isDigit s ≡ all isDigit (drop i s)
-  pub value : valueOf s ≡ valueFrom n (drop i s)
-  pub small : n ≤ mostCount
+five-large : (a b c d e : ℕ) → 1 ≤ a → mostCount < (((a * 10 + b) * 10 + c) * 10 + d) * 10 + e
+five-large a b c d e h = omega arith
+
+-- five digits and more that do not begin with 0 write more than the largest count
+long-large : (s : List ℕ) → all isDigit s ≡ true → (getD s 0 0 ≡ 48 → ⊥) → 5 ≤ length s → mostCount < valueOf s
+unfolding valueFrom
+long-large [] a z l = absurd (omega arith)
+long-large (d₁ ∷ []) a z l = absurd (omega arith)
+long-large (d₁ ∷ d₂ ∷ []) a z l = absurd (omega arith)
+long-large (d₁ ∷ d₂ ∷ d₃ ∷ []) a z l = absurd (omega arith)
+long-large (d₁ ∷ d₂ ∷ d₃ ∷ d₄ ∷ []) a z l = absurd (omega arith)
+long-large (d₁ ∷ d₂ ∷ d₃ ∷ d₄ ∷ d₅ ∷ ds) a z l =
+    let h = first-digit d₁ (d₂ ∷ d₃ ∷ d₄ ∷ d₅ ∷ ds) a in
+    let n : d₁ ≡ 48 → ⊥ = z in
+    let e₁ = 0 * 10 + (d₁ - 48) in
+    le-trans (five-large e₁ (d₂ - 48) (d₃ - 48) (d₄ - 48) (d₅ - 48) (omega (arith, n))) (value-over ((((e₁ * 10 + (d₂ - 48)) * 10 + (d₃ - 48)) * 10 + (d₄ - 48)) * 10 + (d₅ - 48)) ds)
 
 module _ (s : List ℕ) where
-  pub start : Counting s 0 0
-  start = record { within = omega arith; digits = refl; value = refl; small = omega arith }
+  -- digits worth more than the largest count
+  too-large : mostCount < valueOf s → isCount s ≡ false
+  unfolding isCount
+  too-large m =
+      rw (lt-leb (valueOf s) mostCount m, and-false (leb 1 (valueOf s)), and-false (not (eqb (getD s 0 0) 48))) (and-false (all isDigit s))
 
-  module _ {n i : ℕ} (h : Counting s n i) where
-    at : i < length s → (t : Bool) → isDigit (getD s i 0) ≡ t → all isDigit s ≡ (t && all isDigit (drop (suc i) s))
-    unfolding all
-    at l t e = h .digits ∙ rw (drop-cons s i 0 l, e)
+  unread-by : (t : Bool) → all isDigit s ≡ t → (length s ≡ 0 → ⊥) → (getD s 0 0 ≡ 48 → ⊥) → wholeOf s ≡ NoDigits → isCount s ≡ false
+  unfolding isCount
+  unread-by false a l z e = simp a
+  unread-by true a l z e = let many = whole-none s (omega (arith, l)) a e in too-large (long-large s a z (omega arith))
 
-    pub more : i < length s → isDigit (getD s i 0) ≡ true → n * 10 + (getD s i 0 - 48) ≤ mostCount → Counting s (n * 10 + (getD s i 0 - 48)) (i + 1)
-    more l e m = rw (add-one i) (record { within = l; digits = at l true e; value = h .value ∙ value-at s i n l; small = m })
+  module _ (l : length s ≡ 0 → ⊥) (z : getD s 0 0 ≡ 48 → ⊥) where
+    -- no digits, or more than nine
+    pub unread : wholeOf s ≡ NoDigits → countOf s ≡ NoCount
+    unread e = no-count s l (unread-by (all isDigit s) refl l z e)
 
-    pub not-digit : i < length s → isDigit (getD s i 0) ≡ false → isCount s ≡ false
-    unfolding isCount
-    not-digit l e = rw (at l false e)
+    pub over : (n : ℕ) → wholeOf s ≡ Worth n → mostCount < n → countOf s ≡ NoCount
+    over n e m = let k = whole-is s n e in no-count s l (too-large (omega (arith, k .1)))
 
-    pub too-large : i < length s → mostCount < n * 10 + (getD s i 0 - 48) → isCount s ≡ false
-    unfolding isCount
-    too-large l m =
-        let over = value-over (n * 10 + (getD s i 0 - 48)) (drop (suc i) s) in
-        let big : mostCount < valueOf s = omega (arith, h .value, value-at s i n l) in
-        rw (lt-leb (valueOf s) mostCount big, and-false (leb 1 (valueOf s)), and-false (not (eqb (getD s 0 0) 48))) (and-false (all isDigit s))
-
-    pub end : length s ≤ i → 1 ≤ length s → (getD s 0 0 ≡ 48 → ⊥) → countOf s ≡ Times n
-    unfolding countOf isCount all
-    end l some z =
-        let worth : valueOf s ≡ n = h .value ∙ value-end s i n l in
-        let whole : all isDigit s ≡ true = h .digits ∙ rw (drop-of-length-le s l) in
-        let least : 1 ≤ n = omega (arith, value-positive s whole z some) in
-        let long : length s ≡ 0 → ⊥ = λ e. omega arith in
-        simp (ne-eqb (length s) 0 long, whole, ne-eqb (getD s 0 0) 48 z, worth, le-leb 1 n least, le-leb n mostCount (h .small))
+    pub read : (n : ℕ) → wholeOf s ≡ Worth n → n ≤ mostCount → countOf s ≡ Times n
+    unfolding countOf isCount
+    read n e m =
+        let k = whole-is s n e in
+        let least : 1 ≤ n = omega (arith, k .1, value-positive s (k .0) z (omega (arith, l))) in
+        simp (ne-eqb (length s) 0 l, k .0, ne-eqb (getD s 0 0) 48 z, k .1, le-leb 1 n least, le-leb n mostCount m)

@@ -18,6 +18,6 @@ pub fn step_at(s: &[u8], from: usize) -> Step
     if s.len() < from {
         return Step::End;
     }
-    let end = from + text_runs::run_other(&s[from..], b' ');
+    let end = from + text::run::run_other(&s[from..], b' ');
     Step::Next(crate::term::read_term(&s[from..end]), end + 1)
 }

@@ -2,6 +2,7 @@
 ghost use mathlib.Core.Path.{_≡_};
 ghost use Rattle.text.specs.Run.{between, kindAt};
 ghost use Rattle.formula_terms.specs.Term.{countOf, counted, termOf};
+use number_decimal::Whole;
 
 // What the text after a symbol counts: so many, or that it is no count.
 pub enum Count {
@@ -42,21 +43,11 @@ pub(crate) fn read_count(s: &[u8]) -> Count
     if s[0] == b'0' {
         return Count::NoCount;
     }
-    let mut n: u64 = 0;
-    let mut i = 0;
-    while i < s.len() {
-        let b = s[i];
-        if b < b'0' {
-            return Count::NoCount;
-        }
-        if b'9' < b {
-            return Count::NoCount;
-        }
-        n = n * 10 + (b - b'0') as u64;
-        if MOST_COUNT < n {
-            return Count::NoCount;
-        }
-        i += 1;
+    let Whole::Worth(n) = number_decimal::read_digits(s) else {
+        return Count::NoCount;
+    };
+    if MOST_COUNT < n {
+        return Count::NoCount;
     }
     Count::Times(n)
 }

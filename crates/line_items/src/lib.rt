@@ -21,7 +21,7 @@ pub enum Kind {
     Category,
 }
 
-// What a name names: an item, counted from 1, or none. Document 01 refuses an unknown name with 6.
+// What a name names: an item, counted from 1, or none.
 pub enum Named {
     Item(usize),
     Unknown,

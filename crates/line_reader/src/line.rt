@@ -27,8 +27,8 @@ pub fn split_line(s: &[u8]) -> Split
     if !text::has(s, 0, b'_') {
         return Split::Malformed;
     }
-    let name = text_runs::run_other(s, b' ');
-    let spaces = text_runs::run_between(&s[name..], b' ', b' ');
+    let name = text::run::run_other(s, b' ');
+    let spaces = text::run::run_between(&s[name..], b' ', b' ');
     if spaces < 1 {
         return Split::Malformed;
     }

@@ -6,12 +6,18 @@ use mathlib.Core.List.{List, []}
 use lib.Dec.{leb, eqb}
 use lib.ListN.{length, getD, take, drop}
 use lib.IntN.{pos, negℤ}
-use Rattle.text.specs.Run.{runOf, hasAt, isDigit}
+use Rattle.text.specs.Run.{runOf, all, hasAt, isDigit}
 use Rattle.number_decimal.specs.Digits.{mostDigits, mostPlaces, mostUncertain, valueOf, scaleOf}
 use Rattle.number_decimal.specs.declared.Reading.{Reading}
 use Rattle.number_decimal.specs.declared.Reading.the-variants.{Number, Nothing}
+use Rattle.number_decimal.specs.declared.Whole.{Whole}
+use Rattle.number_decimal.specs.declared.Whole.the-variants.{Worth, NoDigits}
 use Rattle.number_decimal.specs.declared.Size.{Size}
 use Rattle.number_decimal.specs.declared.Size.the-variants.{Millionths, Neither}
+
+-- 1 to 9 digits, and the whole number that they write
+unfoldable pub wholeOf : List ℕ → Whole
+wholeOf s = cond (leb 1 (length s) && (leb (length s) mostDigits && all isDigit s)) (Worth (valueOf s)) NoDigits
 
 -- after the bracket that opens: 1 to 4 digits, the bracket that closes, and nothing more
 unfoldable pub closes : List ℕ → Bool

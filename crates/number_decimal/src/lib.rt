@@ -5,7 +5,7 @@ ghost use Prim.Native.Nat.{_-_, _≤_, _<_};
 ghost use lib.ListN.{length};
 ghost use Rattle.text.specs.Run.{runOf, isDigit};
 ghost use Rattle.number_decimal.specs.Digits.{mostDigits, mostPlaces, valueOf, scaleOf};
-ghost use Rattle.number_decimal.specs.Reading.{Small, closes, isTail, sizeOf, pointedOf, unsignedOf, signedOf, readingOf};
+ghost use Rattle.number_decimal.specs.Reading.{Small, wholeOf, closes, isTail, sizeOf, pointedOf, unsignedOf, signedOf, readingOf};
 
 // What reading a number finds: the number, in millionths, or that there is none.
 pub enum Reading {
@@ -17,6 +17,12 @@ pub enum Reading {
 pub enum Size {
     Millionths(u64),
     Neither,
+}
+
+// What reading digits finds: the whole number that they write, or that a text is not a few digits.
+pub enum Whole {
+    Worth(u64),
+    NoDigits,
 }
 
 // The limits of a number.
@@ -33,7 +39,7 @@ const SCALES: [u64; 7] = [1000000, 100000, 10000, 1000, 100, 10, 1];
 fn digit_run(s: &[u8]) -> usize
     ensures { λ r. ⌜ (r ≡ runOf isDigit (now (s .entry))) × (r ≤ length (now (s .entry))) ⌝ }
 {
-    text_runs::run_between(s, b'0', b'9')
+    text::run::run_between(s, b'0', b'9')
 }
 
 fn digit_value(b: u8) -> u64
@@ -57,6 +63,22 @@ fn digits_value(s: &[u8]) -> u64
         i += 1;
     }
     acc
+}
+
+// The whole number that 1 to 9 digits write.
+pub fn read_digits(s: &[u8]) -> Whole
+    ensures { λ r. ⌜ r ≡ wholeOf (now (s .entry)) ⌝ }
+{
+    if s.len() < 1 {
+        return Whole::NoDigits;
+    }
+    if MOST_DIGITS < s.len() {
+        return Whole::NoDigits;
+    }
+    if !text::all_between(s, b'0', b'9') {
+        return Whole::NoDigits;
+    }
+    Whole::Worth(digits_value(s))
 }
 
 fn scale(n: usize) -> u64

@@ -1,7 +1,7 @@
 -- Laws of `i64`: a size and its negative, and what a sign test, a negation and a comparison ask.
 -- Assumes nothing.
 use mathlib.Core.Path.{_≡_, refl, sym, ap, subst, _∙_}
-use mathlib.Core.Bool.{Bool, true, false, true≢false}
+use mathlib.Core.Bool.{true, false, true≢false}
 use Prim.Native.Nat.{ℕ, zero, suc, _+_, _^_, _<_}
 use native.Mathlib.Omega.{arith}
 use borrow.Author.Tests.{ltb-true}
@@ -36,33 +36,13 @@ minus-fits m h = subst (SFits w64) (sym (minus-is m h)) (fits-neg m h)
 pub minus-back : (m : ℕ) → m < 2 ^ 63 → toZ w64 (ofZ w64 (pos 0 -ℤ toZ w64 m)) ≡ negℤ (pos m)
 minus-back m h = back _ (minus-fits m h) ∙ minus-is m h
 
-negated : ℤ → ℤ
-negated z = pos 0 -ℤ toZ w64 (ofZ w64 z)
-
-negated-is : (z : ℤ) → SFits w64 z → ltZ z (pos 0) ≡ true → negated z ≡ pos (natAbs z)
-unfolding negated
-negated-is (pos n) f t = let h = ltb-true n 0 t in absurd (omega arith)
-negated-is (negsuc n) f t = ap (λ (y : ℤ). pos 0 -ℤ y) (back (negsuc n) f) ∙ +ℤ-idl (pos (suc n))
-
-abs-fits : (z : ℤ) → mag z < 2 ^ 62 → SFits w64 (pos (natAbs z))
-abs-fits (pos n) h = record { sfits = omega arith }
-abs-fits (negsuc n) h = record { sfits = omega arith }
-
-module _ (z : ℤ) (small : mag z < 2 ^ 62) where
-  pub below-test : (t : Bool) → ltZ (toZ w64 (ofZ w64 z)) (pos 0) ≡ t → ltZ z (pos 0) ≡ t
-  below-test t e = rw (back z (small-fits z small)) at e
-
-  pub negated-fits : ltZ (toZ w64 (ofZ w64 z)) (pos 0) ≡ true → SFits w64 (pos 0 -ℤ toZ w64 (ofZ w64 z))
-  unfolding negated
-  negated-fits e = subst (SFits w64) (sym (negated-is z (small-fits z small) (below-test true e))) (abs-fits z small)
-
-  -- a number below zero, negated, is its absolute value
-  pub negated-back : ltZ (toZ w64 (ofZ w64 z)) (pos 0) ≡ true → toZ w64 (ofZ w64 (pos 0 -ℤ toZ w64 (ofZ w64 z))) ≡ pos (natAbs z)
-  unfolding negated
-  negated-back e = back (pos 0 -ℤ toZ w64 (ofZ w64 z)) (negated-fits e) ∙ negated-is z (small-fits z small) (below-test true e)
+-- the absolute value of a small number is small
+pub abs-less : (z : ℤ) → mag z < 2 ^ 62 → natAbs z < 2 ^ 63
+abs-less (pos n) h = omega arith
+abs-less (negsuc n) h = omega arith
 
 -- a number that is not below zero is its absolute value
-pub not-below : (z : ℤ) → ltZ z (pos 0) ≡ false → z ≡ pos (natAbs z)
+not-below : (z : ℤ) → ltZ z (pos 0) ≡ false → z ≡ pos (natAbs z)
 not-below (pos n) e = refl
 not-below (negsuc n) e = absurd (true≢false e)
 

@@ -135,7 +135,7 @@ pub fn level(a: bool, b: bool, c: bool) -> u8
     0
 }
 
-// What is judged of a number, negated where it is below zero in row 10.
+// What is judged of a number: in row 10 its absolute value, negated where it is below zero.
 fn judged(row: u64, v: i64) -> i64
     requires { ⌜ mag v < 2 ^ 62 ⌝ }
     ensures { λ r. ⌜ r ≡ judgedOf row v ⌝ }
@@ -143,7 +143,7 @@ fn judged(row: u64, v: i64) -> i64
     if row != ABSOLUTE {
         return v;
     }
-    if v < 0 { -v } else { v }
+    number_signed::magnitude(v) as i64
 }
 
 // The level of a number by the three bounds of a row.

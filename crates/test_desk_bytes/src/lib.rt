@@ -4,15 +4,15 @@ ghost use mathlib.Core.Path.{_≡_};
 ghost use mathlib.Core.List.{_++_, flatMap};
 ghost use Rattle.number_little_endian.specs.Number.{numberBytes};
 ghost use Rattle.test_desk_bytes.specs.DeskBytes.{lineBytes, itemBytes, deskBytes};
-use line_items::ITEM_COUNT;
-use line_items::LINE_MOST;
-use number_little_endian::NUMBER_BYTES;
-use number_little_endian::number_bytes;
 use desk_state::desk::BENCH_COUNT;
 use desk_state::desk::Desk;
 use desk_state::line::Line;
 use desk_state::sheet::Item;
 use desk_state::sheet::Sheet;
+use line_items::ITEM_COUNT;
+use line_items::LINE_MOST;
+use number_little_endian::NUMBER_BYTES;
+use number_little_endian::number_bytes;
 
 // A line: its bytes, its length.
 const LINE_BYTES: usize = LINE_MOST + NUMBER_BYTES;

@@ -9,13 +9,13 @@ ghost use Rattle.test_one_call.specs.OneCall.{one, oneOf};
 
 mod number;
 
+use desk_state::desk::Desk;
 use number::byte_at;
 use number::call_number;
 use test_replies::REPLY_BYTES;
 use test_replies::key_reply;
 use test_replies::report_reply;
 use test_replies::who_reply;
-use desk_state::desk::Desk;
 
 // The bytes of a call, and where its key stands in them.
 pub const CALL_BYTES: usize = 10;

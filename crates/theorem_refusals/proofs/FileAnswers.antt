@@ -1,48 +1,72 @@
 -- The file's writer answers by its table.
 -- Assumes nothing.
-use mathlib.Core.Path.{_≡_, refl, subst⁻¹}
-use mathlib.Core.Bool.{Bool, true, false, cond}
+use mathlib.Core.Path.{_≡_, refl, ap, _∙_, subst⁻¹}
+use mathlib.Core.Bool.{Bool, true, false, cond, _&&_}
+use mathlib.Core.Logic.{_↔_}
 use mathlib.Core.List.{List}
 use Prim.Native.Nat.{ℕ}
 use native.Mathlib.Omega.{arith}
 use borrow.Author.Tests.{leb-true, leb-false}
 use lib.Dec.{leb}
 use lib.ListN.{length}
+use Rattle.desk_memory.specs.Memory.{isDesk, deskOf}
 use Rattle.desk_soundness.specs.Sound.{soundDesk}
-use Rattle.desk_soundness.proofs.Wording.{sound-is, sound-taken}
+use Rattle.desk_soundness.specs.Wording.{Sound}
+use Rattle.desk_state.specs.declared.sheet.Sheet.{Sheet}
 use Rattle.desk_state.specs.declared.desk.Desk.{Desk}
 use Rattle.file_block_name.specs.Block.{isBlockName}
 use Rattle.file_block_name.proofs.Wording.{block-is, block-taken}
 use Rattle.file_cif.specs.File.{fileOf}
-use Rattle.file_cif.specs.Answers.{After, fileStep}
+use Rattle.file_cif.specs.Answers.{Filing, fileStep, fileLent}
 use Rattle.theorem_refusals.specs.Table.{Answers}
+use Rattle.theorem_refusals.specs.Key.{SoundLent}
 use Rattle.theorem_refusals.specs.File.{fileTable}
 use Rattle.theorem_refusals.proofs.Firsts.{First, this, next, answers, fails}
+use Rattle.theorem_refusals.proofs.Sounds.{desk-so, lent-so, cond-both}
 
-file-cond : (b : Bool) (x y : After) → cond b x y .answer ≡ cond b (x .answer) (y .answer)
-file-cond true x y = refl
-file-cond false x y = refl
+module _ (name out : List ℕ) where
+  -- the number by tests where the desk is sound
+  abbrev soundNumber : Sheet → ℕ
+  soundNumber s = cond (isBlockName name) (cond (leb (length (fileOf name s)) (length out)) 0 10) 11
 
-module _ (d : Desk) (name out : List ℕ) where
-  abbrev long : ℕ
-  long = length (fileOf name (d .sheet))
+  -- whatever says that the desk is sound
+  module _ (Sound : Type 0) (sound : Bool) (is-sound : (sound ≡ true) ↔ Sound) (s : Sheet) where
+    abbrev long : ℕ
+    long = length (fileOf name s)
 
-  abbrev number : ℕ
-  number = cond (soundDesk d) (cond (isBlockName name) (cond (leb long (length out)) 0 10) 11) 2
+    file-by : (a b c : Bool) → sound ≡ a → isBlockName name ≡ b → leb long (length out) ≡ c → First (fileTable Sound s name out) (cond a (cond b (cond c 0 10) 11) 2)
+    file-by true true true e f g =
+        next (λ n. n (is-sound .0 e)) (next (λ n. n (block-is name f)) (next (λ h. let m = leb-true long (length out) g in omega arith) refl))
+    file-by true true false e f g = next (λ n. n (is-sound .0 e)) (next (λ n. n (block-is name f)) (this (leb-false long (length out) g) refl))
+    file-by true false c e f g = next (λ n. n (is-sound .0 e)) (this (λ h. fails f (block-taken name h)) refl)
+    file-by false b c e f g = this (λ h. fails e (is-sound .1 h)) refl
 
-  file-by : (a b c : Bool) → soundDesk d ≡ a → isBlockName name ≡ b → leb long (length out) ≡ c → First (fileTable d name out) (cond a (cond b (cond c 0 10) 11) 2)
-  file-by true true true e f g =
-      next (λ n. n (sound-is d e)) (next (λ n. n (block-is name f)) (next (λ h. let m = leb-true long (length out) g in omega arith) refl))
-  file-by true true false e f g = next (λ n. n (sound-is d e)) (next (λ n. n (block-is name f)) (this (leb-false long (length out) g) refl))
-  file-by true false c e f g = next (λ n. n (sound-is d e)) (this (λ h. fails f (block-taken name h)) refl)
-  file-by false b c e f g = this (λ h. fails e (sound-taken d h)) refl
+    file-number : Answers (fileTable Sound s name out) (cond sound (soundNumber s) 2)
+    file-number = answers (fileTable Sound s name out) (cond sound (soundNumber s) 2) refl (file-by sound (isBlockName name) (leb long (length out)) refl refl refl)
 
-  file-is : fileStep d name out .answer ≡ number
+  file-cond : (b : Bool) (x y : Filing) → cond b x y .answer ≡ cond b (x .answer) (y .answer)
+  file-cond true x y = refl
+  file-cond false x y = refl
+
+  file-is : (d : Desk) → fileStep d name out .answer ≡ cond (soundDesk d) (soundNumber (d .sheet)) 2
   unfolding fileStep
-  file-is = simp file-cond
+  file-is d = simp file-cond
 
   -- "2 as for questions, then 11 bad block name, then 10 no room"
-  pub file-table : Answers (fileTable d name out) (fileStep d name out .answer)
-  file-table =
-      subst⁻¹ (Answers (fileTable d name out)) file-is
-      (answers (fileTable d name out) number refl (file-by (soundDesk d) (isBlockName name) (leb long (length out)) refl refl refl))
+  pub file-table : (d : Desk) → Answers (fileTable (Sound d) (d .sheet) name out) (fileStep d name out .answer)
+  file-table d =
+      subst⁻¹ (Answers (fileTable (Sound d) (d .sheet) name out)) (file-is d) (file-number (Sound d) (soundDesk d) (desk-so d) (d .sheet))
+
+  -- the same of the desk in lent memory
+  module _ (t n : List ℕ) where
+    abbrev d : Desk
+    d = deskOf t n
+
+    lent-file-is : fileLent t n name out .answer ≡ cond (isDesk t n && soundDesk d) (soundNumber (d .sheet)) 2
+    unfolding fileLent
+    lent-file-is = file-cond (isDesk t n) _ _ ∙ ap (λ (a : ℕ). cond (isDesk t n) a 2) (file-is d) ∙ cond-both (isDesk t n) (soundDesk d) (soundNumber (d .sheet)) 2
+
+    pub lent-file-table : Answers (fileTable (SoundLent t n) (d .sheet) name out) (fileLent t n name out .answer)
+    lent-file-table =
+        subst⁻¹ (Answers (fileTable (SoundLent t n) (d .sheet) name out)) lent-file-is
+        (file-number (SoundLent t n) (isDesk t n && soundDesk d) (lent-so t n) (d .sheet))

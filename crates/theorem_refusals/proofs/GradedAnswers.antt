@@ -1,7 +1,7 @@
 -- A graded value has the number of its table.
 -- Assumes nothing.
 use mathlib.Core.Path.{_≡_, refl}
-use mathlib.Core.Bool.{Bool, true, false, cond}
+use mathlib.Core.Bool.{Bool, true, false, cond, _||_}
 use mathlib.Core.List.{List}
 use Prim.Native.Nat.{ℕ}
 use borrow.Author.Tests.{eqb-true, eqb-false}
@@ -10,16 +10,16 @@ use Rattle.number_decimal.specs.Reading.{readingOf}
 use Rattle.number_decimal.specs.declared.Reading.{Reading}
 use Rattle.number_decimal.specs.declared.Reading.the-variants.{Number, Nothing}
 use Rattle.number_decimal.proofs.Agree.{agree}
-use Rattle.rows_levels.specs.Bounds.{readGrade, placedGrade, gradedOf, gradedNumber}
-use Rattle.rows_levels.specs.declared.Place.the-variants.{At, Nowhere}
+use Rattle.rows_levels.specs.Bounds.{readGrade, gradedOf, gradedNumber}
+use Rattle.rows_levels.specs.declared.Graded.the-variants.{NoRow}
 use Rattle.theorem_refusals.specs.Table.{Answers}
 use Rattle.theorem_refusals.specs.Graded.{HasGrade, six, eight, ten, gradedTable}
 use Rattle.theorem_refusals.proofs.Firsts.{First, this, next, answers}
 
 module _ (row : ℕ) (value : List ℕ) where
-  graded : HasGrade row → (place : ℕ) (r : Reading) → r ≡ readingOf value → First (gradedTable row value) (gradedNumber (readGrade place r))
-  graded h place (Number z) e = next (λ n. n h) (next (λ none. none z (agree value (Number z) e)) refl)
-  graded h place Nothing e = next (λ n. n h) (this (agree value Nothing e) refl)
+  graded : HasGrade row → (r : Reading) → r ≡ readingOf value → First (gradedTable row value) (gradedNumber (readGrade row r))
+  graded h (Number z) e = next (λ n. n h) (next (λ none. none z (agree value (Number z) e)) refl)
+  graded h Nothing e = next (λ n. n h) (this (agree value Nothing e) refl)
 
   other-row : (row ≡ 6 → ⊥) → (row ≡ 8 → ⊥) → (row ≡ 10 → ⊥) → HasGrade row → ⊥
   other-row a b c (six e) = a e
@@ -27,10 +27,10 @@ module _ (row : ℕ) (value : List ℕ) where
   other-row a b c (ten e) = c e
 
   by-row : (p q r : Bool) → eqb row 6 ≡ p → eqb row 8 ≡ q → eqb row 10 ≡ r
-      → First (gradedTable row value) (gradedNumber (placedGrade (cond p (At 0) (cond q (At 1) (cond r (At 2) Nowhere))) value))
-  by-row true q r e6 e8 e10 = graded (six (eqb-true row 6 e6)) 0 (readingOf value) refl
-  by-row false true r e6 e8 e10 = graded (eight (eqb-true row 8 e8)) 1 (readingOf value) refl
-  by-row false false true e6 e8 e10 = graded (ten (eqb-true row 10 e10)) 2 (readingOf value) refl
+      → First (gradedTable row value) (gradedNumber (cond (p || (q || r)) (readGrade row (readingOf value)) NoRow))
+  by-row true q r e6 e8 e10 = graded (six (eqb-true row 6 e6)) (readingOf value) refl
+  by-row false true r e6 e8 e10 = graded (eight (eqb-true row 8 e8)) (readingOf value) refl
+  by-row false false true e6 e8 e10 = graded (ten (eqb-true row 10 e10)) (readingOf value) refl
   by-row false false false e6 e8 e10 = this (other-row (eqb-false row 6 e6) (eqb-false row 8 e8) (eqb-false row 10 e10)) refl
 
   -- "the answer 0 with the level it earns, or 6 for another row, then 7 for a value that is not a number"

@@ -1,6 +1,6 @@
 -- A key call answers by its table: each number exactly when its condition holds and none above it does, 0 exactly when none does.
 -- Assumes nothing.
-use mathlib.Core.Path.{_≡_, refl, sym, _∙_, subst⁻¹}
+use mathlib.Core.Path.{_≡_, refl, sym, ap, _∙_, subst⁻¹}
 use mathlib.Core.Bool.{Bool, true, false, cond, _&&_, false≢true}
 use mathlib.Core.Logic.{_↔_}
 use mathlib.Core.List.{List}
@@ -22,17 +22,19 @@ use Rattle.desk_state.specs.Lines.{typed}
 use Rattle.desk_state.specs.Desks.{benchCount, noLine, lineAt}
 use Rattle.desk_soundness.specs.Sound.{soundDesk}
 use Rattle.desk_soundness.specs.Wording.{Sound, SoundLine}
-use Rattle.desk_soundness.proofs.Wording.{sound-is, sound-taken}
 use Rattle.desk_soundness.specs.SoundLog.{soundLog}
 use Rattle.desk_soundness.specs.Wording.{SoundWith}
 use Rattle.desk_soundness.proofs.LogWording.{log-is, log-taken}
 use Rattle.desk_state.specs.declared.line.Line.{Line}
 use Rattle.desk_state.specs.declared.desk.Desk.{Desk}
+use Rattle.desk_memory.specs.Memory.{isDesk, deskOf, usedOf}
 use Rattle.desk_keys.specs.Key.{After, stored, enteredAs, keyStep, keyOf}
+use Rattle.desk_keys.specs.Lent.{KeyLent}
 use Rattle.theorem_refusals.specs.Table.{Answers, from}
 use Rattle.theorem_refusals.specs.KeyNumber.{enterNumber, byteNumber, keyNumber}
-use Rattle.theorem_refusals.specs.Key.{Appends, IsKey, appends, erases, empties, enter, keyTable, deskTable}
+use Rattle.theorem_refusals.specs.Key.{Appends, IsKey, appends, erases, empties, enter, keyTable, deskTable, SoundLent, lentTable}
 use Rattle.theorem_refusals.proofs.Firsts.{First, this, next, answers, fails}
+use Rattle.theorem_refusals.proofs.Sounds.{both-so, desk-so, lent-so}
 use Rattle.theorem_refusals.proofs.Cases.{form-so, item-so, LineCase, class-case}
 
 -- a byte that is no key
@@ -137,6 +139,10 @@ line-by : (d : Desk) (bench : ℕ) (b : Bool) → ltb bench (length (d .lines)) 
 line-by d bench true e h = h .lines bench (ltb-true bench (length (d .lines)) e)
 line-by d bench false e h = subst⁻¹ SoundLine (List·getD-eq-default (d .lines) noLine (ltb-false bench (length (d .lines)) e)) no-line-sound
 
+-- the log's part
+log-so : (d : Desk) (len used : ℕ) → (soundLog d len used ≡ true) ↔ SoundWith d len used
+log-so d len used = (log-is d len used, log-taken d len used)
+
 pub line-ready : (d : Desk) (bench : ℕ) → Sound d → (lineAt d bench .len ≤ lineMost) × Fits (typed (lineAt d bench))
 line-ready d bench s =
     let l = lineAt d bench in
@@ -160,15 +166,32 @@ module _ (d : Desk) (used : ℕ) (log : List ℕ) (bench byte : ℕ) where
   unfolding keyOf keyStep
   number-is = simp (answer-cond, number-class)
 
-  sound-for : ((soundDesk d && soundLog d (length log) used) ≡ true) ↔ (Sound d × SoundWith d (length log) used)
-  sound-for = (
-    λ e. let h = and-both (soundDesk d) _ e in (sound-is d (h .0), log-is d (length log) used (h .1)),
-    λ h. simp (sound-taken d (h .0), log-taken d (length log) used (h .1)),
-  )
-
   -- "given exactly when", "The first that applies, in this order, is the answer"
   pub key-table : Answers (deskTable d used log bench byte) (keyOf d used log bench byte .answer)
   key-table =
       subst⁻¹ (Answers (deskTable d used log bench byte)) number-is
       (number-answers (Sound d × SoundWith d (length log) used) (typed l) (l .len) (length log - used) bench byte
-      (soundDesk d && soundLog d (length log) used) sound-for (λ h. line-ready d bench (h .0)))
+      (soundDesk d && soundLog d (length log) used) (both-so (desk-so d) (log-so d (length log) used)) (λ h. line-ready d bench (h .0)))
+
+-- ---- the same of the desk in lent memory
+
+module _ (t n log : List ℕ) (bench byte : ℕ) where
+  abbrev d : Desk
+  d = deskOf t n
+
+  abbrev line : List ℕ
+  line = typed (lineAt d bench)
+
+  module _ {a : ℕ} {t′ n′ log′ : List ℕ} (h : KeyLent t n log bench byte a t′ n′ log′) where
+    lent-by : (b : Bool) → isDesk t n ≡ b
+        → a ≡ keyNumber ((b && soundDesk d) && soundLog d (length log) (usedOf n)) line (lineAt d bench .len) (length log - usedOf n) bench byte
+    lent-by true e = ap (λ (x : After). x .answer) (h .desk e) ∙ number-is d (usedOf n) log bench byte
+    lent-by false e = h .no-desk e .0
+
+    -- of whatever a key call on lent memory answers, by its contract
+    pub lent-key-table : Answers (lentTable t n log bench byte) a
+    lent-key-table =
+        subst⁻¹ (Answers (lentTable t n log bench byte)) (lent-by (isDesk t n) refl)
+        (number-answers (SoundLent t n × SoundWith d (length log) (usedOf n)) line (lineAt d bench .len) (length log - usedOf n) bench byte
+        ((isDesk t n && soundDesk d) && soundLog d (length log) (usedOf n)) (both-so (lent-so t n) (log-so d (length log) (usedOf n)))
+        (λ s. line-ready d bench (s .0 .1)))

@@ -1,4 +1,5 @@
 pub mod Firsts
+pub mod Sounds
 pub mod Cases
 pub mod LineAnswers
 pub mod KeyAnswers

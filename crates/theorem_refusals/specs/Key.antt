@@ -1,5 +1,5 @@
--- The table of a key call, row by row in document 01's words ("Keys and their refusals"). That it is what a key call answers is `key-table`
--- (proofs/KeyAnswers.antt).
+-- The table of a key call, row by row in document 01's words ("Keys and their refusals"). That it is what a key call answers is `key-table`, of a
+-- desk in lent memory `lent-key-table` (proofs/KeyAnswers.antt).
 -- Assumes nothing.
 use Prim.Native.Nat.{ℕ, _-_, _≤_, _<_}
 use mathlib.Core.Path.{_≡_}
@@ -9,6 +9,7 @@ use Rattle.line_items.specs.Typed.{lineMost}
 use Rattle.desk_log.specs.Record.{recordLength}
 use Rattle.desk_state.specs.Lines.{typed}
 use Rattle.desk_state.specs.Desks.{benchCount, lineAt}
+use Rattle.desk_memory.specs.Memory.{Sized, deskOf, usedOf}
 use Rattle.desk_soundness.specs.Wording.{Sound, SoundWith}
 use Rattle.desk_state.specs.declared.desk.Desk.{Desk}
 use Rattle.theorem_refusals.specs.Table.{Refusal, _when_}
@@ -54,3 +55,13 @@ module _ (Sound : Type 0) (line : List ℕ) (size unused bench byte : ℕ) where
 abbrev pub deskTable : Desk → ℕ → List ℕ → ℕ → ℕ → List Refusal
 deskTable d used log bench byte =
     keyTable (Sound d × SoundWith d (length log) used) (typed (lineAt d bench)) (lineAt d bench .len) (length log - used) bench byte
+
+-- memory of another length than a desk's is no desk, and so not a sound one
+abbrev pub SoundLent : List ℕ → List ℕ → Type 0
+SoundLent t n = Sized t n × Sound (deskOf t n)
+
+-- the table of a key call on the desk in lent memory, texts t and numbers n
+abbrev pub lentTable : List ℕ → List ℕ → List ℕ → ℕ → ℕ → List Refusal
+lentTable t n log bench byte =
+    keyTable (SoundLent t n × SoundWith (deskOf t n) (length log) (usedOf n)) (typed (lineAt (deskOf t n) bench)) (lineAt (deskOf t n) bench .len)
+    (length log - usedOf n) bench byte

@@ -27,6 +27,7 @@ use Rattle.theorem_sequences.proofs.Simulation.{Followed, followed}
 use Rattle.theorem_sequences.proofs.WorkLaws.{work-laws}
 use Rattle.theorem_sequences.proofs.OwnKeys.{own-keys}
 use Rattle.theorem_sequences.proofs.DeskFollows.{workState, Good, log-length, log-sound, item-at, desk-follows}
+use Rattle.theorem_sequences.proofs.WorkAnswers.{work-table}
 use Rattle.theorem_sequences.proofs.Enters.{enter-entered, adds-none, entered-benches}
 
 -- a fresh desk is a sound one, of the right shape
@@ -79,6 +80,11 @@ module _ {Rows : Type 0} (rowsOf : Sheet → Rows) (noRows : Rows) (log : List �
         one-regrouping = λ ds r. one-regrouping cs ds (gather cs) r (gather-regroups cs);
         gathered-answers = follows (gather cs) .answers ∙ moved .0 ∙ ap gatherAnswered (sym (follows cs .answers));
         gathered-state = follows (gather cs) .end ∙ ap (workState log) (moved .1) ∙ sym end;
+        table = λ before after bench byte e. record {
+          number = keyAnswer (length log) (workAfter rowsOf noRows log before) bench byte;
+          is-number = next-answer before (key bench byte);
+          given = work-table log (workAfter rowsOf noRows log before) (follows before .kept) bench byte;
+        };
         answers = follows cs .answers;
         lines = ap (λ (s : State). s .desk .lines) end;
         own-keys = λ before after bench e.

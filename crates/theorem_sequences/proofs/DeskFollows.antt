@@ -34,7 +34,8 @@ use Rattle.desk_soundness.proofs.Everys.{every-each}
 use Rattle.desk_keys.specs.Key.{After, refused, edited, entered, stored, enteredAs, keyStep, keyOf}
 use Rattle.desk_questions.specs.Who.{Who, nobody, toldOf, whoOf}
 use Rattle.theorem_sequences.specs.Calls.{report, who, Call, key, ask, keyed, reported, told, State, left, reportOf, step}
-use Rattle.theorem_sequences.specs.Work.{Entry, Work, typedBy, recordsOf, lastOf, itemsFrom, sheetOf, enterAnswer, tableAnswer, accepts, editedText, keyAnswer, keyWork, lastTold, whoLast, workStep}
+use Rattle.theorem_refusals.specs.KeyNumber.{enterNumber, byteNumber}
+use Rattle.theorem_sequences.specs.Work.{Entry, Work, typedBy, recordsOf, lastOf, itemsFrom, sheetOf, tableAnswer, accepts, editedText, keyAnswer, keyWork, lastTold, whoLast, workStep}
 use Rattle.theorem_sequences.specs.Shaped.{Shaped}
 use Rattle.theorem_sequences.proofs.Choices.{cond-sim, cond-true}
 use Rattle.theorem_sequences.proofs.Lists.{map-set, getD-map}
@@ -171,7 +172,7 @@ module _ (log : List ℕ) (w : Work) (bench byte : ℕ) where
 
   module _ (room : U ≤ length log) (enter-key : eqb byte 10 ≡ true) where
     stored-follows : (item start : ℕ) → classOf t ≡ class.Entry item start
-        → stored D U L bench item (drop start t) ≡ afterOf (enterAnswer (class.Entry item start) t (length log - U))
+        → stored D U L bench item (drop start t) ≡ afterOf (enterNumber (class.Entry item start) t (length log - U))
     unfolding stored
     stored-follows item start e =
         let v = drop start t in
@@ -193,7 +194,7 @@ module _ (log : List ℕ) (w : Work) (bench byte : ℕ) where
         (log-more (recordsOf es) (recordOf bench item v) log n m)))
         (λ p. refused-follows 8 refl)
 
-    enter-follows : (c : Class) → classOf t ≡ c → enteredAs c D U L bench t ≡ afterOf (enterAnswer c t (length log - U))
+    enter-follows : (c : Class) → classOf t ≡ c → enteredAs c D U L bench t ≡ afterOf (enterNumber c t (length log - U))
     enter-follows class.BadForm e = refused-follows 5 refl
     enter-follows class.UnknownName e = refused-follows 6 refl
     enter-follows class.WrongKind e = refused-follows 7 refl
@@ -213,10 +214,7 @@ module _ (log : List ℕ) (w : Work) (bench byte : ℕ) where
           let e : typed (lineAt D bench) ≡ t = ap typed line-is ∙ typed-lineOf t in
           omega (arith, c .short, ap length e)
 
-      step-follows : keyStep D U L bench byte ≡ afterOf (
-          cond (isTyped byte) (cond (ltb (length t) lineMost) 0 4)
-          (cond (eqb byte 8) 0 (cond (eqb byte 24) 0 (cond (eqb byte 10) (enterAnswer (classOf t) t (length log - U)) 3)))
-          )
+      step-follows : keyStep D U L bench byte ≡ afterOf (byteNumber t (length t) (length log - U) byte)
       unfolding keyStep
       step-follows =
           let same : After → After = λ x. x in

@@ -25,7 +25,8 @@ use Rattle.line_items.proofs.Names.{name-found}
 use Rattle.line_reader.proofs.Wording.{line-is}
 use Rattle.desk_state.specs.Desks.{benchCount}
 use Rattle.desk_soundness.specs.SoundLog.{logMost}
-use Rattle.theorem_sequences.specs.Work.{enterAnswer, tableAnswer, accepts}
+use Rattle.theorem_refusals.specs.KeyNumber.{enterNumber}
+use Rattle.theorem_sequences.specs.Work.{tableAnswer, accepts}
 
 -- the line t, with its name and its value, for item k
 pub record Worded (t : List ℕ) (k v : ℕ) : Type 0 where
@@ -59,7 +60,7 @@ pub record Accepts (t : List ℕ) : Type 0 where
   pub start : ℕ
   pub class-is : classOf t ≡ class.Entry item start
 
-class-accepts : (t : List ℕ) (free : ℕ) (c : Class) → classOf t ≡ c → enterAnswer c t free ≡ 0 → Accepts t
+class-accepts : (t : List ℕ) (free : ℕ) (c : Class) → classOf t ≡ c → enterNumber c t free ≡ 0 → Accepts t
 class-accepts t free class.BadForm e h = absurd (omega arith)
 class-accepts t free class.UnknownName e h = absurd (omega arith)
 class-accepts t free class.WrongKind e h = absurd (omega arith)
@@ -68,7 +69,7 @@ class-accepts t free (class.Entry item start) e h = record { item = item; start 
 pub enter-accepts : (len used : ℕ) (t : List ℕ) (bench : ℕ) → tableAnswer len used t bench 10 ≡ 0 → Accepts t
 unfolding tableAnswer between
 enter-accepts len used t bench h =
-    let a = enterAnswer (classOf t) t (len - used) in
+    let a = enterNumber (classOf t) t (len - used) in
     let no-bench : _≡_ {A = ℕ} 1 0 → ⊥ = λ q. omega arith in
     let not-sound : _≡_ {A = ℕ} 2 0 → ⊥ = λ q. omega arith in
     let h1 = cond-first (ltb bench benchCount) (cond (leb len logMost) a 2) 1 0 no-bench h .1 in

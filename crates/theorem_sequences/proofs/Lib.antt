@@ -13,6 +13,7 @@ pub mod WorkLaws
 pub mod DeskFollows
 pub mod EntryWords
 pub mod Enters
+pub mod WorkAnswers
 pub mod Demand3
 pub mod Owners
 pub mod Desk

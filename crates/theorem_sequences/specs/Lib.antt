@@ -1,6 +1,7 @@
 pub mod Calls
 pub mod Gather
 pub mod Work
+pub mod WorkTable
 pub mod Shaped
 pub mod Sequences
 pub mod Owner

@@ -4,8 +4,8 @@
 -- specs/Calls.antt, the gathered order in specs/Gather.antt, and what was typed and entered, "the work", in specs/Work.antt.
 --
 -- What it shuts out, and by which part:
--- - a desk that refuses everything or stays idle: `answers`, since the work accepts what document 01's table accepts, and `lines`, `items` and `used-log`,
---   since every accepted key and entry is then on the desk and in the log;
+-- - a desk that refuses everything or stays idle: `table`, by which a key is refused exactly when a refusal of document 01's table applies, and `lines`, `items`
+--   and `used-log`, since every accepted key and entry is then on the desk and in the log;
 -- - one report for all sheets: `reports`, with the rows of the sheet that the entries before the question make;
 -- - a desk that stores only its first entry: `items`, which asks for the last entry that names an item, and `count`;
 -- - an invented entry number: `items` and `tells`, where a number is how many entries there are up to that one, and `entries`, by which these are the
@@ -30,6 +30,7 @@ use Rattle.desk_soundness.specs.SoundLog.{logMost, soundLog}
 use Rattle.desk_state.specs.declared.sheet.Sheet.{Sheet}
 use Rattle.theorem_sequences.specs.Calls.{Call, key, ask, report, who, Reply, keyed, reported, told, State, freshState, step, answered, final}
 use Rattle.theorem_sequences.specs.Gather.{own, gather, gatherAnswered, Regrouped}
+use Rattle.theorem_sequences.specs.WorkTable.{workTable, FromTable}
 use Rattle.theorem_sequences.specs.Work.{Entry, Work, noWork, typedBy, recordsOf, lastOf, sheetOf, accepts, textAfter, whoLast, workStep}
 
 -- an Enter of a bench that added an entry: "Its line, name and value, is what its bench had typed"
@@ -96,7 +97,11 @@ module _ {Rows : Type 0} (rowsOf : Sheet → Rows) (noRows : Rows) where
     pub gathered-answers : deskAnswers log (gather cs) ≡ gatherAnswered (deskAnswers log cs)
     -- .. and, at the end, the whole desk, the used number and every byte of the log"
     pub gathered-state : stateAfter log (gather cs) ≡ stateAfter log cs
-    -- "The desk gives the same answers" as the table with what was typed and entered
+    -- "A key's answer is taken from the table above, with typed for the line, the entries so far for sheet and count, and their records for the used log",
+    -- wherever the key stands
+    pub table : (before after : List Call) (bench byte : ℕ) → cs ≡ before ++ (key bench byte ∷ after)
+        → FromTable (workTable (length log) (workAfter log before) bench byte) (answerAfter log before (key bench byte))
+    -- "The desk gives the same answers" as the work
     pub answers : deskAnswers log cs ≡ workAnswers log cs
     -- each bench's line is what it has typed
     pub lines : stateAfter log cs .desk .lines ≡ map lineOf (workAfter log cs .typed)

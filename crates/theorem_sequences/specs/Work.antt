@@ -4,20 +4,21 @@
 use Prim.Native.Nat.{ℕ, zero, suc, _-_}
 use mathlib.Core.Bool.{Bool, cond}
 use mathlib.Core.List.{List, [], _∷_, _++_}
-use lib.Dec.{ltb, leb, eqb}
+use lib.Dec.{leb, eqb}
 use lib.ListN.{length, getD, take, drop, set, replicate}
-use Rattle.line_items.specs.Typed.{lineMost, isTyped}
+use Rattle.line_items.specs.Typed.{isTyped}
 use Rattle.line_reader.specs.Line.{classOf}
 use Rattle.line_items.specs.Items.{itemCount, isItem}
 use Rattle.line_reader.specs.declared.line.Class.{Class}
 use Rattle.line_reader.specs.declared.line.Class.the-variants as class
-use Rattle.desk_log.specs.Record.{recordLength, recordOf}
+use Rattle.desk_log.specs.Record.{recordOf}
 use Rattle.desk_state.specs.Sheets.{filled, emptyItem}
 use Rattle.desk_state.specs.Desks.{benchCount}
 use Rattle.desk_soundness.specs.SoundLog.{logMost}
 use Rattle.desk_state.specs.declared.sheet.Item.{Item}
 use Rattle.desk_state.specs.declared.sheet.Sheet.{Sheet}
 use Rattle.desk_questions.specs.Who.{Who, nobody}
+use Rattle.theorem_refusals.specs.KeyNumber.{keyNumber}
 use Rattle.theorem_sequences.specs.Calls.{Call, key, ask, report, who, Reply, keyed, reported, told}
 
 -- an accepted entry: its bench, the item that its name has, its value, and the whole line
@@ -61,27 +62,11 @@ sheetOf es = record { items = itemsFrom (lastOf es) 1 itemCount; count = length 
 
 -- ---- a key
 
--- an Enter, by what the line t is, with so many bytes of the log unused
-abbrev pub enterAnswer : Class → List ℕ → ℕ → ℕ
-enterAnswer class.BadForm t free = 5
-enterAnswer class.UnknownName t free = 6
-enterAnswer class.WrongKind t free = 7
-enterAnswer (class.Entry item start) t free = cond (leb (recordLength (drop start t)) free) 0 8
-
--- the table of "Keys and their refusals", "with typed for the line, the entries so far for sheet and count, and their records for the used log".
--- Of what makes a desk sound only the log's length is tested: the rest holds after every sequence (`sound` and `log-sound` of specs/Sequences.antt), and the
--- desk, which tests all of it, gives the same answers. Its arguments: the log's length, the used number, what the bench has typed, bench and byte.
+-- the number of "Keys and their refusals" by tests, for the log's length, the used number, what the bench has typed, bench and byte. Of what makes a desk sound
+-- only the log's length is tested: the rest holds after every sequence (`sound` and `log-sound` of specs/Sequences.antt), and the desk, which tests all of it,
+-- gives the same answers. That it is the table's is `table` there.
 unfoldable pub tableAnswer : ℕ → ℕ → List ℕ → ℕ → ℕ → ℕ
-tableAnswer len used t bench byte =
-    cond (ltb bench benchCount)
-    (cond (leb len logMost)
-    (cond (isTyped byte) (cond (ltb (length t) lineMost) 0 4)
-    (cond (eqb byte 8) 0
-    (cond (eqb byte 24) 0
-    (cond (eqb byte 10) (enterAnswer (classOf t) t (len - used))
-    3))))
-    2)
-    1
+tableAnswer len used t bench byte = keyNumber (leb len logMost) t (length t) (len - used) bench byte
 
 -- "with 0"
 abbrev pub accepts : ℕ → Bool

@@ -5,6 +5,7 @@ use native.Mathlib.Omega.{arith}
 use mathlib.Core.Path.{_≡_}
 use Prim.Native.Nat.{_≤_, _-_}
 use lib.ListN.{length}
+use Rattle.desk_keys.specs.Key.{after}
 use Rattle.theorem_sequences.specs.Calls.{stateOf}
 use Rattle.desk_session.proofs.Pairs.{Ran, ran-none, ran-next, ran-all}
 use Rattle.desk_session.proofs.play.play_pairs.Statement.{statement}
@@ -24,7 +25,7 @@ loop-again c =
     let k = c .before .before .before in
     let b = k .before .before .before in
     let l = b .before .before .before .loop in
-    (omega arith, omega arith, ran-next (k .key .result) (l .inv .2) (omega arith) (b .bench-of .ensures) (k .key .ensures))
+    (omega arith, omega arith, ran-next (after (k .key .result) _) (l .inv .2) (omega arith) (b .bench-of .ensures) (k .key .ensures))
 
 returns : tie.Need-returns Inv-loop μ-loop
 returns c = ran-all _ (c .before .loop .inv .2) (omega arith)
