@@ -13,9 +13,8 @@ use reference::line::ACCEPTED;
 use reference::value;
 use std::cell::Cell;
 
-pub const FAULTS: [(&str, Wrong); 18] = [
+pub const FAULTS: [(&str, Wrong); 17] = [
     ("a fresh desk keeps its lines", Wrong::Fresh(lines_kept)),
-    ("a fresh desk keeps the used number", Wrong::Fresh(used_kept)),
     ("fresh takes longer memory", Wrong::Fresh(longer_taken)),
     ("one shared line", Wrong::Key(shared_line)),
     ("one shared line with a current bench", Wrong::Key(current_bench)),
@@ -41,15 +40,6 @@ fn lines_kept(memory: &mut Memory) -> u8 {
     let lines = held(memory).map(|(desk, _)| desk.lines);
     let answer = Reference.fresh(memory);
     change(memory, |desk| desk.lines = lines.expect("it is a desk"));
-    answer
-}
-
-fn used_kept(memory: &mut Memory) -> u8 {
-    let used = memory.numbers.get(DESK_USED_AT).copied();
-    let answer = Reference.fresh(memory);
-    if answer == ACCEPTED {
-        memory.numbers[DESK_USED_AT] = used.expect("it is a desk");
-    }
     answer
 }
 
@@ -149,7 +139,7 @@ fn refused_empties(memory: &mut Memory, bench: u64, byte: u8) -> u8 {
     answer
 }
 
-/// Where the log has no room, the value of the line stands in item 10's slot.
+/// The line of a refused Enter stands in item 10's slot.
 fn refused_copies(memory: &mut Memory, bench: u64, byte: u8) -> u8 {
     let answer = Reference.key(memory, bench, byte);
     if byte == ENTER && answer > LINE_FULL {

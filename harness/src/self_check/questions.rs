@@ -13,18 +13,16 @@ use reference::names::{item, ITEMS};
 use reference::rows::ROWS;
 use std::cell::Cell;
 
-pub const FAULTS: [(&str, Wrong); 11] = [
+pub const FAULTS: [(&str, Wrong); 9] = [
     ("Report reads an unfinished line", Wrong::Report(unfinished_read)),
     ("Report keeps its first answer", Wrong::Report(first_kept)),
     ("Report looks at the log", Wrong::Report(log_looked_at)),
     ("Report tells an unsound desk's rows", Wrong::Report(unsound_told)),
-    ("Report leaves levels with its refusal", Wrong::Report(level_left)),
     ("Report takes memory one number short", Wrong::Report(short_taken)),
     ("Who answers the first entry", Wrong::Who(first_entry)),
     ("Who answers on an unsound desk", Wrong::Who(unsound_answered)),
     ("Who looks at the item before soundness", Wrong::Who(item_first)),
     ("Who counts items modulo 2^32", Wrong::Who(|m, item| Reference.who(m, item % (1 << 32)))),
-    ("Who answers for an empty item by its bytes", Wrong::Who(empty_by_bytes)),
 ];
 
 /// Wrong orders of calls.
@@ -87,14 +85,6 @@ fn unsound_told(memory: &Memory) -> Reported {
     Reference.report(&in_memory(&sheet(values(&desk))))
 }
 
-fn level_left(memory: &Memory) -> Reported {
-    let mut right = Reference.report(memory);
-    if right.answer == NOT_SOUND {
-        right.rows[ROWS - 1].level = 2;
-    }
-    right
-}
-
 fn short_taken(memory: &Memory) -> Reported {
     let mut longer = memory.clone();
     if memory.numbers.len() == DESK_NUMBERS - 1 {
@@ -134,17 +124,6 @@ fn item_first(memory: &Memory, item: u64) -> Told {
         right
     } else {
         Told { answer: NO_SUCH_ITEM, ..right }
-    }
-}
-
-/// An item is taken for empty where its value begins with a mark.
-fn empty_by_bytes(memory: &Memory, item: u64) -> Told {
-    let right = Reference.who(memory, item);
-    let place = (item as usize).wrapping_sub(1);
-    let first = held(memory).and_then(|(desk, _)| desk.items.get(place).map(|item| item.value[0]));
-    match first {
-        Some(b'?') => Told { entry: 0, bench: NO_BENCH, ..right },
-        _ => right,
     }
 }
 
