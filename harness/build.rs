@@ -1,21 +1,25 @@
-//! Links the proved archives. Their folder is PROVED_LIBS, taken from this package's folder, or else
-//! ../target/staticlib.
+//! Links the proved archives, and makes Rust constants of the numbers in include/desk.h. The archives'
+//! folder is PROVED_LIBS, taken from this package's folder, or else ../target/staticlib.
 
-use std::path::PathBuf;
+use std::env::var_os;
+use std::fs;
+use std::path::{Path, PathBuf};
 
-const LIBRARIES: [&str; 6] = [
-    "export_wall",
-    "test_probe",
-    "test_probe_rows",
-    "test_probe_keys",
-    "test_play",
-    "test_probe_file",
-];
+const LIBRARIES: [&str; 3] = ["export_wall", "export_desk", "test_probe"];
 
 fn main() {
+    let package = PathBuf::from(var_os("CARGO_MANIFEST_DIR").expect("cargo sets it"));
+    link(&package);
+    let header = package.join("../include/desk.h");
+    println!("cargo:rerun-if-changed={}", header.display());
+    let text = fs::read_to_string(&header).expect("the header is there");
+    let made = PathBuf::from(var_os("OUT_DIR").expect("cargo sets it")).join("desk.rs");
+    fs::write(made, constants(&text)).expect("cargo's folder takes it");
+}
+
+fn link(package: &Path) {
     println!("cargo:rerun-if-env-changed=PROVED_LIBS");
-    let package = PathBuf::from(std::env::var_os("CARGO_MANIFEST_DIR").expect("cargo sets it"));
-    let folder = std::env::var_os("PROVED_LIBS").unwrap_or_else(|| "../target/staticlib".into());
+    let folder = var_os("PROVED_LIBS").unwrap_or_else(|| "../target/staticlib".into());
     let folder = package.join(folder);
     println!("cargo:rustc-link-search=native={}", folder.display());
     for library in LIBRARIES {
@@ -28,4 +32,20 @@ fn main() {
             archive.display()
         );
     }
+}
+
+/// A constant for each number that the header defines, and a list of them all.
+fn constants(header: &str) -> String {
+    let numbers: Vec<(&str, usize)> = header.lines().filter_map(defined).collect();
+    let constants = numbers
+        .iter()
+        .map(|(name, number)| format!("pub const {name}: usize = {number};\n"))
+        .collect::<String>();
+    format!("{constants}pub const DEFINED: [(&str, usize); {}] = {numbers:?};\n", numbers.len())
+}
+
+/// The name and the number of `#define NAME NUMBER`, whatever follows.
+fn defined(line: &str) -> Option<(&str, usize)> {
+    let mut words = line.strip_prefix("#define ")?.split_whitespace();
+    Some((words.next()?, words.next()?.parse().ok()?))
 }

@@ -14,7 +14,7 @@ esac
 need "$desk"
 kit=${RATTLE_HOME:-/opt/rattle}
 own=$kit/on/$(uname -m)
-archives=(export_wall test_probe test_probe_rows test_probe_keys test_play test_probe_file)
+archives=(export_wall export_desk test_probe)
 
 # toolchain FOLDER LEVEL: the kit's, but that it keeps each linked program there as 1, 2 and so on, and compiles a static library at this level.
 toolchain() {
@@ -108,84 +108,110 @@ write_caller() {
     cat <<'END'
 use libc::STDIN_FILENO;
 use libc::STDOUT_FILENO;
-use desk_state::desk::Desk;
-use desk_state::sheet::Sheet;
 
 const HEAD: usize = 17;
 
 const LONGEST: usize = 262144;
 
+const TEXTS: usize = 1120;
+
+const NUMBERS: usize = 36;
+
+const CALL: usize = 10;
+
 fn number(head: &[u8], at: usize) -> usize {
     head[at] as usize + 256 * (head[at + 1] as usize) + 65536 * (head[at + 2] as usize)
+}
+
+fn wide(bytes: &[u8], at: usize) -> u64 {
+    let mut n = 0;
+    let mut i = 8;
+    while 0 < i {
+        i -= 1;
+        n = 256 * n + bytes[at + i] as u64;
+    }
+    n
 }
 
 fn read(buffer: &mut [u8], n: usize) {
     io::read_full(STDIN_FILENO, &mut buffer[..n]);
 }
 
-fn write(number: u64, answer: u8, log: &[u8], out: &[u8]) {
-    let mut bytes = [0u8; 9];
-    let mut rest = number;
+fn put(byte: u8) {
+    let one = [byte];
+    io::write_all(STDOUT_FILENO, &one);
+}
+
+fn put_wide(n: u64) {
+    let mut bytes = [0u8; 8];
+    let mut rest = n;
     let mut i = 0;
     while i < 8 {
         bytes[i] = (rest % 256) as u8;
         rest = rest / 256;
         i += 1;
     }
-    bytes[8] = answer;
     io::write_all(STDOUT_FILENO, &bytes);
-    io::write_all(STDOUT_FILENO, log);
-    io::write_all(STDOUT_FILENO, out);
 }
 
-// The desk after an input of pairs, a bench digit and a key each.
-fn desk_after(input: &[u8], log: &mut [u8]) -> Desk {
-    let mut desk = desk_state::desk::fresh_desk();
-    let mut used = 0;
+fn read_numbers(numbers: &mut [usize]) {
+    let mut bytes = [0u8; 8];
     let mut i = 0;
-    while i + 1 < input.len() {
-        let digit = input[i];
-        let mut bench = 255;
-        if 48 <= digit && digit <= 57 {
-            bench = (digit - 48) as u64;
-        }
-        let keyed = desk_keys::key::key(desk, used, log, bench, input[i + 1]);
-        let next = keyed.desk;
-        desk = next;
-        used = keyed.used;
-        i += 2;
+    while i < numbers.len() {
+        io::read_full(STDIN_FILENO, &mut bytes);
+        numbers[i] = wide(&bytes, 0) as usize;
+        i += 1;
     }
-    desk
 }
 
-// The sheet that holds these values.
-fn sheet_of(texts: &[u8], lens: &[u8]) -> Sheet {
-    let fresh = desk_state::desk::fresh_desk();
-    let mut sheet = fresh.sheet;
+fn put_numbers(numbers: &[usize]) {
+    let mut i = 0;
+    while i < numbers.len() {
+        put_wide(numbers[i] as u64);
+        i += 1;
+    }
+}
+
+// One call, and its answer.
+fn call(bytes: &[u8], at: usize, texts: &mut [u8], numbers: &mut [usize], log: &mut [u8]) {
+    let n = wide(bytes, at + 1);
+    if bytes[at] == 0 {
+        let answer = export_desk::desk_key(texts, numbers, log, n, bytes[at + 9]);
+        put(answer);
+    } else if bytes[at] == 1 {
+        let told = export_desk::desk_report(texts, numbers);
+        put(told.answer);
+        let mut i = 0;
+        while i < 12 {
+            put(told.rows.rows[i].level);
+            put(told.rows.rows[i].reason);
+            i += 1;
+        }
+    } else {
+        let told = export_desk::desk_who(texts, numbers, n);
+        put(told.answer);
+        put(told.bench);
+        put_wide(told.entry as u64);
+    }
+}
+
+fn calls(fresh: bool, bytes: &[u8], log: &mut [u8], name: &[u8], out: &mut [u8], texts: &mut [u8], numbers: &mut [usize]) {
+    if fresh {
+        let answer = export_desk::desk_fresh(texts, numbers);
+        put(answer);
+    }
     let mut at = 0;
-    let mut i = 0;
-    while i < lens.len() {
-        let n = lens[i] as usize;
-        let mut j = 0;
-        while j < n {
-            sheet.items[i].value[j] = texts[at + j];
-            j += 1;
-        }
-        sheet.items[i].len = n;
-        at += n;
-        i += 1;
+    while at < bytes.len() {
+        call(bytes, at, texts, numbers, log);
+        at += CALL;
     }
-    sheet
-}
-
-fn put_rows(sheet: Sheet, out: &mut [u8]) {
-    let given = test_probe_rows::probe_rows(sheet);
-    let mut i = 0;
-    while i < 12 {
-        out[2 * i] = given.rows[i].level;
-        out[2 * i + 1] = given.rows[i].reason;
-        i += 1;
-    }
+    let filed = export_desk::desk_file(texts, numbers, name, out);
+    put_wide(filed.count as u64);
+    put(filed.answer);
+    io::write_all(STDOUT_FILENO, out);
+    io::write_all(STDOUT_FILENO, texts);
+    put_numbers(numbers);
+    io::write_all(STDOUT_FILENO, log);
 }
 
 fn answer(head: &[u8], first: &mut [u8], log: &mut [u8], name: &mut [u8], out: &mut [u8]) -> bool {
@@ -193,31 +219,26 @@ fn answer(head: &[u8], first: &mut [u8], log: &mut [u8], name: &mut [u8], out: &
     let b = number(head, 5);
     let c = number(head, 9);
     let room = number(head, 13);
-    if LONGEST < a || LONGEST < b || LONGEST < c || LONGEST < room {
+    if LONGEST < CALL * a || LONGEST < b || LONGEST < c || LONGEST < room {
         return false;
     }
-    read(first, a);
     if head[0] == 2 {
+        read(first, a);
         let graded = export_wall::wall_grade(b as u64, &first[..a]);
-        let class = export_wall::wall_classify(&first[..a]) as u64;
-        write(class, 16 * graded.answer + graded.level, &log[..0], &out[..0]);
+        put(export_wall::wall_classify(&first[..a]));
+        put(graded.answer);
+        put(graded.level);
         return true;
     }
+    let mut texts = [0u8; TEXTS];
+    let mut numbers = [0usize; NUMBERS];
+    io::read_full(STDIN_FILENO, &mut texts);
+    read_numbers(&mut numbers);
+    read(first, CALL * a);
     read(log, b);
     read(name, c);
     read(out, room);
-    if head[0] == 0 {
-        let played = test_play::play_sequence(&first[..a], &mut log[..b], &mut out[..room]);
-        write(played.written, played.answer, &log[..b], &out[..room]);
-    } else if head[0] == 1 {
-        let desk = desk_after(&first[..a], &mut log[..b]);
-        let filed = test_probe_file::probe_file(desk, &name[..c], &mut out[..room]);
-        write(filed.count as u64, filed.answer, &log[..b], &out[..room]);
-    } else {
-        let sheet = sheet_of(&first[..a], &name[..c]);
-        put_rows(sheet, &mut out[..room]);
-        write(0, 0, &log[..b], &out[..room]);
-    }
+    calls(head[0] == 1, &first[..CALL * a], &mut log[..b], &name[..c], &mut out[..room], &mut texts, &mut numbers);
     true
 }
 
@@ -260,11 +281,11 @@ part() {
 
 # The calls of the library: the measured examples four ways, then the fixed lists and generated sequences by the compiled builds.
 library_builds() {
-    local build seed crates at
+    local build seed crates
     local -A number=([1]=400 [2]=2000 [3]=60)
     mkdir -p "$work/caller/src" "$work/examples" "$work/lists"
     write_caller >"$work/caller/src/main.rt"
-    crates="io libc export_wall test_play test_probe_rows test_probe_file $(for at in test_play test_probe_rows test_probe_file; do used_by $at; done)"
+    crates="io libc export_wall export_desk $(used_by export_wall) $(used_by export_desk)"
     "$harness" example-frames "$work/examples" && "$harness" frames "$work/lists" || fail "frames" "not written"
     tried "library, four ways: measured examples" "$work/library" caller "$work/caller/src/main.rt" "$crates" "$work/examples/stdin" "$work/examples/stdout"
     for build in "${builds[@]}"; do

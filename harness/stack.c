@@ -8,9 +8,7 @@
 #include <stdlib.h>
 #include <string.h>
 
-#include "file.h"
-#include "keys.h"
-#include "rows.h"
+#include "desk.h"
 #include "wall.h"
 
 enum { STACK = 1 << 20, PAINT = 0xA5 };
@@ -28,11 +26,16 @@ static const char *const lines[] = {
     "_reflns_threshold_expression 'I > 2\\s(I)'",
 };
 
-static probe_desk desk;
-static uint64_t used;
+static uint8_t texts[DESK_TEXTS];
+static size_t numbers[DESK_NUMBERS];
 static uint8_t log_bytes[4096];
-static uint8_t file_bytes[1000];
+static uint8_t file_bytes[DESK_FILE];
 static volatile unsigned sink;
+
+/* One key of a bench. */
+static uint8_t key(uint64_t bench, char byte) {
+    return desk_key(texts, DESK_TEXTS, numbers, DESK_NUMBERS, log_bytes, sizeof log_bytes, bench, (uint8_t)byte);
+}
 
 static void nothing(void) {}
 
@@ -44,20 +47,32 @@ static void grade(void) {
     sink += wall_grade(6, (const uint8_t *)"0.16", 4).level;
 }
 
+static void fresh(void) {
+    sink += desk_fresh(texts, DESK_TEXTS, numbers, DESK_NUMBERS);
+}
+
 static void append(void) {
-    sink += probe_key(desk, log_bytes, sizeof log_bytes, used, 0, 'x').answer;
+    sink += key(0, 'x');
+}
+
+static void erase(void) {
+    sink += key(0, 8);
 }
 
 static void enter(void) {
-    sink += probe_key(desk, log_bytes, sizeof log_bytes, used, 1, 10).answer;
+    sink += key(1, 10);
 }
 
 static void report(void) {
-    sink += probe_rows(desk.sheet).rows[0].level;
+    sink += desk_report(texts, DESK_TEXTS, numbers, DESK_NUMBERS).rows[0].level;
+}
+
+static void who(void) {
+    sink += desk_who(texts, DESK_TEXTS, numbers, DESK_NUMBERS, 4).bench;
 }
 
 static void file(void) {
-    sink += probe_file(desk, (const uint8_t *)"camp-1", 6, file_bytes, sizeof file_bytes).answer;
+    sink += desk_file(texts, DESK_TEXTS, numbers, DESK_NUMBERS, (const uint8_t *)"camp-1", 6, file_bytes, sizeof file_bytes).answer;
 }
 
 static void *run(void *call) {
@@ -82,26 +97,31 @@ static size_t touched(void (*call)(void)) {
 
 /* Types a line without its Enter, or only the Enter of one; every key is accepted. */
 static void type(uint64_t bench, const char *text) {
-    for (; *text; text++) {
-        probe_key_result result = probe_key(desk, log_bytes, sizeof log_bytes, used, bench, (uint8_t)*text);
-        if (result.answer) abort();
-        desk = result.desk;
-        used = result.used;
-    }
+    for (; *text; text++)
+        if (key(bench, *text)) abort();
+}
+
+/* Prints what a call takes beyond a thread that does nothing. */
+static void print(const char *name, void (*call)(void), size_t base) {
+    printf("%s: %zu bytes\n", name, touched(call) - base);
 }
 
 int main(void) {
     size_t base = touched(nothing);
+    print("wall_classify", classify, base);
+    print("wall_grade", grade, base);
+    print("desk_fresh", fresh, base);
     for (size_t at = 0; at < sizeof lines / sizeof *lines; at++) {
         type(0, lines[at]);
         type(0, "\n");
     }
     type(1, lines[3]);
-    printf("wall_classify: %zu bytes\n", touched(classify) - base);
-    printf("wall_grade: %zu bytes\n", touched(grade) - base);
-    printf("key, a byte appended: %zu bytes (the desk is %zu)\n", touched(append) - base, sizeof(probe_desk));
-    printf("key, Enter accepted: %zu bytes\n", touched(enter) - base);
-    printf("twelve rows: %zu bytes\n", touched(report) - base);
-    printf("file written: %zu bytes\n", touched(file) - base);
+    print("desk_key, a byte appended", append, base);
+    print("desk_key, a byte erased", erase, base);
+    print("desk_key, Enter accepted", enter, base);
+    if (numbers[0] != 0 || numbers[1] != 0 || numbers[DESK_COUNT_AT] != 10) abort();
+    print("desk_report", report, base);
+    print("desk_who", who, base);
+    print("desk_file", file, base);
     return 0;
 }

@@ -18,23 +18,17 @@ headers() {
     local name source='#include "wall.h"
 #include "desk.h"
 #include "probe.h"
-#include "rows.h"
-#include "keys.h"
-#include "play.h"
-#include "file.h"
 #include "wall.h"
 #include "desk.h"
 #include "probe.h"
-#include "rows.h"
-#include "keys.h"
-#include "play.h"
-#include "file.h"
-uint8_t ask(const uint8_t *text, const size_t *numbers, probe_desk desk, uint8_t *log, uint8_t *out);
-uint8_t ask(const uint8_t *text, const size_t *numbers, probe_desk desk, uint8_t *log, uint8_t *out)
+uint8_t ask(uint8_t *texts, size_t *numbers, uint8_t *log);
+uint8_t ask(uint8_t *texts, size_t *numbers, uint8_t *log)
 {
-    return (uint8_t)(wall_classify(text, 0) + probe_item(text, 0) + probe_rows(desk.sheet).rows[11].level +
-                     probe_key(desk, log, 0, 0, 0, 10).answer + play_sequence(text, 0, log, 0, out, 1338).answer +
-                     probe_file(desk, text, 0, out, 0).answer + desk_file(text, 0, numbers, 0, text, 0, out, 0).answer);
+    return (uint8_t)(wall_classify(texts, 0) + probe_item(texts, 0) + desk_fresh(texts, DESK_TEXTS, numbers, DESK_NUMBERS) +
+                     desk_key(texts, DESK_TEXTS, numbers, DESK_NUMBERS, log, 0, 0, 10) +
+                     desk_report(texts, DESK_TEXTS, numbers, DESK_NUMBERS).rows[11].level +
+                     desk_who(texts, DESK_TEXTS, numbers, DESK_NUMBERS, 1).bench +
+                     desk_file(texts, DESK_TEXTS, numbers, DESK_NUMBERS, log, 0, log, 0).answer);
 }'
     echo "$source" >"$work/headers.c"
     cp "$work/headers.c" "$work/headers.cc"
@@ -44,8 +38,8 @@ uint8_t ask(const uint8_t *text, const size_t *numbers, probe_desk desk, uint8_t
     done
     if command -v g++ >/dev/null; then
         compiles "headers as C++" g++ -std=c++17 "${warnings[@]}" -Iinclude -Iharness -c "$work/headers.cc" -o "$work/headers++.o"
-        nm -u "$work/headers++.o" | awk '{ print $2 }' | grep -E '^(wall|probe|play|desk)_' | sort >"$work/symbols"
-        printf '%s\n' desk_file play_sequence probe_file probe_item probe_key probe_rows wall_classify >"$work/want"
+        nm -u "$work/headers++.o" | awk '{ print $2 }' | grep -E '^(wall|probe|desk)_' | sort >"$work/symbols"
+        printf '%s\n' desk_file desk_fresh desk_key desk_report desk_who probe_item wall_classify >"$work/want"
         same "C names from C++" "$work/want" "$work/symbols"
     else
         echo "skipped: headers as C++ (no g++)"
@@ -61,11 +55,19 @@ linking() {
     prints "LINKING: the program prints what is told" "$work/linking.out" /dev/null "$work/linking"
 }
 
+# The sizes and offsets of the boundary's structs and the numbers of desk.h, as the harness has them, are C's.
 layout() {
-    compiles "layout program" gcc -std=c11 "${warnings[@]}" -Iinclude -Iharness harness/layout.c -o "$work/layout"
-    "$work/layout" >"$work/want"
-    "$harness" layout >"$work/out"
-    same "struct sizes and offsets" "$work/want" "$work/out"
+    "$harness" layout >"$work/layout"
+    {
+        printf '#include "%s"\n' wall.h desk.h probe.h
+        awk '/^[A-Z]/ { print "_Static_assert(" $1 " == " $2 ", \"" $1 "\");"; next }
+            { print "_Static_assert(sizeof(" $1 ") == " $2 ", \"" $1 "\");" }
+            { for (at = 3; at < NF; at += 2) print "_Static_assert(offsetof(" $1 ", " $at ") == " $(at + 1) ", \"" $1 "." $at "\");" }' "$work/layout"
+    } >"$work/layout.c"
+    compiles "struct sizes and offsets, numbers of desk.h" gcc -std=c11 "${warnings[@]}" -Iinclude -Iharness -c "$work/layout.c" -o "$work/layout.o"
+    { grep -ho '^#define DESK_[A-Z_]* [0-9]*' include/desk.h; grep -ho '^} [a-z_]*' include/{wall,desk}.h harness/probe.h; } | awk '{ print $2 }' | sort >"$work/want"
+    awk '{ print $1 }' "$work/layout" | sort >"$work/out"
+    same "every struct and number of the headers" "$work/want" "$work/out"
 }
 
 client_arguments() {

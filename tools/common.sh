@@ -14,7 +14,7 @@ ensure_programs() {
 ensure_programs || exit 2
 
 # The proved libraries that C and Rust link.
-archives=(export_wall test_probe test_probe_rows test_probe_keys test_play test_probe_file)
+archives=(export_wall export_desk test_probe)
 
 # stale FILE [SOURCE..]: it is missing, or some file of these sources is newer; without them, of crates/ or crates.txt.
 stale() {

@@ -31,15 +31,13 @@ OTHER_CALL = {
     "eq_ignore_ascii_case": "eq", "is_ascii_digit": "is_ascii_hexdigit", "is_ascii_alphanumeric": "is_ascii_alphabetic",
     "is_some_and": "is_none_or",
 }
-OTHER_PATH = {"is_ascii_digit": "is_ascii_hexdigit", "from_le_bytes": "from_be_bytes"}
+OTHER_PATH = {"is_ascii_digit": "is_ascii_hexdigit"}
 NEGATED_CALLS = {"is_empty", "contains", "is_multiple_of", "is_sorted_by"}
 CHOSEN_BY = {"then", "then_some"}
 KINDS = {"Kind": ["Text", "Number", "Category"], "Class": ["Inorganic", "MetalOrganic", "Organic"]}
 NOT_BEFORE = {"return", "if", "match", "while", "in", "else", "let", "move"}
 WHOLE = {"u8", "u16", "u64", "usize", "i64", "i128"}
 PRINTING = {"format", "write", "writeln"}
-# What only the harness uses, to ask and to read answers; the reference's own tests hold them to examples.
-NOT_ASKED = {"encode_call", "decode_answer", "decode_desk"}
 
 
 class Token:
@@ -207,8 +205,7 @@ class File:
             if self.tokens[at].text == "fn":
                 self.function = self.tokens[at + 1].text
                 body = next(place for place in range(at, len(self.tokens)) if self.tokens[place].text == "{")
-                if self.function not in NOT_ASKED:
-                    self.body(body, self.tokens[body].partner)
+                self.body(body, self.tokens[body].partner)
                 at = self.tokens[body].partner
             at += 1
 

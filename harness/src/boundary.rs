@@ -1,10 +1,38 @@
-//! The structs of the C boundary, and their sizes and offsets.
+//! The C boundary: the numbers of include/desk.h, lent memory, and the structs with their sizes and
+//! offsets.
 
-use reference::desk::BENCHES;
+use reference::desk::{BENCHES, LOG_LIMIT, NO_BENCH};
 use reference::line::LIMIT;
 use reference::names::ITEMS;
 use reference::rows::ROWS;
 use std::mem::{offset_of, size_of};
+
+include!(concat!(env!("OUT_DIR"), "/desk.rs"));
+
+const _: () = assert!(
+    DESK_BENCHES == BENCHES
+        && DESK_ITEMS == ITEMS.len()
+        && DESK_ROWS == ROWS
+        && DESK_LINE == LIMIT
+        && DESK_LOG == LOG_LIMIT
+        && DESK_NO_BENCH == NO_BENCH as usize
+);
+
+/// What is lent to the calls of desk.h, each run in a block of its own. Runs of other lengths than
+/// a desk's are no desk.
+#[derive(Clone, PartialEq, Eq)]
+pub struct Memory {
+    pub texts: Box<[u8]>,
+    pub numbers: Box<[usize]>,
+    pub log: Box<[u8]>,
+}
+
+impl Memory {
+    /// Zeros, which are a fresh desk, and a log.
+    pub fn zeros(log: &[u8]) -> Self {
+        Memory { texts: [0; DESK_TEXTS].into(), numbers: [0; DESK_NUMBERS].into(), log: log.into() }
+    }
+}
 
 /// `wall_graded` of wall.h.
 #[repr(C)]
@@ -31,7 +59,7 @@ pub struct LineResult {
     pub value_start: u64,
 }
 
-/// `probe_row` of rows.h.
+/// `desk_row` of desk.h.
 #[repr(C)]
 #[derive(Clone, Copy, Debug, PartialEq, Eq)]
 pub struct Row {
@@ -39,99 +67,29 @@ pub struct Row {
     pub reason: u8,
 }
 
-/// `probe_rows_result` of rows.h.
+/// `desk_reported` of desk.h.
 #[repr(C)]
 #[derive(Clone, Copy, Debug, PartialEq, Eq)]
-pub struct RowsResult {
+pub struct Reported {
+    pub answer: u8,
     pub rows: [Row; ROWS],
 }
 
-/// `probe_text_line` of keys.h.
+/// `desk_told` of desk.h.
 #[repr(C)]
 #[derive(Clone, Copy, Debug, PartialEq, Eq)]
-pub struct TextLine {
-    pub bytes: [u8; LIMIT],
-    pub len: u64,
-}
-
-/// `probe_item_state` of keys.h.
-#[repr(C)]
-#[derive(Clone, Copy, Debug, PartialEq, Eq)]
-pub struct ItemState {
-    pub value: [u8; LIMIT],
-    pub len: u64,
-    pub entry: u64,
+pub struct Told {
+    pub entry: usize,
+    pub answer: u8,
     pub bench: u8,
 }
 
-/// `probe_sheet` of keys.h.
-#[repr(C)]
-#[derive(Clone, Copy, Debug, PartialEq, Eq)]
-pub struct Sheet {
-    pub items: [ItemState; ITEMS.len()],
-    pub count: u64,
-}
-
-/// `probe_desk` of keys.h.
-#[repr(C)]
-#[derive(Clone, Copy, Debug, PartialEq, Eq)]
-pub struct Desk {
-    pub lines: [TextLine; BENCHES],
-    pub sheet: Sheet,
-}
-
-/// `probe_key_result` of keys.h.
-#[repr(C)]
-#[derive(Clone, Copy, Debug, PartialEq, Eq)]
-pub struct KeyResult {
-    pub desk: Desk,
-    pub used: u64,
-    pub answer: u8,
-}
-
-/// `play_result` of play.h.
-#[repr(C)]
-#[derive(Clone, Copy, Debug, PartialEq, Eq)]
-pub struct PlayResult {
-    pub written: u64,
-    pub answer: u8,
-}
-
-/// `probe_filed` of file.h.
+/// `desk_filed` of desk.h.
 #[repr(C)]
 #[derive(Clone, Copy, Debug, PartialEq, Eq)]
 pub struct Filed {
-    pub count: u64,
+    pub count: usize,
     pub answer: u8,
-}
-
-impl Sheet {
-    /// A sheet that holds these values as typed, each of at most 80 bytes. Its benches and entry
-    /// numbers are zero: the rows do not look at them.
-    pub fn holding<T: AsRef<[u8]>>(values: &[T; ITEMS.len()]) -> Self {
-        let item = |value: &T| item_state(value.as_ref(), 0, 0);
-        Sheet { items: values.each_ref().map(item), count: 0 }
-    }
-
-    /// The values as typed.
-    pub fn values(&self) -> [&[u8]; ITEMS.len()] {
-        self.items.each_ref().map(|item| &item.value[..item.len as usize])
-    }
-}
-
-/// The text with zeros after it.
-pub fn padded(text: &[u8]) -> [u8; LIMIT] {
-    let mut bytes = [0; LIMIT];
-    bytes[..text.len()].copy_from_slice(text);
-    bytes
-}
-
-pub fn text_line(text: &[u8]) -> TextLine {
-    TextLine { bytes: padded(text), len: text.len() as u64 }
-}
-
-pub fn item_state(value: &[u8], bench: u8, entry: u64) -> ItemState {
-    ItemState { value: padded(value), len: value.len() as u64, entry, bench }
 }
 
 /// Prints one struct's C name and size, and each field's name and offset.
@@ -143,19 +101,14 @@ macro_rules! print_layout {
     };
 }
 
-/// Prints the sizes and offsets, in the words of layout.c.
+/// Prints the sizes and offsets, and the header's numbers.
 pub fn print() {
     print_layout!("wall_graded", Graded, answer, level);
     print_layout!("probe_number_result", NumberResult, millionths, found);
     print_layout!("probe_line_result", LineResult, found, name_end, value_start);
-    print_layout!("probe_row", Row, level, reason);
-    print_layout!("probe_rows_result", RowsResult, rows);
-    print_layout!("probe_text_line", TextLine, bytes, len);
-    print_layout!("probe_item_state", ItemState, value, len, entry, bench);
-    print_layout!("probe_sheet", Sheet, items, count);
-    print_layout!("probe_desk", Desk, lines, sheet);
-    print_layout!("probe_key_result", KeyResult, desk, used, answer);
-    print_layout!("play_result", PlayResult, written, answer);
-    print_layout!("probe_filed", Filed, count, answer);
+    print_layout!("desk_row", Row, level, reason);
+    print_layout!("desk_reported", Reported, answer, rows);
+    print_layout!("desk_told", Told, entry, answer, bench);
     print_layout!("desk_filed", Filed, count, answer);
+    DEFINED.iter().for_each(|(name, number)| println!("{name} {number}"));
 }

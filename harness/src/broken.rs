@@ -1,9 +1,8 @@
 //! Ways to break a sound desk, each in one place.
 
-use crate::boundary::{item_state, ItemState, TextLine};
 use crate::desks::{longest_value, Desks, State};
 use crate::random::Random;
-use reference::desk::{BENCHES, LOG_LIMIT, RECORD_HEAD};
+use reference::desk::{Item, Line, BENCHES, LOG_LIMIT, RECORD_HEAD};
 use reference::line::LIMIT;
 use reference::names::ITEMS;
 
@@ -18,10 +17,10 @@ type Break = fn(&mut State, &mut Random);
 
 /// So many ways break the desk itself; those after them only its agreement with the log, which
 /// questions and the writer of files do not look at.
-pub const DESK_WAYS: usize = 32;
+pub const DESK_WAYS: usize = 33;
 
 /// Each way by name.
-pub const WAYS: [(&str, Break); 37] = [
+pub const WAYS: [(&str, Break); 39] = [
     ("line longer than the limit", |state, random| {
         line(state, random).len = random.pick(&BAD_LENGTHS);
     }),
@@ -43,12 +42,15 @@ pub const WAYS: [(&str, Break); 37] = [
         filled_line(state, random).bytes[LIMIT - 1] = 1 + random.byte() % 255;
     }),
     ("item's bench one too high", |state, random| {
-        filled_item(state, random).bench = BENCHES as u8;
+        filled_item(state, random).bench = BENCHES as u64;
     }),
     ("item's bench 255", |state, random| filled_item(state, random).bench = 255),
+    ("item's bench beyond 8 bits", |state, random| {
+        filled_item(state, random).bench += random.pick(&[1 << 8, 1 << 32]);
+    }),
     ("item's entry 0", |state, random| filled_item(state, random).entry = 0),
     ("item's entry one above the count", |state, random| {
-        let count = state.desk.sheet.count;
+        let count = state.desk.count;
         filled_item(state, random).entry = count + 1;
     }),
     ("item's entry largest", |state, random| filled_item(state, random).entry = u64::MAX),
@@ -106,18 +108,20 @@ pub const WAYS: [(&str, Break); 37] = [
     }),
     ("empty item's length", |state, random| empty_item(state, random).len = 1),
     ("count below an entry", |state, random| {
-        let entry = state.desk.sheet.count;
+        let entry = state.desk.count;
         filled_item(state, random).entry = entry;
-        state.desk.sheet.count -= 1;
+        state.desk.count -= 1;
     }),
     ("count above a sixth of used", |state, random| {
         let count = state.used / RECORD_HEAD as u64 + 1;
-        state.desk.sheet.count =
-            random.pick(&[count, count, u64::MAX, u64::MAX.div_ceil(RECORD_HEAD as u64), 1 << 63]);
+        state.desk.count = random.pick(&[count, u64::MAX]);
+    }),
+    ("six times the count beyond 64 bits", |state, random| {
+        state.desk.count = random.pick(&[u64::MAX.div_ceil(RECORD_HEAD as u64), 1 << 63]);
     }),
     ("used none of some entries", |state, _| state.used = 0),
     ("used one below six times the count", |state, _| {
-        state.used = RECORD_HEAD as u64 * state.desk.sheet.count - 1;
+        state.used = RECORD_HEAD as u64 * state.desk.count - 1;
     }),
     ("used above the log's length", |state, random| {
         let length = state.log.len() as u64;
@@ -146,34 +150,34 @@ pub fn each_broken(seed: u64, count: u64, mut given: impl FnMut(u64, usize, Stat
 fn breakable(desks: &mut Desks) -> State {
     loop {
         let state = desks.sound();
-        let mut items = state.desk.sheet.items.iter();
+        let mut items = state.desk.items.iter();
         if state.desk.lines.iter().any(is_partly_filled)
             && items.any(|item| item.len > 0)
-            && state.desk.sheet.items.iter().any(|item| item.len == 0)
+            && state.desk.items.iter().any(|item| item.len == 0)
         {
             return state;
         }
     }
 }
 
-fn is_partly_filled(line: &TextLine) -> bool {
+fn is_partly_filled(line: &Line) -> bool {
     (1..LIMIT as u64).contains(&line.len)
 }
 
-fn line<'a>(state: &'a mut State, random: &mut Random) -> &'a mut TextLine {
+fn line<'a>(state: &'a mut State, random: &mut Random) -> &'a mut Line {
     &mut state.desk.lines[random.below(BENCHES)]
 }
 
-fn filled_line<'a>(state: &'a mut State, random: &mut Random) -> &'a mut TextLine {
+fn filled_line<'a>(state: &'a mut State, random: &mut Random) -> &'a mut Line {
     some(&mut state.desk.lines, random, is_partly_filled)
 }
 
-fn filled_item<'a>(state: &'a mut State, random: &mut Random) -> &'a mut ItemState {
-    some(&mut state.desk.sheet.items, random, |item| item.len > 0)
+fn filled_item<'a>(state: &'a mut State, random: &mut Random) -> &'a mut Item {
+    some(&mut state.desk.items, random, |item| item.len > 0)
 }
 
-fn empty_item<'a>(state: &'a mut State, random: &mut Random) -> &'a mut ItemState {
-    some(&mut state.desk.sheet.items, random, |item| item.len == 0)
+fn empty_item<'a>(state: &'a mut State, random: &mut Random) -> &'a mut Item {
+    some(&mut state.desk.items, random, |item| item.len == 0)
 }
 
 /// One of those that are so; there is one.
@@ -185,6 +189,6 @@ fn some<'a, T>(from: &'a mut [T], random: &mut Random, is_so: fn(&T) -> bool) ->
 
 /// Fills an item with a value that may be wrong for it.
 fn set(state: &mut State, random: &mut Random, item: usize, value: &[u8]) {
-    let bench = random.below(BENCHES) as u8;
-    state.desk.sheet.items[item - 1] = item_state(value, bench, state.desk.sheet.count);
+    let bench = random.below(BENCHES) as u64;
+    state.desk.items[item - 1] = Item::holding(value, state.desk.count, bench);
 }

@@ -1,12 +1,11 @@
 //! The questions answered by the reference program. `mutants/` compiles this file a second time, with
 //! a changed copy of the reference in its place.
 
-use crate::boundary::{
-    Desk, Filed, Graded, ItemState, KeyResult, LineResult, NumberResult, PlayResult, Row,
-    RowsResult, Sheet, TextLine,
-};
-use crate::program::Program;
-use reference::{cif_file, desk, encoded, grade, line, names, number, rows, sequence, value};
+use crate::boundary::{Filed, Graded, LineResult, Memory, NumberResult, Reported, Row, Told};
+use crate::memory::{held, put};
+use crate::program::{Call, Program};
+use reference::desk::{self, BENCHES, FRESH, NOT_SOUND, NO_BENCH, NO_SUCH_BENCH};
+use reference::{cif_file, grade, line, names, number, rows, sequence, value};
 
 /// The reference program.
 pub struct Reference;
@@ -47,62 +46,50 @@ impl Program for Reference {
         names::item(name).unwrap_or(0) as u64
     }
 
-    fn rows(&self, sheet: &Sheet) -> RowsResult {
-        told(&rows::rows(&sheet.values()))
+    fn fresh(&self, memory: &mut Memory) -> u8 {
+        if held(memory).is_none() {
+            return NOT_SOUND;
+        }
+        put(memory, &FRESH, 0);
+        line::ACCEPTED
     }
 
-    fn key(&self, desk: &Desk, log: &mut [u8], mut used: u64, bench: u64, byte: u8) -> KeyResult {
-        let mut desk = held(desk);
-        let answer = desk::key(&mut desk, log, &mut used, bench, byte);
-        KeyResult { desk: lent(&desk), used, answer }
+    fn key(&self, memory: &mut Memory, bench: u64, byte: u8) -> u8 {
+        let Some((mut desk, mut used)) = held(memory) else {
+            return if bench < BENCHES as u64 { NOT_SOUND } else { NO_SUCH_BENCH };
+        };
+        let answer = desk::key(&mut desk, &mut memory.log, &mut used, bench, byte);
+        put(memory, &desk, used);
+        answer
     }
 
-    fn play(&self, calls: &[u8], log: &mut [u8], out: &mut [u8]) -> PlayResult {
-        let (written, answer) = encoded::play_sequence(calls, log, out);
-        PlayResult { written, answer }
+    fn report(&self, memory: &Memory) -> Reported {
+        let none = (NOT_SOUND, [rows::Row::default(); rows::ROWS]);
+        let (answer, rows) = held(memory).map_or(none, |(desk, _)| desk::report(&desk));
+        Reported { answer, rows: rows.map(|row| Row { level: row.level, reason: row.reason }) }
     }
 
-    fn file(&self, desk: &Desk, block: &[u8], out: &mut [u8]) -> Filed {
-        let (answer, count) = cif_file::write_file(&held(desk), block, out);
-        Filed { count, answer }
+    fn who(&self, memory: &Memory, item: u64) -> Told {
+        let none = (NOT_SOUND, NO_BENCH, 0);
+        let (answer, bench, entry) = held(memory).map_or(none, |(desk, _)| desk::who(&desk, item));
+        Told { entry: entry as usize, answer, bench }
+    }
+
+    fn file(&self, memory: &Memory, block: &[u8], out: &mut [u8]) -> Filed {
+        let (answer, count) = match held(memory) {
+            Some((desk, _)) => cif_file::write_file(&desk, block, out),
+            None => (NOT_SOUND, 0),
+        };
+        Filed { count: count as usize, answer }
     }
 }
 
-/// The places of encoded calls in gathered order.
-pub fn gathered(calls: &[u8]) -> Vec<usize> {
-    sequence::gathered(&encoded::decode(calls))
-}
-
-/// The reference's rows in the boundary's form.
-pub fn told(rows: &[rows::Row; rows::ROWS]) -> RowsResult {
-    RowsResult { rows: rows.map(|row| Row { level: row.level, reason: row.reason }) }
-}
-
-/// The reference's desk in the boundary's form.
-pub fn lent(desk: &desk::Desk) -> Desk {
-    let line = |line: desk::Line| TextLine { bytes: line.bytes, len: line.len };
-    let item = |item: desk::Item| ItemState {
-        value: item.value,
-        len: item.len,
-        entry: item.entry,
-        bench: item.bench,
+/// The places of calls in gathered order.
+pub fn gathered(calls: &[Call]) -> Vec<usize> {
+    let own = |call: &Call| match *call {
+        Call::Key { bench, byte } => sequence::Call::Key { bench, byte },
+        Call::Report => sequence::Call::Report,
+        Call::Who { item } => sequence::Call::Who { item },
     };
-    let sheet = Sheet { items: desk.items.map(item), count: desk.count };
-    Desk { lines: desk.lines.map(line), sheet }
-}
-
-/// A desk of the boundary in the reference's form.
-pub fn held(desk: &Desk) -> desk::Desk {
-    let line = |line: TextLine| desk::Line { bytes: line.bytes, len: line.len };
-    let item = |item: ItemState| desk::Item {
-        value: item.value,
-        len: item.len,
-        bench: item.bench,
-        entry: item.entry,
-    };
-    desk::Desk {
-        lines: desk.lines.map(line),
-        items: desk.sheet.items.map(item),
-        count: desk.sheet.count,
-    }
+    sequence::gathered(&calls.iter().map(own).collect::<Vec<_>>())
 }

@@ -1,8 +1,9 @@
 //! Sheets typed at the benches and written as files, each beside a list of what was typed, for
 //! programs that read CIF.
 
+use crate::boundary::DESK_FILE;
 use crate::desks::State;
-use crate::files::{length, text_values, Files};
+use crate::files::{text_values, Files};
 use crate::program::Program;
 use crate::random::Random;
 use crate::sheets::Sheets;
@@ -71,11 +72,11 @@ impl Typist {
         folder: &Path,
         name: &str,
     ) -> Result<(), String> {
-        let mut state = State::fresh(LOG, 0);
+        let mut memory = State::fresh(LOG, 0).memory();
         for entry in entries {
             let (line, bench) = (self.line(entry), self.random.below(BENCHES) as u64);
             for byte in line.iter().chain([&ENTER]) {
-                let answer = state.key(program, bench, *byte).answer;
+                let answer = program.key(&mut memory, bench, *byte);
                 if answer != ACCEPTED {
                     let line = String::from_utf8_lossy(&line);
                     return Err(format!("{name}: {line}: byte {byte} gets {answer}"));
@@ -84,11 +85,12 @@ impl Typist {
         }
         let letters = 1 + self.random.below(*BLOCK_LENGTHS.end());
         let block = self.files.name_of(letters);
-        let mut file = vec![0; length(&state.desk, &block)];
-        let filed = program.file(&state.desk, &block, &mut file);
-        if (filed.answer, filed.count) != (ACCEPTED, file.len() as u64) {
+        let mut file = vec![0; DESK_FILE];
+        let filed = program.file(&memory, &block, &mut file);
+        if filed.answer != ACCEPTED {
             return Err(format!("{name}: {filed:?}"));
         }
+        file.truncate(filed.count);
         for (end, content) in [("cif", file), ("typed", list(&block, entries))] {
             let path = folder.join(format!("{name}.{end}"));
             fs::write(&path, content).map_err(|fault| format!("{}: {fault}", path.display()))?;

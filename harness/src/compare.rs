@@ -1,15 +1,17 @@
 //! The comparison: the same inputs to two programs, and every answer held equal.
 
-mod file;
+mod calls;
+mod files;
 mod keys;
-mod play;
+mod memories;
+mod sequences;
 mod sheets;
 
 use crate::boundary::{Graded, NumberResult};
 use crate::by_reference::gathered;
 use crate::inputs::{Inputs, ROWS};
 use crate::lists;
-use crate::program::Program;
+use crate::program::{Call, Program};
 use crate::tally::{Question, Tally};
 use std::fmt::Debug;
 use std::panic::{catch_unwind, resume_unwind, AssertUnwindSafe};
@@ -77,8 +79,8 @@ impl Group {
     }
 }
 
-/// The places of encoded calls in gathered order.
-pub type Gather = fn(&[u8]) -> Vec<usize>;
+/// The places of calls in gathered order.
+pub type Gather = fn(&[Call]) -> Vec<usize>;
 
 pub struct Comparison<'a> {
     tested: &'a dyn Program,
@@ -171,6 +173,7 @@ impl<'a> Comparison<'a> {
         self.some_texts(plan);
         self.some_sheets(plan);
         self.some_keys(plan);
+        self.some_memories(plan);
         self.some_sequences(plan);
         self.some_files(plan);
         if plan.lists {

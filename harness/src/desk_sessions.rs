@@ -1,8 +1,10 @@
 //! Sessions of the programs `desk` and `camp cif` by readable scripts, and what each must print.
 
-use crate::by_reference::told;
+use crate::by_reference::Reference;
+use crate::desks::State;
+use crate::program::Program;
 use crate::tally::Tally;
-use reference::desk::{key, report, FRESH, LOG_FULL, NOT_SOUND, RECORD_HEAD};
+use reference::desk::{LOG_FULL, NOT_SOUND, RECORD_HEAD};
 use reference::line::LIMIT;
 use reference::names::ITEMS;
 use reference::program::{cif_program, keys, program, LOG};
@@ -354,11 +356,11 @@ pub fn write(folder: &Path) -> Result<(), String> {
 fn left_out(scripts: &[Script]) -> Vec<String> {
     let (mut tally, mut seen) = (Tally::default(), [false; LOG_FULL as usize + 1]);
     for (_, input) in scripts {
-        let (mut desk, mut log, mut used) = (FRESH, [0; LOG], 0);
+        let mut state = State::fresh(LOG, 0);
         for (bench, byte) in keys(input) {
-            seen[usize::from(key(&mut desk, &mut log, &mut used, bench, byte))] = true;
+            seen[usize::from(state.key(bench, byte))] = true;
         }
-        tally.note_rows(&told(&report(&desk).1));
+        tally.note_rows(&Reference.report(&state.memory()).rows);
     }
     let answers =
         (0..=LOG_FULL).filter(|&answer| answer != NOT_SOUND && !seen[usize::from(answer)]);

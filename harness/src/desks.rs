@@ -1,17 +1,16 @@
 //! Desks with their logs: fresh, and generated sound ones.
 
-use crate::boundary::{item_state, text_line, Desk, ItemState, KeyResult, TextLine};
-use crate::by_reference::lent;
+use crate::boundary::Memory;
 use crate::inputs::Inputs;
-use crate::program::Program;
+use crate::memory::put;
 use crate::random::Random;
 use crate::sheets::Sheets;
-use reference::desk::{BENCHES, FRESH, LOG_LIMIT, RECORD_HEAD};
+use reference::desk::{key, Desk, Item, Line, BENCHES, FRESH, LOG_LIMIT, RECORD_HEAD};
 use reference::line::{split, BYTES, LIMIT};
 use reference::names::ITEMS;
 
-/// A desk, its log and the used number, as one program holds them.
-#[derive(Clone, PartialEq, Eq)]
+/// A desk, its log and the used number, as the reference holds them.
+#[derive(Clone)]
 pub struct State {
     pub desk: Desk,
     pub log: Vec<u8>,
@@ -22,15 +21,46 @@ impl State {
     /// A fresh desk and a log whose byte i is (seed + 7 * i) mod 256, none used.
     pub fn fresh(length: usize, seed: u64) -> Self {
         let byte = |at: u64| seed.wrapping_add(at.wrapping_mul(7)) as u8;
-        State { desk: lent(&FRESH), log: (0..length as u64).map(byte).collect(), used: 0 }
+        State { desk: FRESH, log: (0..length as u64).map(byte).collect(), used: 0 }
     }
 
-    /// A key call by one program; its result is the new state.
-    pub fn key(&mut self, program: &dyn Program, bench: u64, byte: u8) -> KeyResult {
-        let result = program.key(&self.desk, &mut self.log, self.used, bench, byte);
-        (self.desk, self.used) = (result.desk, result.used);
-        result
+    /// The same in memory.
+    pub fn memory(&self) -> Memory {
+        let mut memory = Memory::zeros(&self.log);
+        put(&mut memory, &self.desk, self.used);
+        memory
     }
+
+    pub fn key(&mut self, bench: u64, byte: u8) -> u8 {
+        key(&mut self.desk, &mut self.log, &mut self.used, bench, byte)
+    }
+
+    /// The lengths of the benches' lines.
+    pub fn lengths(&self) -> [usize; BENCHES] {
+        self.desk.lines.map(|line| line.len as usize)
+    }
+}
+
+/// A desk that holds these values, each of at most 80 bytes, entered in turn by all benches.
+pub fn holding<T: AsRef<[u8]>>(values: impl IntoIterator<Item = (usize, T)>) -> Desk {
+    let mut desk = FRESH;
+    for (entry, (item, value)) in (1..).zip(values) {
+        desk.items[item - 1] = Item::holding(value.as_ref(), entry, entry % BENCHES as u64);
+        desk.count = entry;
+    }
+    desk
+}
+
+/// The same for the values of items 1 to 10, of which some are empty.
+pub fn sheet<T: AsRef<[u8]>>(values: [T; ITEMS.len()]) -> Desk {
+    holding((1..).zip(values).filter(|(_, value)| !value.as_ref().is_empty()))
+}
+
+/// A desk in memory, without a log.
+pub fn in_memory(desk: &Desk) -> Memory {
+    let mut memory = Memory::zeros(&[]);
+    put(&mut memory, desk, 0);
+    memory
 }
 
 /// The longest value that an item takes: with its name and one space a line at the limit.
@@ -78,24 +108,24 @@ impl Desks {
     /// A sound desk, not always one that keys can reach, and a sound log. The room left is often
     /// just what the record of one bench's line takes, or a byte less.
     pub fn sound(&mut self) -> State {
-        let mut desk = lent(&FRESH);
-        desk.sheet.count = self.random.pick(&[0, 1, 1, 2, 3, 10, 10, 40, 600]);
+        let mut desk = FRESH;
+        desk.count = self.random.pick(&[0, 1, 1, 2, 3, 10, 10, 40, 600]);
         let filled = self.random.pick(&[0, 1, 2, 2]);
         for (place, value) in self.sheets.values().into_iter().enumerate() {
             let short = (1..=longest_value(place + 1)).contains(&value.len());
-            if short && desk.sheet.count > 0 && self.random.below(3) <= filled {
-                let bench = self.random.below(BENCHES) as u8;
-                let entry = 1 + self.random.next() % desk.sheet.count;
-                desk.sheet.items[place] = item_state(&value, bench, entry);
+            if short && desk.count > 0 && self.random.below(3) <= filled {
+                let bench = self.random.below(BENCHES) as u64;
+                let entry = 1 + self.random.next() % desk.count;
+                desk.items[place] = Item::holding(&value, entry, bench);
             }
         }
         let lines: [Vec<u8>; BENCHES] = std::array::from_fn(|_| match self.random.below(4) {
             0 => vec![],
             _ => self.typed_line(),
         });
-        desk.lines = std::array::from_fn(|bench| text_line(&lines[bench]));
+        desk.lines = std::array::from_fn(|bench| Line::holding(&lines[bench]));
         let extra = self.random.pick(&[0, 0, 1, 7, 90]);
-        let used = RECORD_HEAD * desk.sheet.count as usize + extra;
+        let used = RECORD_HEAD * desk.count as usize + extra;
         let line = &lines[self.random.below(BENCHES)];
         let record = RECORD_HEAD + split(line).map_or(0, |(_, value)| value.len());
         let room = self.random.pick(&[record - 1, record, record, record + 1, 100, 100, 1000]);
@@ -106,15 +136,15 @@ impl Desks {
 
     /// A desk and a log of random bytes, with random numbers, many of them small.
     pub fn random(&mut self) -> State {
-        let mut desk = lent(&FRESH);
+        let mut desk = FRESH;
         for line in &mut desk.lines {
-            *line = TextLine { bytes: self.bytes(), len: self.number() };
+            *line = Line { bytes: self.bytes(), len: self.number() };
         }
-        for item in &mut desk.sheet.items {
+        for item in &mut desk.items {
             let (value, len, entry) = (self.bytes(), self.number(), self.number());
-            *item = ItemState { value, len, entry, bench: self.random.byte() };
+            *item = Item { value, len, entry, bench: self.number() };
         }
-        desk.sheet.count = self.number();
+        desk.count = self.number();
         let log = (0..self.random.below(300)).map(|_| self.random.byte()).collect();
         State { desk, log, used: self.number() }
     }

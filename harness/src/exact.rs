@@ -1,9 +1,7 @@
 //! A program that is lent each run of bytes in a block of the heap of exactly its length, so that a
-//! tool that watches the memory sees every access beyond it.
+//! tool that watches the memory sees every access beyond it. Lent memory is always so.
 
-use crate::boundary::{
-    Desk, Filed, Graded, KeyResult, LineResult, NumberResult, PlayResult, RowsResult, Sheet,
-};
+use crate::boundary::{Filed, Graded, LineResult, Memory, NumberResult, Reported, Told};
 use crate::program::Program;
 
 pub struct Exact<P>(pub P);
@@ -11,14 +9,6 @@ pub struct Exact<P>(pub P);
 /// A block of its own.
 fn block(bytes: &[u8]) -> Box<[u8]> {
     bytes.into()
-}
-
-/// What is asked with a block of its own, which then replaces the bytes.
-fn lent<T>(bytes: &mut [u8], asked: impl FnOnce(&mut [u8]) -> T) -> T {
-    let mut block = block(bytes);
-    let answer = asked(&mut block);
-    bytes.copy_from_slice(&block);
-    answer
 }
 
 impl<P: Program> Program for Exact<P> {
@@ -46,21 +36,26 @@ impl<P: Program> Program for Exact<P> {
         self.0.item(&block(name))
     }
 
-    fn rows(&self, sheet: &Sheet) -> RowsResult {
-        self.0.rows(sheet)
+    fn fresh(&self, memory: &mut Memory) -> u8 {
+        self.0.fresh(memory)
     }
 
-    fn key(&self, desk: &Desk, log: &mut [u8], used: u64, bench: u64, byte: u8) -> KeyResult {
-        lent(log, |log| self.0.key(desk, log, used, bench, byte))
+    fn key(&self, memory: &mut Memory, bench: u64, byte: u8) -> u8 {
+        self.0.key(memory, bench, byte)
     }
 
-    fn file(&self, desk: &Desk, name: &[u8], out: &mut [u8]) -> Filed {
-        let name = block(name);
-        lent(out, |out| self.0.file(desk, &name, out))
+    fn report(&self, memory: &Memory) -> Reported {
+        self.0.report(memory)
     }
 
-    fn play(&self, calls: &[u8], log: &mut [u8], out: &mut [u8]) -> PlayResult {
-        let calls = block(calls);
-        lent(log, |log| lent(out, |out| self.0.play(&calls, log, out)))
+    fn who(&self, memory: &Memory, item: u64) -> Told {
+        self.0.who(memory, item)
+    }
+
+    fn file(&self, memory: &Memory, name: &[u8], out: &mut [u8]) -> Filed {
+        let (name, mut lent) = (block(name), block(out));
+        let filed = self.0.file(memory, &name, &mut lent);
+        out.copy_from_slice(&lent);
+        filed
     }
 }

@@ -1,19 +1,16 @@
 //! Sheets to be written as files, block names, and rooms for them.
 
-use crate::boundary::{item_state, Desk};
-use crate::by_reference::{held, lent};
-use crate::desks::{longest_value, Desks};
+use crate::boundary::DESK_FILE;
+use crate::desks::{holding, longest_value, Desks};
 use crate::inputs::WORDS;
 use crate::lists::numbers_at_limits;
 use crate::random::Random;
 use crate::sheets::fits;
 use reference::cif_file::{file, BLOCK_LENGTHS};
-use reference::desk::{is_sound, BENCHES, FRESH};
+use reference::desk::{is_sound, Desk, Item, BENCHES};
 use reference::line::BYTES;
 use reference::names::{Kind, CATEGORIES, ITEMS};
 
-/// Longer than every file: its first line and ten lines of the limit, each with its end.
-pub const LONG_ROOM: usize = 1000;
 /// The letters, digits and `-` of a block name.
 const BLOCK_BYTES: &[u8] = b"abcdefghijklmnopqrstuvwxyzABCDEFGHIJKLMNOPQRSTUVWXYZ0123456789-";
 /// Lengths of names in which each byte stands at each place.
@@ -30,22 +27,11 @@ const AWKWARD: [&str; 44] = [
 
 /// How long the file of a sound desk would be with this name; of an unsound one there is none.
 pub fn length(desk: &Desk, block: &[u8]) -> usize {
-    let desk = held(desk);
-    if is_sound(&desk) {
-        file(&desk, block).len()
+    if is_sound(desk) {
+        file(desk, block).len()
     } else {
-        LONG_ROOM
+        DESK_FILE
     }
-}
-
-/// A desk that holds these values, entered in turn by all benches.
-pub fn holding(values: &[(usize, &[u8])]) -> Desk {
-    let mut desk = lent(&FRESH);
-    for (entry, (item, value)) in (1..).zip(values) {
-        desk.sheet.items[item - 1] = item_state(value, (entry % BENCHES as u64) as u8, entry);
-        desk.sheet.count = entry;
-    }
-    desk
 }
 
 /// Generated desks, names and rooms.
@@ -63,9 +49,9 @@ impl Files {
     pub fn desk(&mut self) -> Desk {
         let mut desk = self.desks.sound().desk;
         for item in [1, ITEMS.len()] {
-            if desk.sheet.count > 0 && self.random.once_in(2) {
-                let (value, bench) = (self.text(item), self.random.below(BENCHES) as u8);
-                desk.sheet.items[item - 1] = item_state(&value, bench, desk.sheet.count);
+            if desk.count > 0 && self.random.once_in(2) {
+                let (value, bench) = (self.text(item), self.random.below(BENCHES) as u64);
+                desk.items[item - 1] = Item::holding(&value, desk.count, bench);
             }
         }
         desk
@@ -160,11 +146,8 @@ pub fn subsets() -> impl Iterator<Item = Desk> {
     let sets = [short_values(), longest_values(b'\''), longest_values(b'"'), unassigned_values()];
     sets.into_iter().flat_map(|values| {
         (0..1_usize << ITEMS.len()).map(move |subset| {
-            let filled: Vec<(usize, &[u8])> = (1..=ITEMS.len())
-                .filter(|item| subset >> (item - 1) & 1 == 1)
-                .map(|item| (item, &values[item - 1][..]))
-                .collect();
-            holding(&filled)
+            let filled = (1..=ITEMS.len()).filter(|item| subset >> (item - 1) & 1 == 1);
+            holding(filled.map(|item| (item, &values[item - 1])))
         })
     })
 }
@@ -202,9 +185,8 @@ pub fn single_values() -> Vec<Desk> {
             Kind::Category => CATEGORIES.iter().flat_map(|name| quotes(name.as_bytes())).collect(),
         };
         let values = values.into_iter().chain([b"?".into(), b".".into()]);
-        desks.extend(
-            values.filter(|value| fits(item, value)).map(|value| holding(&[(item, &value)])),
-        );
+        desks
+            .extend(values.filter(|value| fits(item, value)).map(|value| holding([(item, value)])));
     }
     desks
 }

@@ -1,46 +1,42 @@
 //! Calls of the library as bytes, for a program that reads them, and what it must answer.
 //!
-//! A frame has its kind, one byte, and four numbers of 4 bytes, little-endian; then the bytes that it
-//! lends. The answer is a number of 8 bytes and one of 1 byte; then the bytes lent for writing.
+//! A frame has its kind, one byte, and four numbers of 4 bytes; then the bytes that it lends. All
+//! numbers are little-endian.
 //!
-//! | kind | numbers | lent | answered |
-//! |---|---|---|---|
-//! | 0 | lengths of calls, log, nothing, room | the same | written and answer of `play_sequence`; log, room |
-//! | 1 | lengths of input, log, block name, room | the same | count and answer of `probe_file` on the desk after the input; log, room |
-//! | 2 | length of a text, a row, 0, 0 | the text | number of the line; answer and level as one number, 16 for each answer |
-//! | 3 | length of ten values, 0, 10, 24 | the values, their lengths, the room | two zeros; level and reason of each of `probe_rows` |
+//! Kind 0 is calls on a desk: how many calls, and the lengths of the log, of a block name and of the
+//! room for a file; then texts, numbers (8 bytes each), calls, log, name and room. A call has its
+//! kind (0 key, 1 Report, 2 Who), its bench or item (8 bytes) and its byte. Answered are for each call
+//! its answer's number, with a Report level and reason of each row, with a Who bench and entry
+//! (8 bytes); then count (8 bytes) and answer of the file; then room, texts, numbers and log. Kind 1 is
+//! the same on memory that is first made a fresh desk, of which the answer comes first.
+//!
+//! Kind 2 is the wall screen: the length of a text, a row, 0, 0; then the text. Answered are the
+//! number of the line, and answer and level of the grade.
 
-use crate::boundary::Sheet;
-use crate::by_reference::{lent, Reference};
+use crate::boundary::Memory;
+use crate::by_reference::Reference;
 use crate::desk_sessions;
-use crate::files::Files;
+use crate::desks::{in_memory, Desks};
+use crate::files::{length, Files};
 use crate::inputs::{Inputs, ROWS};
-use crate::program::Program;
+use crate::program::{Answer, Call, Program};
 use crate::random::Random;
 use crate::sequences::{
     desk_sessions, few_calls, log_lengths, measured_examples, Sequence, Sequences,
 };
 use crate::sheet_lists;
 use crate::sheets::Sheets;
-use reference::cif_file::file;
-use reference::desk::{key, FRESH};
-use reference::encoded::{encode_call, length};
 use reference::program::{keys, LOG};
-use reference::rows::ROWS as ROW_COUNT;
-use reference::sequence::Call;
 use std::fs;
 use std::path::Path;
 
-const PLAY: u8 = 0;
-const FILE: u8 = 1;
+const CALLS: u8 = 0;
+const FRESH_CALLS: u8 = 1;
 const WALL: u8 = 2;
-const ROWS_OF: u8 = 3;
-/// What stands in a room before the call.
+/// What stands in memory before it is made a fresh desk, and in a room before the call.
 const FILL: u8 = 0xa5;
-/// One in so many generated sequences comes with a file and damaged ones, and each with so many
-/// lines, values and sheets.
-const ONE_IN: u64 = 20;
-const VALUES: u64 = 4;
+/// Each generated sequence comes with so many lines, values and sheets, and desks of any kind.
+const OTHERS: u64 = 4;
 /// A row that judges no single value.
 const NO_ROW: u64 = 7;
 
@@ -52,61 +48,50 @@ struct Frames {
 }
 
 impl Frames {
-    fn frame(&mut self, kind: u8, numbers: [usize; 4], lent: &[&[u8]]) {
+    fn head(&mut self, kind: u8, numbers: [usize; 4]) {
         self.stdin.push(kind);
-        for number in numbers {
-            self.stdin.extend((number as u32).to_le_bytes());
+        self.stdin.extend(numbers.iter().flat_map(|&number| (number as u32).to_le_bytes()));
+    }
+
+    /// Calls on a fresh desk, and its file in an exact room.
+    fn sequence(&mut self, Sequence { calls, log }: &Sequence) {
+        let mut memory = Memory::zeros(log);
+        memory.texts.fill(FILL);
+        memory.numbers.fill(FILL.into());
+        self.calls(FRESH_CALLS, memory, calls, b"camp-1", LOG);
+    }
+
+    /// Calls on a desk that is there, and its file.
+    fn calls(&mut self, kind: u8, mut memory: Memory, calls: &[Call], block: &[u8], room: usize) {
+        let mut out = vec![FILL; room];
+        self.head(kind, [calls.len(), memory.log.len(), block.len(), room]);
+        let calls_bytes: Vec<u8> = calls.iter().flat_map(encoded).collect();
+        self.stdin.extend([desk_bytes(&memory), calls_bytes].concat());
+        self.stdin.extend([&memory.log, block, &out].concat());
+        if kind == FRESH_CALLS {
+            self.stdout.push(Reference.fresh(&mut memory));
         }
-        self.stdin.extend(lent.concat());
-    }
-
-    fn answer(&mut self, number: u64, answer: u8, written: &[&[u8]]) {
-        self.stdout.extend(number.to_le_bytes());
-        self.stdout.push(answer);
-        self.stdout.extend(written.concat());
-    }
-
-    fn sequence(&mut self, sequence: &Sequence) {
-        let Sequence { calls, log, beyond } = sequence;
-        self.play(&calls.concat(), log, length(calls.len()) + beyond);
-    }
-
-    fn play(&mut self, calls: &[u8], log: &[u8], room: usize) {
-        let (mut log, mut out) = (log.to_vec(), vec![FILL; room]);
-        self.frame(PLAY, [calls.len(), log.len(), 0, room], &[calls, &log, &out]);
-        let result = Reference.play(calls, &mut log, &mut out);
-        self.answer(result.written, result.answer, &[&log, &out]);
-    }
-
-    /// A file with a room about its length.
-    fn file(&mut self, input: &[u8], block: &[u8], room: impl FnOnce(usize) -> usize) {
-        let (mut desk, mut log, mut used) = (FRESH, [0; LOG], 0);
-        let before = log;
-        for (bench, byte) in keys(input) {
-            key(&mut desk, &mut log, &mut used, bench, byte);
+        for call in calls {
+            self.stdout.extend(told(&Reference.call(&mut memory, call)));
         }
-        let mut out = vec![FILL; room(file(&desk, block).len())];
-        self.frame(
-            FILE,
-            [input.len(), LOG, block.len(), out.len()],
-            &[input, &before, block, &out],
-        );
-        let filed = Reference.file(&lent(&desk), block, &mut out);
-        self.answer(filed.count, filed.answer, &[&log, &out]);
+        let filed = Reference.file(&memory, block, &mut out);
+        self.stdout.extend(filed.count.to_le_bytes());
+        self.stdout.push(filed.answer);
+        self.stdout.extend([out, desk_bytes(&memory), memory.log.to_vec()].concat());
     }
 
     fn wall(&mut self, text: &[u8], row: u64) {
-        self.frame(WALL, [text.len(), row as usize, 0, 0], &[text]);
+        self.head(WALL, [text.len(), row as usize, 0, 0]);
+        self.stdin.extend(text);
         let graded = Reference.grade(row, text);
-        self.answer(Reference.classify(text).into(), 16 * graded.answer + graded.level, &[]);
+        self.stdout.extend([Reference.classify(text), graded.answer, graded.level]);
     }
 
-    fn rows(&mut self, sheet: &Sheet) {
-        let (texts, room) = (sheet.values().concat(), [FILL; 2 * ROW_COUNT]);
-        let lens = sheet.values().map(|value| value.len() as u8);
-        self.frame(ROWS_OF, [texts.len(), 0, lens.len(), room.len()], &[&texts, &lens, &room]);
-        let rows = Reference.rows(sheet).rows.map(|row| [row.level, row.reason]);
-        self.answer(0, 0, &[rows.as_flattened()]);
+    /// The measured examples of document 01.
+    fn examples(&mut self) {
+        for desk in sheet_lists::measured_examples() {
+            self.calls(CALLS, in_memory(&desk), &[Call::Report], b"", 0);
+        }
     }
 
     fn write(&self, folder: &Path) -> Result<(), String> {
@@ -117,57 +102,80 @@ impl Frames {
     }
 }
 
+/// Texts and numbers.
+fn desk_bytes(memory: &Memory) -> Vec<u8> {
+    let numbers = memory.numbers.iter().flat_map(|number| number.to_le_bytes());
+    memory.texts.iter().copied().chain(numbers).collect()
+}
+
+fn encoded(call: &Call) -> Vec<u8> {
+    let (kind, number, byte) = match *call {
+        Call::Key { bench, byte } => (0, bench, byte),
+        Call::Report => (1, 0, 0),
+        Call::Who { item } => (2, item, 0),
+    };
+    [&[kind][..], &number.to_le_bytes(), &[byte]].concat()
+}
+
+fn told(answer: &Answer) -> Vec<u8> {
+    let rest = match answer {
+        Answer::Key(_) => vec![],
+        Answer::Report(told) => told.rows.iter().flat_map(|row| [row.level, row.reason]).collect(),
+        Answer::Who(told) => [&[told.bench][..], &told.entry.to_le_bytes()].concat(),
+    };
+    [vec![answer.number()], rest].concat()
+}
+
 /// The measured examples, with the typed line whose record document 01 gives; few enough for the
 /// interpreter.
 pub fn write_examples(folder: &Path) -> Result<(), String> {
     let mut frames = Frames::default();
-    sheet_lists::measured_examples().iter().for_each(|sheet| frames.rows(sheet));
-    let keys = b"_refine_ls_R_factor_gt 0.16\n".map(|byte| Call::Key { bench: 0, byte });
-    let calls: Vec<u8> = keys.iter().flat_map(encode_call).collect();
-    frames.play(&calls, &[0xee; 10], length(keys.len()));
-    frames.play(&calls, &[0xee; 9], length(keys.len()));
+    frames.examples();
+    let calls = b"_refine_ls_R_factor_gt 0.16\n".map(|byte| Call::Key { bench: 0, byte });
+    for length in [10, 9] {
+        frames.sequence(&Sequence { calls: calls.into(), log: vec![0xee; length] });
+    }
     frames.wall(b"0.200001", ROWS[0]);
     frames.wall(b"-0.06", ROWS[2]);
     frames.wall(b"_refine_ls_R_factor_gt 0.16", NO_ROW);
     frames.write(folder)
 }
 
-/// The measured examples typed, the sessions of desk as sequences and as files, and sequences about the
-/// length of the log and the order of few calls.
+/// The measured examples, as they are and typed, the sessions of desk with their files, and sequences
+/// about the length of the log and the order of few calls.
 pub fn write_lists(folder: &Path) -> Result<(), String> {
     let mut frames = Frames::default();
-    sheet_lists::measured_examples().iter().for_each(|sheet| frames.rows(sheet));
+    frames.examples();
     let lists = measured_examples().chain(log_lengths()).chain(desk_sessions());
     lists.chain(few_calls().step_by(9)).for_each(|sequence| frames.sequence(&sequence));
     for (number, (_, input)) in (1..).zip(desk_sessions::scripts()) {
-        frames.file(&input, &b"camp-1-2-3-4-5-6-7-8-9-0-a-b-c-d"[..number], |length| length);
-        frames.file(&input, b"camp-1", |length| length - 1);
+        let calls: Vec<Call> =
+            keys(&input).map(|(bench, byte)| Call::Key { bench, byte }).collect();
+        let block = &b"camp-1-2-3-4-5-6-7-8-9-0-a-b-c-d"[..number];
+        frames.calls(FRESH_CALLS, Memory::zeros(&[0; LOG]), &calls, block, number);
     }
     frames.write(folder)
 }
 
-/// So many generated sequences, and with them damaged ones, files, sheets, and lines and values for
-/// the wall screen.
+/// So many generated sequences, and with each sheets, desks of any kind with files, and lines and
+/// values for the wall screen.
 pub fn write(seed: u64, count: u64, folder: &Path) -> Result<(), String> {
     let mut frames = Frames::default();
     let (mut seeds, mut inputs, mut sheets) =
         (Random::new(seed), Inputs::new(seed), Sheets::new(seed));
-    for number in 0..count {
-        let seed = seeds.next();
-        let mut sequences = Sequences::new(seed);
+    let (mut files, mut desks) = (Files::new(seed), Desks::new(seed));
+    for _ in 0..count {
+        let mut sequences = Sequences::new(seeds.next());
         frames.sequence(&sequences.sequence());
-        if number % ONE_IN == 0 {
-            for (calls, room) in sequences.damaged() {
-                frames.play(&calls, &[seed as u8; 40], room);
-            }
-            let (input, mut files) = (sequences.desk_input(), Files::new(seed));
-            let block = files.block();
-            frames.file(&input, &block, |length| seeds.pick(&files.rooms(length)));
+        for state in [desks.sound(), desks.random()] {
+            let (calls, block) = (sequences.calls(OTHERS as usize, 0), files.block());
+            let room = seeds.pick(&files.rooms(length(&state.desk, &block)));
+            frames.calls(CALLS, state.memory(), &calls, &block, room);
         }
-        for _ in 0..VALUES {
+        for _ in 0..OTHERS {
             frames.wall(&inputs.value(), seeds.pick(&[ROWS[0], ROWS[1], ROWS[2], NO_ROW]));
             frames.wall(&inputs.line(), NO_ROW);
-            frames.rows(&sheets.sheet());
+            frames.calls(CALLS, in_memory(&sheets.sheet()), &[Call::Report], b"", 0);
         }
     }
     frames.write(folder)

@@ -17,6 +17,7 @@ mod files;
 mod frames;
 mod inputs;
 mod lists;
+pub mod memory;
 pub mod program;
 pub mod proved;
 mod random;
@@ -55,7 +56,7 @@ const USAGE: &str = "usage: harness MODE
   workloads                       the names of what is measured
   count WORKLOAD PROGRAM INPUTS   one round of a workload by one program, proved or reference, in the
                                   function counted_round; prints the number of inputs
-  layout                          sizes and offsets of the boundary's structs
+  layout                          sizes and offsets of the boundary's structs, and the numbers of desk.h
   desk-sessions FOLDER            write the sessions of the programs desk and camp cif, NAME.in, and
                                   what they must print for each, NAME.out and NAME.cif
   desk-runs PROGRAM SEED COUNT    run the program desk on generated inputs
@@ -100,8 +101,8 @@ fn run(words: &[&str]) -> Outcome {
         ["compare", options @ ..] => compare(&Proved, plan(options, true)?),
         ["memory", options @ ..] => compare(&Exact(Proved), plan(options, false)?),
         ["self-check"] => Ok(counted(self_check::run())),
-        ["trace"] => done(trace::run_played(&Proved, stdin().lock(), output)),
-        ["reference-trace"] => done(trace::run_stepped(stdin().lock(), output)),
+        ["trace"] => done(trace::run(&Proved, stdin().lock(), output)),
+        ["reference-trace"] => done(trace::run(&Reference, stdin().lock(), output)),
         ["bench"] => bench::run("").and(DONE),
         ["bench", file] => {
             let counts =

@@ -1,8 +1,7 @@
 //! The questions that both programs answer, in the form of the C boundary.
 
-use crate::boundary::{
-    Desk, Filed, Graded, KeyResult, LineResult, NumberResult, PlayResult, RowsResult, Sheet,
-};
+use crate::boundary::{Filed, Graded, LineResult, Memory, NumberResult, Reported, Told};
+pub use reference::sequence::Call;
 
 /// A program under comparison.
 pub trait Program {
@@ -12,11 +11,37 @@ pub trait Program {
     fn value(&self, text: &[u8]) -> u64;
     fn line(&self, text: &[u8]) -> LineResult;
     fn item(&self, name: &[u8]) -> u64;
-    /// The rows of a sheet whose lengths are at most 80.
-    fn rows(&self, sheet: &Sheet) -> RowsResult;
-    fn key(&self, desk: &Desk, log: &mut [u8], used: u64, bench: u64, byte: u8) -> KeyResult;
-    /// Plays encoded calls on a fresh desk.
-    fn play(&self, calls: &[u8], log: &mut [u8], out: &mut [u8]) -> PlayResult;
+    fn fresh(&self, memory: &mut Memory) -> u8;
+    fn key(&self, memory: &mut Memory, bench: u64, byte: u8) -> u8;
+    fn report(&self, memory: &Memory) -> Reported;
+    fn who(&self, memory: &Memory, item: u64) -> Told;
     /// Writes the sheet as a CIF file with this block name.
-    fn file(&self, desk: &Desk, block: &[u8], out: &mut [u8]) -> Filed;
+    fn file(&self, memory: &Memory, block: &[u8], out: &mut [u8]) -> Filed;
+
+    /// One call of a sequence.
+    fn call(&self, memory: &mut Memory, call: &Call) -> Answer {
+        match *call {
+            Call::Key { bench, byte } => Answer::Key(self.key(memory, bench, byte)),
+            Call::Report => Answer::Report(self.report(memory)),
+            Call::Who { item } => Answer::Who(self.who(memory, item)),
+        }
+    }
+}
+
+/// A call's whole answer.
+#[derive(Clone, Copy, Debug, PartialEq, Eq)]
+pub enum Answer {
+    Key(u8),
+    Report(Reported),
+    Who(Told),
+}
+
+impl Answer {
+    /// The answer's number.
+    pub fn number(&self) -> u8 {
+        match *self {
+            Answer::Key(answer) => answer,
+            Answer::Report(Reported { answer, .. }) | Answer::Who(Told { answer, .. }) => answer,
+        }
+    }
 }

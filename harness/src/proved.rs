@@ -1,8 +1,6 @@
 //! The proved library through its C boundary.
 
-use crate::boundary::{
-    Desk, Filed, Graded, KeyResult, LineResult, NumberResult, PlayResult, RowsResult, Sheet,
-};
+use crate::boundary::{Filed, Graded, LineResult, Memory, NumberResult, Reported, Told};
 use crate::program::Program;
 
 extern "C" {
@@ -12,36 +10,51 @@ extern "C" {
     fn probe_value(text: *const u8, length: usize) -> u64;
     fn probe_line(text: *const u8, length: usize) -> LineResult;
     fn probe_item(name: *const u8, length: usize) -> u64;
-    fn probe_rows(sheet: Sheet) -> RowsResult;
-    fn probe_key(
-        desk: Desk,
+    fn desk_fresh(
+        texts: *mut u8,
+        texts_length: usize,
+        numbers: *mut usize,
+        numbers_length: usize,
+    ) -> u8;
+    fn desk_key(
+        texts: *mut u8,
+        texts_length: usize,
+        numbers: *mut usize,
+        numbers_length: usize,
         log: *mut u8,
-        log_len: usize,
-        used: u64,
+        log_length: usize,
         bench: u64,
         byte: u8,
-    ) -> KeyResult;
-    fn play_sequence(
-        calls: *const u8,
-        calls_len: usize,
-        log: *mut u8,
-        log_len: usize,
-        out: *mut u8,
-        out_len: usize,
-    ) -> PlayResult;
-    fn probe_file(
-        desk: Desk,
+    ) -> u8;
+    fn desk_report(
+        texts: *const u8,
+        texts_length: usize,
+        numbers: *const usize,
+        numbers_length: usize,
+    ) -> Reported;
+    fn desk_who(
+        texts: *const u8,
+        texts_length: usize,
+        numbers: *const usize,
+        numbers_length: usize,
+        item: u64,
+    ) -> Told;
+    fn desk_file(
+        texts: *const u8,
+        texts_length: usize,
+        numbers: *const usize,
+        numbers_length: usize,
         name: *const u8,
-        name_len: usize,
+        name_length: usize,
         out: *mut u8,
-        out_len: usize,
+        out_length: usize,
     ) -> Filed;
 }
 
 /// The proved library.
 pub struct Proved;
 
-// Every call lends a live slice for the call; a slice's pointer is never null.
+// Every call lends live slices for the call, which do not overlap; a slice's pointer is never null.
 impl Program for Proved {
     fn classify(&self, line: &[u8]) -> u8 {
         unsafe { wall_classify(line.as_ptr(), line.len()) }
@@ -67,21 +80,50 @@ impl Program for Proved {
         unsafe { probe_item(name.as_ptr(), name.len()) }
     }
 
-    fn rows(&self, sheet: &Sheet) -> RowsResult {
-        unsafe { probe_rows(*sheet) }
+    fn fresh(&self, memory: &mut Memory) -> u8 {
+        let Memory { texts, numbers, .. } = memory;
+        unsafe { desk_fresh(texts.as_mut_ptr(), texts.len(), numbers.as_mut_ptr(), numbers.len()) }
     }
 
-    fn key(&self, desk: &Desk, log: &mut [u8], used: u64, bench: u64, byte: u8) -> KeyResult {
-        unsafe { probe_key(*desk, log.as_mut_ptr(), log.len(), used, bench, byte) }
+    fn key(&self, memory: &mut Memory, bench: u64, byte: u8) -> u8 {
+        let Memory { texts, numbers, log } = memory;
+        unsafe {
+            desk_key(
+                texts.as_mut_ptr(),
+                texts.len(),
+                numbers.as_mut_ptr(),
+                numbers.len(),
+                log.as_mut_ptr(),
+                log.len(),
+                bench,
+                byte,
+            )
+        }
     }
 
-    fn play(&self, calls: &[u8], log: &mut [u8], out: &mut [u8]) -> PlayResult {
-        let (log_len, out_len) = (log.len(), out.len());
-        let (log, out) = (log.as_mut_ptr(), out.as_mut_ptr());
-        unsafe { play_sequence(calls.as_ptr(), calls.len(), log, log_len, out, out_len) }
+    fn report(&self, memory: &Memory) -> Reported {
+        let Memory { texts, numbers, .. } = memory;
+        unsafe { desk_report(texts.as_ptr(), texts.len(), numbers.as_ptr(), numbers.len()) }
     }
 
-    fn file(&self, desk: &Desk, block: &[u8], out: &mut [u8]) -> Filed {
-        unsafe { probe_file(*desk, block.as_ptr(), block.len(), out.as_mut_ptr(), out.len()) }
+    fn who(&self, memory: &Memory, item: u64) -> Told {
+        let Memory { texts, numbers, .. } = memory;
+        unsafe { desk_who(texts.as_ptr(), texts.len(), numbers.as_ptr(), numbers.len(), item) }
+    }
+
+    fn file(&self, memory: &Memory, block: &[u8], out: &mut [u8]) -> Filed {
+        let Memory { texts, numbers, .. } = memory;
+        unsafe {
+            desk_file(
+                texts.as_ptr(),
+                texts.len(),
+                numbers.as_ptr(),
+                numbers.len(),
+                block.as_ptr(),
+                block.len(),
+                out.as_mut_ptr(),
+                out.len(),
+            )
+        }
     }
 }

@@ -1,19 +1,19 @@
 //! Shows that the comparison can fail: programs with one known fault each must be found different.
 //! These are errors of thought; `mutants/` has slips of the pen.
 
-mod file;
+mod files;
 mod keys;
-mod play;
+mod questions;
 mod rows;
 mod texts;
 
-use crate::boundary::{
-    Desk, Filed, Graded, KeyResult, LineResult, NumberResult, PlayResult, RowsResult, Sheet,
-};
+use crate::boundary::{Filed, Graded, LineResult, Memory, NumberResult, Reported, Told};
 use crate::by_reference::{gathered, Reference};
 use crate::compare::{compare, first_difference, Gather, Plan};
+use crate::memory::{held, put};
 use crate::program::Program;
 use crate::tally::Tally;
+use reference::desk::Desk;
 
 const PLAN: Plan = Plan { fixed_seed: 1, new_seed: 2, count: 6_000, lists: true };
 
@@ -24,10 +24,11 @@ enum Wrong {
     Number(fn(&[u8]) -> NumberResult),
     Value(fn(&[u8]) -> u64),
     Item(fn(&[u8]) -> u64),
-    Rows(fn(&Sheet) -> RowsResult),
-    Key(fn(&Desk, &mut [u8], u64, u64, u8) -> KeyResult),
-    Play(fn(&[u8], &mut [u8], &mut [u8]) -> PlayResult),
-    File(fn(&Desk, &[u8], &mut [u8]) -> Filed),
+    Fresh(fn(&mut Memory) -> u8),
+    Key(fn(&mut Memory, u64, u8) -> u8),
+    Report(fn(&Memory) -> Reported),
+    Who(fn(&Memory, u64) -> Told),
+    File(fn(&Memory, &[u8], &mut [u8]) -> Filed),
 }
 
 /// A method that the fault of one variant replaces.
@@ -48,24 +49,33 @@ impl Program for Wrong {
     answers!(Number, number(text: &[u8]) -> NumberResult);
     answers!(Value, value(text: &[u8]) -> u64);
     answers!(Item, item(name: &[u8]) -> u64);
-    answers!(Rows, rows(sheet: &Sheet) -> RowsResult);
-    answers!(Key, key(desk: &Desk, log: &mut [u8], used: u64, bench: u64, byte: u8) -> KeyResult);
-    answers!(Play, play(calls: &[u8], log: &mut [u8], out: &mut [u8]) -> PlayResult);
-    answers!(File, file(desk: &Desk, block: &[u8], out: &mut [u8]) -> Filed);
+    answers!(Fresh, fresh(memory: &mut Memory) -> u8);
+    answers!(Key, key(memory: &mut Memory, bench: u64, byte: u8) -> u8);
+    answers!(Report, report(memory: &Memory) -> Reported);
+    answers!(Who, who(memory: &Memory, item: u64) -> Told);
+    answers!(File, file(memory: &Memory, block: &[u8], out: &mut [u8]) -> Filed);
 
     fn line(&self, text: &[u8]) -> LineResult {
         Reference.line(text)
     }
 }
 
+/// Changes the desk in memory.
+fn change(memory: &mut Memory, change: impl FnOnce(&mut Desk)) {
+    if let Some((mut desk, used)) = held(memory) {
+        change(&mut desk);
+        put(memory, &desk, used);
+    }
+}
+
 /// Prints one line for each fault; answers how many were found and how many not.
 pub fn run() -> (usize, usize) {
     let lists: [&[(&str, Wrong)]; 5] =
-        [&texts::FAULTS, &rows::FAULTS, &keys::FAULTS, &play::FAULTS, &file::FAULTS];
+        [&texts::FAULTS, &rows::FAULTS, &keys::FAULTS, &questions::FAULTS, &files::FAULTS];
     let faults = lists.into_iter().flatten();
     let mut results: Vec<(String, bool)> =
         faults.map(|(name, wrong)| found(name, wrong, gathered)).collect();
-    results.extend(play::ORDERS.map(|(name, order)| found(name, &Reference, order)));
+    results.extend(questions::ORDERS.map(|(name, order)| found(name, &Reference, order)));
     let none = compare(&Reference, &Reference, &PLAN);
     let same = none.differences() == 0 && none.missing().is_empty();
     results.push(("the reference equals itself".into(), same));

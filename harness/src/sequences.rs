@@ -2,32 +2,25 @@
 
 use crate::desk_sessions;
 use crate::desks::State;
+use crate::program::Call;
 use crate::random::Random;
 use crate::session::{Session, OTHER_BENCHES};
 use crate::sheet_lists;
 use crate::sheets::Sheets;
-use reference::desk::{record, BENCHES, EMPTY, ENTER, ERASE, LOG_LIMIT, RECORD_HEAD};
-use reference::encoded::{encode_call, length, CALL, KEY, REPORT, WHO};
+use reference::desk::{record, values, BENCHES, EMPTY, ENTER, ERASE, LOG_LIMIT, RECORD_HEAD};
 use reference::line::{classify, split, ACCEPTED, BYTES, LIMIT};
 use reference::names::ITEMS;
 use reference::program::{keys, LOG};
-use reference::sequence::Call;
 use std::collections::VecDeque;
 
 /// Item numbers that are none: neighbours, and what a cut-off number would turn into one.
 const OTHER_ITEMS: [u64; 9] =
     [0, 11, 12, 255, 256 + 4, (1 << 16) + 4, (1 << 32) + 4, 1 << 63, u64::MAX];
-/// Kinds that no call has.
-const NO_KINDS: [u8; 6] = [3, 4, 127, 128, 254, 255];
-/// A sequence to be damaged has fewer calls than this.
-const DAMAGED: usize = 12;
 
-/// Encoded calls and the log that they are played on.
+/// Calls and the log that they are played on.
 pub struct Sequence {
-    pub calls: Vec<[u8; CALL]>,
+    pub calls: Vec<Call>,
     pub log: Vec<u8>,
-    /// How much longer the room for the answers is than it must be.
-    pub beyond: usize,
 }
 
 /// One bench, or a number that is none, at its keys.
@@ -73,7 +66,7 @@ impl Sequences {
         Sequences { random: Random::new(!seed), session: Session::new(seed), sheets }
     }
 
-    /// A sequence and its log, with anything in the places that a call's kind does not take.
+    /// A sequence and its log.
     pub fn sequence(&mut self) -> Sequence {
         let count = match self.random.below(100) {
             0 => 1500,
@@ -81,10 +74,8 @@ impl Sequences {
             10..=19 => self.random.below(10),
             _ => 60 + self.random.below(200),
         };
-        let (any, length) = (!self.random.once_in(4), self.log_length());
-        let calls = self.calls(count, length).iter().map(|call| self.encoded(call, any)).collect();
-        let beyond = self.random.pick(&[0, 0, 0, 1, 25, 400]);
-        Sequence { calls, log: self.content(length), beyond }
+        let length = self.log_length();
+        Sequence { calls: self.calls(count, length), log: self.content(length) }
     }
 
     /// How long the log is; most often a few records long, at times at the limit and beyond.
@@ -147,7 +138,7 @@ impl Sequences {
     }
 
     /// An item number, now and then one that is none.
-    fn item(&mut self) -> u64 {
+    pub fn item(&mut self) -> u64 {
         match self.random.below(8) {
             0 => self.random.pick(&OTHER_ITEMS),
             1 => self.random.next() >> self.random.below(64),
@@ -188,44 +179,6 @@ impl Sequences {
         }
     }
 
-    /// A call as bytes.
-    fn encoded(&mut self, call: &Call, any: bool) -> [u8; CALL] {
-        let mut bytes = encode_call(call);
-        if any && bytes[0] == REPORT {
-            bytes[1..9].copy_from_slice(&self.random.next().to_le_bytes());
-        }
-        if any && bytes[0] != KEY {
-            bytes[9] = self.random.byte();
-        }
-        bytes
-    }
-
-    /// Encodings about each refusal of one sequence: bytes, and the room for the answers.
-    pub fn damaged(&mut self) -> Vec<(Vec<u8>, usize)> {
-        let count = self.random.below(DAMAGED);
-        let calls: Vec<u8> =
-            self.calls(count, 0).iter().flat_map(|call| self.encoded(call, true)).collect();
-        let enough = length(count);
-        let rooms = [0, 1, enough / 2, enough - 1, enough, enough + 1, enough + 25, 2 * enough];
-        let mut all: Vec<(Vec<u8>, usize)> = rooms.map(|room| (calls.clone(), room)).into();
-        for extra in 1..CALL {
-            let longer = [&calls[..], &vec![self.random.byte() % 3; extra]].concat();
-            all.push((longer, self.random.pick(&rooms)));
-            let shorter = &calls[..calls.len().saturating_sub(extra)];
-            all.push((shorter.into(), self.random.pick(&rooms)));
-        }
-        for kind in NO_KINDS {
-            let mut strange = [&calls[..], &[WHO; CALL]].concat();
-            let at = self.random.below(count + 1);
-            strange[CALL * at] = kind;
-            let room = self.random.pick(&[0, enough, enough + 24, enough + 25]);
-            let cut = strange.len() - self.random.below(CALL);
-            all.push((strange[..cut].into(), room));
-            all.push((strange, room));
-        }
-        all
-    }
-
     /// What the program `desk` is given: a byte for the bench and one for the key, and now and then
     /// an odd one more.
     pub fn desk_input(&mut self) -> Vec<u8> {
@@ -256,24 +209,22 @@ pub fn desk_sessions() -> impl Iterator<Item = Sequence> {
         }
         calls.extend((0..12).map(|item| Call::Who { item }));
         calls.push(Call::Report);
-        let calls = calls.iter().map(encode_call).collect();
-        Sequence { calls, log: vec![0; LOG], beyond: 0 }
+        Sequence { calls, log: vec![0; LOG] }
     })
 }
 
 /// The measured examples of document 01 typed item by item, each by another bench, with every
 /// question at the end.
 pub fn measured_examples() -> impl Iterator<Item = Sequence> {
-    sheet_lists::measured_examples().into_iter().map(|sheet| {
+    sheet_lists::measured_examples().into_iter().map(|desk| {
         let filled =
-            ITEMS.iter().zip(sheet.values()).zip(0..).filter(|((_, value), _)| !value.is_empty());
+            ITEMS.iter().zip(values(&desk)).zip(0..).filter(|((_, value), _)| !value.is_empty());
         let keys = filled.flat_map(|(((name, _), value), place)| {
             let line = [name.as_bytes(), b" ", value, &[ENTER]].concat();
             line.into_iter().map(move |byte| Call::Key { bench: place % BENCHES as u64, byte })
         });
         let questions = (0..12).map(|item| Call::Who { item }).chain([Call::Report]);
-        let calls = keys.chain(questions).map(|call| encode_call(&call)).collect();
-        Sequence { calls, log: vec![0xee; LOG], beyond: 0 }
+        Sequence { calls: keys.chain(questions).collect(), log: vec![0xee; LOG] }
     })
 }
 
@@ -282,16 +233,15 @@ pub fn measured_examples() -> impl Iterator<Item = Sequence> {
 pub fn log_lengths() -> impl Iterator<Item = Sequence> {
     let questions = [Call::Report, Call::Who { item: 4 }, Call::Who { item: 7 }];
     let entries = [(0, "_refine_ls_R_factor_gt 0.16\n"), (3, "_refine_ls_wR_factor_obs 0.2\n")];
-    let calls: Vec<[u8; CALL]> = entries
+    let calls: Vec<Call> = entries
         .into_iter()
         .flat_map(|(bench, text)| text.bytes().map(move |byte| Call::Key { bench, byte }))
         .flat_map(|key| [key].into_iter().chain(questions))
-        .map(|call| encode_call(&call))
         .collect();
     let long = [LOG, LOG_LIMIT - 1, LOG_LIMIT, LOG_LIMIT + 1, LOG_LIMIT + 10, 2 * LOG_LIMIT];
     (0..=30).chain(long).map(move |length| {
         let log = State::fresh(length, length as u64).log;
-        Sequence { calls: calls.clone(), log, beyond: 0 }
+        Sequence { calls: calls.clone(), log }
     })
 }
 
@@ -318,7 +268,6 @@ pub fn few_calls() -> impl Iterator<Item = Sequence> {
     (0..last.len().pow(3)).map(move |number| {
         let three = [number, number / last.len(), number / last.len().pow(2)];
         let calls = typed.iter().copied().chain(three.map(|at| last[at % last.len()]));
-        let calls = calls.map(|call| encode_call(&call)).collect();
-        Sequence { calls, log: vec![0xee; [40, 12, 9][number % 3]], beyond: number % 2 }
+        Sequence { calls: calls.collect(), log: vec![0xee; [40, 12, 9][number % 3]] }
     })
 }

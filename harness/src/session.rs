@@ -1,6 +1,5 @@
 //! Generated sessions: four benches at their keys at once, with slips and corrections.
 
-use crate::boundary::Desk;
 use crate::desks::Desks;
 use crate::random::Random;
 use reference::desk::{BENCHES, EMPTY, ENTER, ERASE, LOG_LIMIT};
@@ -59,14 +58,14 @@ impl Session {
         }
     }
 
-    /// The next call: bench and byte.
-    pub fn call(&mut self, desk: &Desk) -> (u64, u8) {
+    /// The next call, bench and byte, where the benches' lines have these lengths.
+    pub fn call(&mut self, lengths: &[usize]) -> (u64, u8) {
         match self.random.below(60) {
             0 => (self.random.pick(&OTHER_BENCHES), self.any_byte()),
             1 => (self.random.below(BENCHES) as u64, self.any_byte()),
             _ => {
                 let bench = self.random.below(BENCHES);
-                (bench as u64, self.key(bench, desk))
+                (bench as u64, self.key(bench, lengths[bench]))
             }
         }
     }
@@ -80,9 +79,8 @@ impl Session {
     }
 
     /// The next key of one bench.
-    fn key(&mut self, bench: usize, desk: &Desk) -> u8 {
+    fn key(&mut self, bench: usize, length: usize) -> u8 {
         if self.waiting[bench].is_empty() {
-            let length = desk.lines[bench].len as usize;
             self.waiting[bench] = self.next_line(length).into();
         }
         self.waiting[bench].pop_front().unwrap_or(ENTER)

@@ -1,28 +1,25 @@
 //! Fixed lists of sheets: every symbol, every mixture of missing items, and every place next to a
 //! bound of the twelve rows.
 
-use crate::boundary::Sheet;
+use crate::desks;
 use crate::inputs::{decimal, near};
 use crate::lists::numbers_at_bounds;
 use crate::sheets::{fits, most_places, weight_bounds, MISSING};
+use reference::desk::Desk;
 use reference::formula::{self, SYMBOLS, WEIGHTS};
 use reference::line::BYTES;
 use reference::names::{CATEGORIES, ITEMS};
 use reference::number::PLACES;
 use reference::rows::THRESHOLDS;
 
-/// A sheet on which the items with a number are filled.
-fn sheet(filled: &[(usize, &str)]) -> Sheet {
-    let mut values = [""; ITEMS.len()];
-    for (item, value) in filled {
-        debug_assert!(fits(*item, value.as_bytes()), "item {item}: {value}");
-        values[item - 1] = value;
-    }
-    Sheet::holding(&values)
+/// A desk on whose sheet these items are filled.
+fn sheet(filled: &[(usize, &str)]) -> Desk {
+    debug_assert!(filled.iter().all(|(item, value)| fits(*item, value.as_bytes())), "{filled:?}");
+    desks::holding(filled.iter().copied())
 }
 
 /// Sheets of document 01, "Measured examples".
-pub fn measured_examples() -> Vec<Sheet> {
+pub fn measured_examples() -> Vec<Desk> {
     let mut sheets = vec![];
     let weights = ["138.8673", "138.8672", "133.2565", "133.2564", "126.243", "126.242", "154.297"];
     for weight in weights.into_iter().chain(["141.27", "141.271"]) {
@@ -48,7 +45,7 @@ pub fn measured_examples() -> Vec<Sheet> {
 }
 
 /// Each item assigned, empty or unassigned, in every mixture; with two sets of assigned values.
-pub fn missing_mixtures() -> impl Iterator<Item = Sheet> {
+pub fn missing_mixtures() -> impl Iterator<Item = Desk> {
     let sets = [
         ["'C10 H20'", "140.27", "FO", "0.2", "0.3", "0.3", "0.5", "0.1", "-0.3", "'I > 5\\s(I)'"],
         ["'C10 Xx'", "1", "'CI'", "0.05", "0.12", "0.2", "0.4", "0", "0.06", "'I > 5'"],
@@ -61,13 +58,13 @@ pub fn missing_mixtures() -> impl Iterator<Item = Sheet> {
                 1 => MISSING[0],
                 _ => MISSING[1 + (mixture + place) % 2],
             };
-            Sheet::holding(&std::array::from_fn::<_, { ITEMS.len() }, _>(item))
+            desks::sheet(std::array::from_fn(item))
         })
     })
 }
 
 /// Each capital, alone and before every byte, in formulas with and without C and H.
-pub fn symbols() -> impl Iterator<Item = Sheet> {
+pub fn symbols() -> impl Iterator<Item = Desk> {
     let seconds = BYTES.filter(|byte| !b"' ".contains(byte)).map(|byte| (byte as char).to_string());
     let seconds: Vec<String> = [String::new()].into_iter().chain(seconds).collect();
     (b'A'..=b'Z').flat_map(move |capital| {
@@ -85,7 +82,7 @@ pub fn symbols() -> impl Iterator<Item = Sheet> {
 }
 
 /// Each symbol of the table with each category and its own weight, with C and H and alone.
-pub fn classes() -> impl Iterator<Item = Sheet> {
+pub fn classes() -> impl Iterator<Item = Desk> {
     SYMBOLS.into_iter().flat_map(|symbol| {
         CATEGORIES.into_iter().flat_map(move |category| {
             [
@@ -104,14 +101,14 @@ pub fn classes() -> impl Iterator<Item = Sheet> {
 }
 
 /// Every two symbols of the table, one after the other.
-pub fn pairs() -> impl Iterator<Item = Sheet> {
+pub fn pairs() -> impl Iterator<Item = Desk> {
     SYMBOLS.into_iter().flat_map(|first| {
         SYMBOLS.into_iter().map(move |second| sheet(&[(1, &format!("'{first} {second}'"))]))
     })
 }
 
 /// Every count up to beyond the largest, some with zeros before them.
-pub fn counts() -> impl Iterator<Item = Sheet> {
+pub fn counts() -> impl Iterator<Item = Desk> {
     (0..=10_100).flat_map(|count| {
         let weight = decimal(1000 * 1008 * count, 2);
         ["", "0"].map(|zero| sheet(&[(1, &format!("H{zero}{count}")), (2, &weight), (3, "FO")]))
@@ -120,7 +117,7 @@ pub fn counts() -> impl Iterator<Item = Sheet> {
 
 /// Each weighted symbol and some formulas with weights at and beside each bound, in every number
 /// of places.
-pub fn weights_at_bounds() -> Vec<Sheet> {
+pub fn weights_at_bounds() -> Vec<Desk> {
     let longer = ["C10 H20", "C18 H19 N7 O8 S", "C H H", "Pb9999 Pb9999 Pb9999", "C9999 H9999"];
     let mut sheets = vec![];
     for text in WEIGHTS.map(|(symbol, _)| symbol).into_iter().chain(longer) {
@@ -141,7 +138,7 @@ pub fn weights_at_bounds() -> Vec<Sheet> {
 }
 
 /// Numbers at and beside the bounds of rows 6, 8 and 10, under the new, the old and both names.
-pub fn numbers() -> impl Iterator<Item = Sheet> {
+pub fn numbers() -> impl Iterator<Item = Desk> {
     numbers_at_bounds().into_iter().filter(|text| fits(4, text)).flat_map(|number| {
         let number = String::from_utf8(number).expect("a number is text");
         let new = [(4, &number[..]), (6, &number), (8, &number)];
@@ -152,7 +149,7 @@ pub fn numbers() -> impl Iterator<Item = Sheet> {
 }
 
 /// Each shape of row 12 with each bound, and one unit beside it in each place, in both quotes.
-pub fn thresholds_at_bounds() -> Vec<Sheet> {
+pub fn thresholds_at_bounds() -> Vec<Desk> {
     let mut sheets = vec![];
     for (compared, _) in THRESHOLDS {
         for bound in THRESHOLDS.into_iter().flat_map(|(_, bounds)| bounds) {
@@ -173,7 +170,7 @@ pub fn thresholds_at_bounds() -> Vec<Sheet> {
 }
 
 /// Texts of items 1 and 10 with one byte changed into every other byte, removed or doubled.
-pub fn texts_one_byte_off() -> impl Iterator<Item = Sheet> {
+pub fn texts_one_byte_off() -> impl Iterator<Item = Desk> {
     let expressions = THRESHOLDS.map(|(compared, _)| format!("{compared} > 6.5\\s({compared})"));
     let formulas = ["C10 H20 Br", "C H3 Na O", "H Br", "Cl2", "C18 H19 N7 O8 S"].map(String::from);
     let texts =

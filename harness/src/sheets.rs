@@ -1,8 +1,9 @@
 //! Generated sheets: ten values that could stand on a desk, about every bound of the twelve rows.
 
-use crate::boundary::Sheet;
+use crate::desks;
 use crate::inputs::{decimal, near, Inputs, ROWS};
 use crate::random::Random;
+use reference::desk::Desk;
 use reference::formula::{self, SYMBOLS, WEIGHTS};
 use reference::line::{BYTES, LIMIT};
 use reference::names::{passes, ITEMS};
@@ -44,8 +45,9 @@ impl Sheets {
         Sheets { random: Random::new(seed), inputs: Inputs::new(seed.rotate_left(32)) }
     }
 
-    pub fn sheet(&mut self) -> Sheet {
-        Sheet::holding(&self.values())
+    /// A desk that holds such values.
+    pub fn sheet(&mut self) -> Desk {
+        desks::sheet(self.values())
     }
 
     /// Ten values; on some sheets all are there, on others many are missing.

@@ -1,6 +1,6 @@
 //! How often each possible answer was given.
 
-use crate::boundary::RowsResult;
+use crate::boundary::Row;
 use crate::broken::{DESK_WAYS, WAYS};
 use reference::names::ITEMS;
 use reference::rows::{NAMES, ROWS};
@@ -8,7 +8,7 @@ use reference::rows::{NAMES, ROWS};
 const GRADES: &[&str] = &["0 0", "0 2", "0 3", "0 4", "7 0"];
 
 /// Each question with its possible answers.
-const QUESTIONS: [(&str, &[&str]); 26] = [
+const QUESTIONS: [(&str, &[&str]); 27] = [
     ("line", &["0", "5", "6", "7"]),
     ("row 6", GRADES),
     ("row 8", GRADES),
@@ -22,12 +22,13 @@ const QUESTIONS: [(&str, &[&str]); 26] = [
     ("key accepted", &["append", "erase", "erase nothing", "empty", "Enter"]),
     ("entry's bench", &["0", "1", "2", "3"]),
     ("entry's item", &["1", "2", "3", "4", "5", "6", "7", "8", "9", "10"]),
-    ("play", &["0", "1", "2", "3"]),
+    ("fresh", &["0", "2"]),
+    ("Report", &["0", "2"]),
+    ("Who", &["0 by 0", "0 by 1", "0 by 2", "0 by 3", "0 empty", "6", "2"]),
+    ("texts, numbers", &["- -", "- =", "- +", "= -", "= =", "= +", "+ -", "+ =", "+ +"]),
     ("log played on", &["of none", "shorter", "of the limit", "too long"]),
     ("gathering", &["changes nothing", "moves keys"]),
     ("played key", &["0", "1", "2", "3", "4", "5", "6", "7", "8"]),
-    ("taken key", &["append", "erase", "empty", "Enter"]),
-    ("played Report", &["0"]),
     ("played Who", &["0 by 0", "0 by 1", "0 by 2", "0 by 3", "0 empty", "6"]),
     ("file", &["0", "2", "10", "11"]),
     ("filled items", &["0", "1", "2", "3", "4", "5", "6", "7", "8", "9", "10"]),
@@ -61,12 +62,13 @@ pub enum Question {
     KeyAccepted,
     EntryBench,
     EntryItem,
-    Play,
+    Fresh,
+    Report,
+    Who,
+    Lengths,
     PlayedLog,
     Gathering,
     PlayedKey,
-    TakenKey,
-    PlayedReport,
     PlayedWho,
     File,
     FilledItems,
@@ -95,6 +97,10 @@ const POSSIBLE: [&[(u8, u8)]; ROWS] = [
     &[(0, 0), (2, 0), (3, 0), (4, 0), (2, 1), (2, 2)],
 ];
 
+/// The calls on a desk that is not sound, and how many of the ways to break it each has to refuse.
+pub const CALLS: [(&str, usize); 4] =
+    [("key", WAYS.len()), ("Report", DESK_WAYS), ("Who", DESK_WAYS), ("file", DESK_WAYS)];
+
 /// One question: its name, and each possible answer with its count.
 type Counted = (String, Vec<(String, u64)>);
 
@@ -102,8 +108,7 @@ pub struct Tally {
     counts: [[u64; MOST]; QUESTIONS.len()],
     rows: [[u64; MOST]; ROWS],
     played_rows: [[u64; MOST]; ROWS],
-    ways: [u64; WAYS.len()],
-    file_ways: [u64; DESK_WAYS],
+    ways: [[u64; WAYS.len()]; CALLS.len()],
 }
 
 impl Default for Tally {
@@ -112,8 +117,7 @@ impl Default for Tally {
             counts: [[0; MOST]; QUESTIONS.len()],
             rows: [[0; MOST]; ROWS],
             played_rows: [[0; MOST]; ROWS],
-            ways: [0; WAYS.len()],
-            file_ways: [0; DESK_WAYS],
+            ways: [[0; WAYS.len()]; CALLS.len()],
         }
     }
 }
@@ -128,24 +132,19 @@ impl Tally {
     }
 
     /// Counts each row of a sheet.
-    pub fn note_rows(&mut self, result: &RowsResult) {
-        note_each(&mut self.rows, result);
+    pub fn note_rows(&mut self, rows: &[Row; ROWS]) {
+        note_each(&mut self.rows, rows);
     }
 
     /// Counts each row of a Report in a sequence.
-    pub fn note_played_rows(&mut self, result: &RowsResult) {
-        note_each(&mut self.played_rows, result);
+    pub fn note_played_rows(&mut self, rows: &[Row; ROWS]) {
+        note_each(&mut self.played_rows, rows);
     }
 
-    /// Counts a call that found a desk broken in one way not sound.
-    pub fn note_unsound(&mut self, way: usize) {
-        self.ways[way] += 1;
-    }
-
-    /// Counts a file refused since its desk was broken in one way.
-    pub fn note_unsound_file(&mut self, way: usize) {
-        if let Some(count) = self.file_ways.get_mut(way) {
-            *count += 1;
+    /// Counts the calls that found a desk broken in one way not sound.
+    pub fn note_unsound(&mut self, way: usize, refused: [bool; CALLS.len()]) {
+        for (counts, refused) in self.ways.iter_mut().zip(refused) {
+            counts[way] += u64::from(refused);
         }
     }
 
@@ -174,11 +173,10 @@ impl Tally {
             let row = all.iter().map(|answer| answer.to_string()).zip(*counts).collect();
             (name.to_string(), row)
         });
-        let names = || WAYS.iter().map(|(name, _)| name.to_string());
-        let ways = [
-            ("not sound".into(), names().zip(self.ways).collect()),
-            ("no file".into(), names().zip(self.file_ways).collect()),
-        ];
+        let ways = CALLS.iter().zip(self.ways).map(|((call, ways), counts)| {
+            let names = WAYS.iter().map(|(name, _)| name.to_string()).take(*ways);
+            (format!("{call} refused"), names.zip(counts).collect())
+        });
         let rows = counted_rows("", &self.rows);
         questions
             .chain(rows)
@@ -196,8 +194,8 @@ fn never_given(counted: Vec<Counted>) -> Vec<String> {
     counted.into_iter().flat_map(unseen).collect()
 }
 
-fn note_each(counts: &mut [[u64; MOST]; ROWS], result: &RowsResult) {
-    for ((row, possible), counts) in result.rows.iter().zip(POSSIBLE).zip(counts) {
+fn note_each(counts: &mut [[u64; MOST]; ROWS], rows: &[Row; ROWS]) {
+    for ((row, possible), counts) in rows.iter().zip(POSSIBLE).zip(counts) {
         if let Some(at) = possible.iter().position(|&pair| pair == (row.level, row.reason)) {
             counts[at] += 1;
         }

@@ -1,20 +1,16 @@
 //! The trace: one command a line, exactly one line of answer for each.
 
 mod commands;
-mod played;
-mod stepped;
 
 pub use commands::commands;
 
-use crate::by_reference::Reference;
+use crate::boundary::Memory;
 use crate::compare::hex;
 use crate::desks::State;
-use crate::program::Program;
-use played::Played;
-use reference::sequence::{Answer, Call};
+use crate::memory::held;
+use crate::program::{Answer, Call, Program};
 use std::fmt::Write as _;
 use std::io::{BufRead, BufReader, Read, Result as IoResult, Write};
-use stepped::Stepped;
 
 /// The longest log and the most room for a file that are made.
 const LONGEST_LOG: u64 = 1 << 24;
@@ -22,180 +18,125 @@ const MOST_ROOM: u64 = 1 << 24;
 /// How much input is taken at once.
 const BUFFER: usize = 1 << 20;
 
-/// One line of output.
-enum Reply {
-    Known(String),
-    /// The answer to the call at a place of the sequence, which is not played yet.
-    Call(usize),
-    /// A look at the state after so many calls of the sequence, which is not played yet.
-    Look(usize, Look),
-}
-
-/// What is asked about a state without changing it.
-enum Look {
-    Dump,
-    /// The sheet as a CIF file with this block name, on so many lent bytes.
-    File {
-        block: Vec<u8>,
-        room: usize,
-    },
-}
-
-impl Look {
-    fn answer(&self, program: &dyn Program, state: &State) -> String {
-        match self {
-            Look::Dump => dump(state),
-            Look::File { block, room } => {
-                let mut out = vec![0; *room];
-                let filed = program.file(&state.desk, block, &mut out);
-                out.truncate(filed.count as usize);
-                format!("{} {} {}", filed.answer, filed.count, hex(&out))
-            }
-        }
-    }
-}
-
-/// Who keeps the desk that the commands are about.
-trait Keeper {
-    /// A fresh desk and a log. Every reply was settled before.
-    fn fresh(&mut self, length: usize, seed: u64);
-    fn call(&mut self, call: Call) -> Reply;
-    fn look(&mut self, look: Look) -> Reply;
-    /// Makes every reply known.
-    fn settle(&mut self, replies: &mut [Reply]);
-}
-
-/// Answers every command of the input by a program's player.
-pub fn run_played(program: &dyn Program, input: impl Read, output: impl Write) -> IoResult<()> {
-    run(program, Played::new(program), input, output)
-}
-
-/// Answers every command of the input by the reference, call by call.
-pub fn run_stepped(input: impl Read, output: impl Write) -> IoResult<()> {
-    run(&Reference, Stepped::new(), input, output)
-}
-
-/// The answers are settled and handed on whenever the input pauses: when no further whole line has
-/// come with the last one.
-fn run(
-    program: &dyn Program,
-    mut keeper: impl Keeper,
-    input: impl Read,
-    mut output: impl Write,
-) -> IoResult<()> {
+/// Answers every command of the input by a program. The answers are handed on whenever the input
+/// pauses: when no further whole line has come with the last one.
+pub fn run(program: &dyn Program, input: impl Read, mut output: impl Write) -> IoResult<()> {
     let mut input = BufReader::with_capacity(BUFFER, input);
-    let (mut command, mut replies) = (vec![], vec![]);
+    let (mut command, mut memory) = (vec![], Memory::zeros(&[]));
     while input.read_until(b'\n', &mut command)? > 0 {
-        let text = String::from_utf8_lossy(&command);
-        let reply = answer(program, &mut keeper, &mut replies, &text);
-        replies.push(reply.unwrap_or_else(|fault| Reply::Known(format!("error: {fault}"))));
+        let reply = answer(program, &mut memory, &String::from_utf8_lossy(&command));
+        writeln!(output, "{}", reply.unwrap_or_else(|fault| format!("error: {fault}")))?;
         command.clear();
         if !input.buffer().contains(&b'\n') {
-            keeper.settle(&mut replies);
-            for reply in replies.drain(..) {
-                if let Reply::Known(line) = reply {
-                    writeln!(output, "{line}")?;
-                }
-            }
             output.flush()?;
         }
     }
-    Ok(())
+    output.flush()
 }
 
-/// The reply to one command; `none` for one that is not there.
-fn answer(
-    program: &dyn Program,
-    keeper: &mut dyn Keeper,
-    before: &mut [Reply],
-    command: &str,
-) -> Result<Reply, String> {
+/// The reply to one command; `none` for one that is not there. A sheet and a profile are given and
+/// ignored.
+fn answer(program: &dyn Program, memory: &mut Memory, command: &str) -> Result<String, String> {
     let words: Vec<&str> = command.split_ascii_whitespace().collect();
     let [command, ref arguments @ ..] = words[..] else {
-        return Ok(Reply::Known("none".into()));
+        return Ok("none".into());
     };
-    Ok(match command {
+    let call = match command {
         "line" => {
             let [line] = named(arguments, ["HEX"])?;
-            Reply::Known(program.classify(&bytes(1, line)?).to_string())
+            return Ok(program.classify(&bytes(1, line)?).to_string());
         }
         "grade" => {
             let [row, value] = named(arguments, ["ROW", "HEX"])?;
             let graded = program.grade(number(1, row)?, &bytes(2, value)?);
-            Reply::Known(format!("{} {}", graded.answer, graded.level))
+            return Ok(format!("{} {}", graded.answer, graded.level));
         }
         "new" => {
             let [length, seed] = named(arguments, ["LEN", "SEED"])?;
             let (length, seed) = (up_to(1, length, LONGEST_LOG)?, number(2, seed)?);
-            keeper.settle(before);
-            keeper.fresh(length as usize, seed);
-            Reply::Known("ok".into())
+            return fresh(program, memory, length as usize, seed);
         }
         "dump" => {
             let [] = named(arguments, [])?;
-            keeper.look(Look::Dump)
+            return Ok(dump(memory));
         }
         "cif" => {
             let [sheet, block, room] = named(arguments, ["SHEET", "NAMEHEX", "ROOM"])?;
             number(1, sheet)?;
             let (block, room) = (bytes(2, block)?, up_to(3, room, MOST_ROOM)? as usize);
-            keeper.look(Look::File { block, room })
+            return Ok(file(program, memory, &block, room));
         }
-        "k" | "report" | "who" => keeper.call(call(command, arguments)?),
-        _ => Reply::Known("none".into()),
-    })
-}
-
-/// A key or a question. A sheet and a profile are given and ignored.
-fn call(command: &str, arguments: &[&str]) -> Result<Call, String> {
-    match command {
         "k" => {
             let [bench, byte] = named(arguments, ["BENCH", "BYTE"])?;
             let byte = up_to(2, byte, u8::MAX.into())? as u8;
-            Ok(Call::Key { bench: number(1, bench)?, byte })
+            Call::Key { bench: number(1, bench)?, byte }
         }
         "report" => {
             let [sheet, profile] = named(arguments, ["SHEET", "PROFILE"])?;
             number(1, sheet)?;
             number(2, profile)?;
-            Ok(Call::Report)
+            Call::Report
         }
-        _ => {
+        "who" => {
             let [sheet, item] = named(arguments, ["SHEET", "ITEM"])?;
             number(1, sheet)?;
-            Ok(Call::Who { item: number(2, item)? })
+            Call::Who { item: number(2, item)? }
         }
+        _ => return Ok("none".into()),
+    };
+    Ok(told(&program.call(memory, &call)))
+}
+
+/// A fresh desk in the memory of the last one, and a log.
+fn fresh(
+    program: &dyn Program,
+    memory: &mut Memory,
+    length: usize,
+    seed: u64,
+) -> Result<String, String> {
+    memory.log = State::fresh(length, seed).log.into();
+    match program.fresh(memory) {
+        0 => Ok("ok".into()),
+        answer => Err(format!("desk_fresh gave {answer}")),
     }
+}
+
+/// The answer to the sheet as a CIF file with this block name, on so many lent bytes.
+fn file(program: &dyn Program, memory: &Memory, block: &[u8], room: usize) -> String {
+    let mut out = vec![0; room];
+    let filed = program.file(memory, block, &mut out);
+    out.truncate(filed.count);
+    format!("{} {} {}", filed.answer, filed.count, hex(&out))
 }
 
 /// An answer as it is printed.
 fn told(answer: &Answer) -> String {
     match answer {
-        Answer::Key { answer } => answer.to_string(),
-        Answer::Report { answer, rows } => {
-            let rows = rows.iter().map(|row| format!(" {}/{}", row.level, row.reason));
-            format!("{answer}{}", rows.collect::<String>())
+        Answer::Key(answer) => answer.to_string(),
+        Answer::Report(reported) => {
+            let rows = reported.rows.iter().map(|row| format!(" {}/{}", row.level, row.reason));
+            format!("{}{}", reported.answer, rows.collect::<String>())
         }
-        Answer::Who { answer, bench, entry } => format!("{answer} {bench} {entry}"),
+        Answer::Who(told) => format!("{} {} {}", told.answer, told.bench, told.entry),
     }
 }
 
 /// The whole state. A length beyond the limit shows the bytes that there are.
-fn dump(state: &State) -> String {
+fn dump(memory: &Memory) -> String {
     let shown = |bytes: &[u8], len: u64| {
         let len = usize::try_from(len).unwrap_or(usize::MAX).min(bytes.len());
         digits(&bytes[..len])
     };
-    let State { desk, log, used } = state;
+    let (desk, used) = held(memory).expect("the memory is a desk's");
     let lines = desk.lines.each_ref().map(|line| shown(&line.bytes, line.len)).join(",");
-    let filled = (1..).zip(&desk.sheet.items).filter(|(_, item)| item.len > 0);
+    let filled = (1..).zip(&desk.items).filter(|(_, item)| item.len > 0);
     let items: Vec<String> = filled
         .map(|(number, item)| {
             let (bench, entry, value) = (item.bench, item.entry, shown(&item.value, item.len));
             format!("0:{number}:{bench}:{entry}:0:{value}")
         })
         .collect();
-    let (count, items, log) = (desk.sheet.count, items.join(";"), digits(log));
+    let (count, items, log) = (desk.count, items.join(";"), digits(&memory.log));
     format!("lines={lines} counts={count} items={items} used={used} log={log}")
 }
 

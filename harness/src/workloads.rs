@@ -1,21 +1,20 @@
 //! What is measured: the same inputs for both programs, each of which holds them in its own form.
 
-use crate::boundary::{Desk, Sheet};
-use crate::by_reference::{held, Reference};
-use crate::desks::{longest_value, State};
-use crate::files::{Files, LONG_ROOM};
+use crate::boundary::{Memory, DESK_FILE};
+use crate::by_reference::Reference;
+use crate::desks::{in_memory, longest_value, State};
+use crate::files::Files;
 use crate::inputs::{Inputs, ROWS};
-use crate::program::Program;
+use crate::memory::put;
+use crate::program::{Answer, Call, Program};
 use crate::proved::Proved;
 use crate::sequences::Sequences;
 use crate::session::Session;
 use crate::sheets::Sheets;
 use reference::cif_file::write_file;
-use reference::desk::{self, BENCHES, EMPTY, ENTER, LOG_FULL, LOG_LIMIT};
-use reference::encoded::{encode_call, length};
+use reference::desk::{self, Desk, BENCHES, EMPTY, ENTER, LOG_FULL, LOG_LIMIT};
 use reference::line::{split, ACCEPTED};
 use reference::names::{item, ITEMS};
-use reference::sequence::Call;
 use std::hint::black_box;
 
 const SEED: u64 = 1;
@@ -96,71 +95,63 @@ fn values(inputs: usize) -> (usize, Round) {
 /// Sheets, each with its twelve rows.
 fn reports(inputs: usize) -> (usize, Round) {
     let mut source = Sheets::new(SEED);
-    let sheets: Vec<Sheet> = (0..inputs).map(|_| source.sheet()).collect();
-    let round = move |side: Side| {
-        let program = side.program();
-        let levels = |sheet: &Sheet| {
-            program.rows(black_box(sheet)).rows.iter().map(|row| u64::from(row.level)).sum()
-        };
-        sheets.iter().map::<u64, _>(levels).sum()
-    };
-    (inputs, Box::new(round))
-}
-
-/// Keys of four benches at a sheet of which nine items are filled, each key a call. The reference
-/// keeps a desk of its own and changes it in place.
-fn keys(inputs: usize) -> (usize, Round) {
-    let (_, start) = nearly_full();
-    let keys = keys_from(&start, inputs);
-    let (mut state, mut log) = (start.clone(), start.log.clone());
+    let desks: Vec<Desk> = (0..inputs).map(|_| source.sheet()).collect();
+    let memories: Vec<Memory> = desks.iter().map(in_memory).collect();
     let round = move |side: Side| match side {
         Side::Proved => {
-            (state.desk, state.used) = (start.desk, start.used);
-            let answer = |&(bench, byte): &(u64, u8)| {
-                u64::from(state.key(&Proved, black_box(bench), byte).answer)
+            let levels = |memory: &Memory| {
+                Proved.report(black_box(memory)).rows.iter().map(|row| u64::from(row.level)).sum()
             };
-            keys.iter().map(answer).sum()
+            memories.iter().map::<u64, _>(levels).sum()
         }
         Side::Reference => {
-            let (mut desk, mut used) = (held(&start.desk), start.used);
-            let answer = |&(bench, byte): &(u64, u8)| {
-                u64::from(desk::key(&mut desk, &mut log, &mut used, black_box(bench), byte))
+            let levels = |desk: &Desk| {
+                desk::report(black_box(desk)).1.iter().map(|row| u64::from(row.level)).sum()
             };
-            keys.iter().map(answer).sum()
+            desks.iter().map::<u64, _>(levels).sum()
         }
     };
     (inputs, Box::new(round))
 }
 
-/// The same keys, after those that fill the nine items, played as one sequence.
-fn session(inputs: usize) -> (usize, Round) {
-    let (first, start) = nearly_full();
-    let keys = [first, keys_from(&start, inputs)].concat();
-    let calls = keys.iter().map(|&(bench, byte)| Call::Key { bench, byte });
-    (keys.len(), played(vec![calls.flat_map(|call| encode_call(&call)).collect()], LOG_LIMIT))
+/// Keys of four benches at a sheet of which nine items are filled, each key a call.
+fn keys(inputs: usize) -> (usize, Round) {
+    let (_, start) = nearly_full();
+    let calls = keys_from(&start, inputs);
+    (inputs, played(start, vec![calls]))
 }
 
-/// Sequences of keys, Reports and Whos; their calls are the inputs.
+/// The same keys, after those that fill the nine items.
+fn session(inputs: usize) -> (usize, Round) {
+    let (first, start) = nearly_full();
+    let calls = [first, keys_from(&start, inputs)].concat();
+    (calls.len(), played(State::fresh(LOG_LIMIT, SEED), vec![calls]))
+}
+
+/// Sequences of keys, Reports and Whos, each on a fresh desk; their calls are the inputs.
 fn sequences(inputs: usize) -> (usize, Round) {
     let mut source = Sequences::new(SEED);
-    let sequence = |_| source.calls(CALLS, LOG).iter().flat_map(encode_call).collect();
-    let sequences: Vec<Vec<u8>> = (0..inputs.div_ceil(CALLS)).map(sequence).collect();
-    (CALLS * sequences.len(), played(sequences, LOG))
+    let sequences: Vec<Vec<Call>> =
+        (0..inputs.div_ceil(CALLS)).map(|_| source.calls(CALLS, LOG)).collect();
+    (CALLS * sequences.len(), played(State::fresh(LOG, SEED), sequences))
 }
 
 /// Sound desks, each with its CIF file.
 fn files(inputs: usize) -> (usize, Round) {
     let mut source = Files::new(SEED);
-    let desks: Vec<(Desk, Vec<u8>)> =
-        (0..inputs).map(|at| (source.desk(), source.name_of(1 + at % 32))).collect();
-    let own: Vec<desk::Desk> = desks.iter().map(|(desk, _)| held(desk)).collect();
-    let mut out = [0; LONG_ROOM];
+    let desks: Vec<(Desk, Memory, Vec<u8>)> = (0..inputs)
+        .map(|at| {
+            let desk = source.desk();
+            (desk, in_memory(&desk), source.name_of(1 + at % 32))
+        })
+        .collect();
+    let mut out = [0; DESK_FILE];
     let round = move |side: Side| {
         let mut sum = 0;
-        for ((desk, block), own) in desks.iter().zip(&own) {
+        for (desk, memory, block) in &desks {
             sum += match side {
-                Side::Proved => Proved.file(black_box(desk), block, &mut out).count,
-                Side::Reference => write_file(black_box(own), block, &mut out).1,
+                Side::Proved => Proved.file(black_box(memory), block, &mut out).count as u64,
+                Side::Reference => write_file(black_box(desk), block, &mut out).1,
             };
             black_box(&out);
         }
@@ -169,23 +160,54 @@ fn files(inputs: usize) -> (usize, Round) {
     (inputs, Box::new(round))
 }
 
-/// Plays encoded sequences, each on a fresh desk.
-fn played(sequences: Vec<Vec<u8>>, log: usize) -> Round {
-    let longest =
-        sequences.iter().map(Vec::len).max().unwrap_or(0) / encode_call(&Call::Report).len();
-    let (mut log, mut out) = (vec![0; log], vec![0; length(longest)]);
+/// Plays each sequence on the same desk and log as they were at first; a sum of the answers' numbers
+/// and of what they tell. Each program keeps the desk in its own form and changes it in place.
+fn played(start: State, sequences: Vec<Vec<Call>>) -> Round {
+    let (mut memory, mut state) = (start.memory(), start.clone());
     Box::new(move |side| {
         let mut sum = 0;
         for calls in &sequences {
-            sum += side.program().play(black_box(calls), &mut log, &mut out).written;
-            black_box(&out);
+            match side {
+                Side::Proved => {
+                    put(&mut memory, &start.desk, start.used);
+                    sum += calls
+                        .iter()
+                        .map(|call| told(&Proved.call(&mut memory, black_box(call))))
+                        .sum::<u64>();
+                }
+                Side::Reference => {
+                    (state.desk, state.used) = (start.desk, start.used);
+                    sum += calls
+                        .iter()
+                        .map(|call| by_own_desk(&mut state, black_box(call)))
+                        .sum::<u64>();
+                }
+            }
         }
         sum
     })
 }
 
+/// A number that an answer comes to.
+fn told(answer: &Answer) -> u64 {
+    match answer {
+        Answer::Key(answer) => (*answer).into(),
+        Answer::Report(told) => told.rows.iter().map(|row| u64::from(row.level)).sum(),
+        Answer::Who(told) => told.entry as u64,
+    }
+}
+
+/// The same of the reference's answer.
+fn by_own_desk(state: &mut State, call: &Call) -> u64 {
+    match *call {
+        Call::Key { bench, byte } => state.key(bench, byte).into(),
+        Call::Report => desk::report(&state.desk).1.iter().map(|row| u64::from(row.level)).sum(),
+        Call::Who { item } => desk::who(&state.desk, item).2,
+    }
+}
+
 /// The keys by which the benches in turn fill all items but one, and what they leave.
-fn nearly_full() -> (Vec<(u64, u8)>, State) {
+fn nearly_full() -> (Vec<Call>, State) {
     let (mut sheets, mut state) = (Sheets::new(SEED), State::fresh(LOG_LIMIT, SEED));
     let mut keys = vec![];
     for item in (1..=ITEMS.len()).filter(|&item| item != LEFT_EMPTY) {
@@ -194,27 +216,28 @@ fn nearly_full() -> (Vec<(u64, u8)>, State) {
             value = sheets.value(item);
         }
         let line = [ITEMS[item - 1].0.as_bytes(), b" ", &value, &[ENTER]].concat();
-        keys.extend(line.into_iter().map(|byte| ((item % BENCHES) as u64, byte)));
-    }
-    for &(bench, byte) in &keys {
-        assert_eq!(state.key(&Reference, bench, byte).answer, ACCEPTED);
+        for byte in line {
+            let bench = (item % BENCHES) as u64;
+            assert_eq!(state.key(bench, byte), ACCEPTED);
+            keys.push(Call::Key { bench, byte });
+        }
     }
     (keys, state)
 }
 
 /// So many keys of four benches with slips and corrections. A line that names the item left empty
 /// is emptied instead of entered.
-fn keys_from(start: &State, count: usize) -> Vec<(u64, u8)> {
+fn keys_from(start: &State, count: usize) -> Vec<Call> {
     let (mut session, mut state) = (Session::new(SEED), start.clone());
     let key = |_| {
-        let (bench, typed) = session.call(&state.desk);
+        let (bench, typed) = session.call(&state.lengths());
         let byte =
             if typed == ENTER && names_left_empty(&state.desk, bench) { EMPTY } else { typed };
-        assert_ne!(state.key(&Reference, bench, byte).answer, LOG_FULL);
-        (bench, byte)
+        assert_ne!(state.key(bench, byte), LOG_FULL);
+        Call::Key { bench, byte }
     };
     let keys = (0..count).map(key).collect();
-    assert_eq!(state.desk.sheet.items.iter().filter(|item| item.len > 0).count(), ITEMS.len() - 1);
+    assert_eq!(state.desk.items.iter().filter(|item| item.len > 0).count(), ITEMS.len() - 1);
     keys
 }
 

@@ -42,13 +42,25 @@ pub struct Line {
     pub len: u64,
 }
 
+impl Line {
+    pub fn holding(text: &[u8]) -> Self {
+        Line { bytes: padded(text), len: text.len() as u64 }
+    }
+}
+
 /// One item of the sheet; empty where its length is 0.
 #[derive(Clone, Copy, Debug, PartialEq, Eq)]
 pub struct Item {
     pub value: [u8; LIMIT],
     pub len: u64,
-    pub bench: u8,
     pub entry: u64,
+    pub bench: u64,
+}
+
+impl Item {
+    pub fn holding(value: &[u8], entry: u64, bench: u64) -> Self {
+        Item { value: padded(value), len: value.len() as u64, entry, bench }
+    }
 }
 
 /// The desk without its log. Any values may stand in the fields, those of an unsound desk too.
@@ -60,7 +72,7 @@ pub struct Desk {
 }
 
 const EMPTY_LINE: Line = Line { bytes: [0; LIMIT], len: 0 };
-const EMPTY_ITEM: Item = Item { value: [0; LIMIT], len: 0, bench: 0, entry: 0 };
+const EMPTY_ITEM: Item = Item { value: [0; LIMIT], len: 0, entry: 0, bench: 0 };
 
 /// "A fresh desk has all of this empty."
 pub const FRESH: Desk =
@@ -98,7 +110,7 @@ fn item_is_sound(number: usize, item: &Item, count: u64) -> bool {
     let Some(value) = used_bytes(&item.value, item.len) else {
         return false;
     };
-    usize::from(item.bench) < BENCHES
+    item.bench < BENCHES as u64
         && (1..=count).contains(&item.entry)
         && printable(value)
         && passes(number, value)
@@ -129,10 +141,10 @@ pub fn key(desk: &mut Desk, log: &mut [u8], used: &mut u64, bench: u64, byte: u8
     let line = &mut desk.lines[bench as usize];
     let len = line.len as usize;
     match byte {
-        ENTER => return enter(desk, log, used, bench as u8),
+        ENTER => return enter(desk, log, used, bench),
         EMPTY => *line = EMPTY_LINE,
         ERASE if len == 0 => {}
-        ERASE => *line = Line { bytes: padded(&line.bytes[..len - 1]), len: line.len - 1 },
+        ERASE => *line = Line::holding(&line.bytes[..len - 1]),
         _ if !BYTES.contains(&byte) => return NO_SUCH_KEY,
         _ if len == LIMIT => return LINE_FULL,
         _ => {
@@ -144,15 +156,15 @@ pub fn key(desk: &mut Desk, log: &mut [u8], used: &mut u64, bench: u64, byte: u8
 }
 
 /// "An accepted Enter stores the value, writes the log record and empties that line."
-fn enter(desk: &mut Desk, log: &mut [u8], used: &mut u64, bench: u8) -> u8 {
-    let Line { bytes, len } = desk.lines[usize::from(bench)];
+fn enter(desk: &mut Desk, log: &mut [u8], used: &mut u64, bench: u64) -> u8 {
+    let Line { bytes, len } = desk.lines[bench as usize];
     let typed = &bytes[..len as usize];
     let refusal = classify(typed);
     let (ACCEPTED, Some((name, value))) = (refusal, split(typed)) else {
         return refusal;
     };
     let number = item(name).expect("an accepted line names an item");
-    let record = record(bench, number as u8, value);
+    let record = record(bench as u8, number as u8, value);
     let free = &mut log[*used as usize..];
     if record.len() > free.len() {
         return LOG_FULL;
@@ -160,9 +172,8 @@ fn enter(desk: &mut Desk, log: &mut [u8], used: &mut u64, bench: u8) -> u8 {
     free[..record.len()].copy_from_slice(&record);
     *used += record.len() as u64;
     desk.count += 1;
-    desk.items[number - 1] =
-        Item { value: padded(value), len: value.len() as u64, bench, entry: desk.count };
-    desk.lines[usize::from(bench)] = EMPTY_LINE;
+    desk.items[number - 1] = Item::holding(value, desk.count, bench);
+    desk.lines[bench as usize] = EMPTY_LINE;
     ACCEPTED
 }
 
@@ -173,16 +184,17 @@ pub fn record(bench: u8, item: u8, value: &[u8]) -> Vec<u8> {
     [&length.to_le_bytes(), &RECORD_KIND.to_le_bytes(), &[bench, item][..], value].concat()
 }
 
+/// The values of a desk whose lengths are at most 80, as typed.
+pub fn values(desk: &Desk) -> Values<'_> {
+    desk.items.each_ref().map(|item| &item.value[..item.len as usize])
+}
+
 /// The question *Report*: "on an unsound desk it gives 2 and rows all level 0, reason 0".
 pub fn report(desk: &Desk) -> (u8, [Row; ROWS]) {
     if !is_sound(desk) {
         return (NOT_SOUND, [Row::default(); ROWS]);
     }
-    let values: Values = std::array::from_fn(|place| {
-        let item = &desk.items[place];
-        &item.value[..item.len as usize]
-    });
-    (ACCEPTED, rows(&values))
+    (ACCEPTED, rows(&values(desk)))
 }
 
 /// The question *Who*: answer, bench and entry number.
@@ -195,7 +207,7 @@ pub fn who(desk: &Desk, item: u64) -> (u8, u8, u64) {
     }
     match desk.items[item as usize - 1] {
         EMPTY_ITEM => (ACCEPTED, NO_BENCH, 0),
-        Item { bench, entry, .. } => (ACCEPTED, bench, entry),
+        Item { bench, entry, .. } => (ACCEPTED, bench as u8, entry),
     }
 }
 
@@ -356,7 +368,7 @@ mod tests {
         assert_eq!(run.enter(1, ENTRY), ACCEPTED);
         run.text(0, "_a");
         let grown = run.desk;
-        let changes: [fn(&mut Desk); 24] = [
+        let changes: [fn(&mut Desk); 25] = [
             |desk| desk.lines[0].len = 81,
             |desk| desk.lines[0].len = 3,
             |desk| desk.lines[0].len = 1,
@@ -365,6 +377,7 @@ mod tests {
             |desk| desk.lines[0].bytes[1] = 127,
             |desk| desk.lines[1].bytes[79] = 1,
             |desk| desk.items[3].bench = 4,
+            |desk| desk.items[3].bench = 1 + 256,
             |desk| desk.items[3].entry = 0,
             |desk| desk.items[3].entry = 2,
             |desk| desk.items[3].len = 5,
@@ -401,8 +414,7 @@ mod tests {
             let number = item(name.as_bytes()).expect("a known name");
             let filled = |length: usize| {
                 let mut desk = Desk { count: 1, ..FRESH };
-                let value = padded("x".repeat(length).as_bytes());
-                desk.items[number - 1] = Item { value, len: length as u64, bench: 3, entry: 1 };
+                desk.items[number - 1] = Item::holding("x".repeat(length).as_bytes(), 1, 3);
                 desk
             };
             assert!(is_sound(&filled(length)));

@@ -7,7 +7,6 @@
 
 pub mod cif_file;
 pub mod desk;
-pub mod encoded;
 pub mod formula;
 pub mod grade;
 pub mod line;

@@ -1,7 +1,6 @@
 //! Sequences of calls: document 01, "Sequences of calls".
 
-use crate::desk::{key, report, who, Desk, ENTER, FRESH};
-use crate::rows::{Row, ROWS};
+use crate::desk::ENTER;
 use std::collections::HashMap;
 
 /// "key calls, with any bench number and byte, and Report and Who, whatever they are given"
@@ -10,45 +9,6 @@ pub enum Call {
     Key { bench: u64, byte: u8 },
     Report,
     Who { item: u64 },
-}
-
-/// A call's whole answer.
-#[derive(Clone, Copy, Debug, PartialEq, Eq)]
-pub enum Answer {
-    Key { answer: u8 },
-    Report { answer: u8, rows: [Row; ROWS] },
-    Who { answer: u8, bench: u8, entry: u64 },
-}
-
-/// Each call's answer, and the desk and the used number at the end.
-#[derive(Clone, Debug, PartialEq, Eq)]
-pub struct Played {
-    pub answers: Vec<Answer>,
-    pub desk: Desk,
-    pub used: u64,
-}
-
-/// "It starts from a fresh desk and a log of any length and content, none used. Each call gets the
-/// desk and log as the last one left them"
-pub fn play(calls: &[Call], log: &mut [u8]) -> Played {
-    let (mut desk, mut used) = (FRESH, 0);
-    let answers = calls.iter().map(|call| answer(&mut desk, log, &mut used, call)).collect();
-    Played { answers, desk, used }
-}
-
-/// One call.
-pub fn answer(desk: &mut Desk, log: &mut [u8], used: &mut u64, call: &Call) -> Answer {
-    match *call {
-        Call::Key { bench, byte } => Answer::Key { answer: key(desk, log, used, bench, byte) },
-        Call::Report => {
-            let (answer, rows) = report(desk);
-            Answer::Report { answer, rows }
-        }
-        Call::Who { item } => {
-            let (answer, bench, entry) = who(desk, item);
-            Answer::Who { answer, bench, entry }
-        }
-    }
 }
 
 /// The places of the calls in gathered order: each bench's keys other than Enter directly before
@@ -77,8 +37,50 @@ pub fn gathered(calls: &[Call]) -> Vec<usize> {
 #[cfg(test)]
 mod tests {
     use super::*;
-    use crate::desk::{record, ERASE, NO_BENCH};
+    use crate::desk::{self, record, report, who, Desk, ERASE, FRESH, NO_BENCH};
     use crate::line::ACCEPTED;
+    use crate::rows::{Row, ROWS};
+
+    /// A call's whole answer.
+    #[derive(Clone, Copy, Debug, PartialEq, Eq)]
+    enum Answer {
+        Key { answer: u8 },
+        Report { answer: u8, rows: [Row; ROWS] },
+        Who { answer: u8, bench: u8, entry: u64 },
+    }
+
+    /// Each call's answer, and the desk and the used number at the end.
+    #[derive(Clone, Debug, PartialEq, Eq)]
+    struct Played {
+        answers: Vec<Answer>,
+        desk: Desk,
+        used: u64,
+    }
+
+    /// "It starts from a fresh desk and a log of any length and content, none used. Each call gets the
+    /// desk and log as the last one left them"
+    fn play(calls: &[Call], log: &mut [u8]) -> Played {
+        let (mut desk, mut used) = (FRESH, 0);
+        let answers = calls.iter().map(|call| answer(&mut desk, log, &mut used, call)).collect();
+        Played { answers, desk, used }
+    }
+
+    /// One call.
+    fn answer(desk: &mut Desk, log: &mut [u8], used: &mut u64, call: &Call) -> Answer {
+        match *call {
+            Call::Key { bench, byte } => {
+                Answer::Key { answer: desk::key(desk, log, used, bench, byte) }
+            }
+            Call::Report => {
+                let (answer, rows) = report(desk);
+                Answer::Report { answer, rows }
+            }
+            Call::Who { item } => {
+                let (answer, bench, entry) = who(desk, item);
+                Answer::Who { answer, bench, entry }
+            }
+        }
+    }
 
     fn key(bench: u64, byte: u8) -> Call {
         Call::Key { bench, byte }

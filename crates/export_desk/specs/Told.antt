@@ -5,7 +5,11 @@ use mathlib.Core.Bool.{cond}
 use mathlib.Core.List.{List}
 use lib.ListN.{replicate}
 use Rattle.desk_memory.specs.Memory.{textsLength, numbersLength, isDesk}
+use Rattle.desk_questions.specs.Report.{Report, reportedAs}
+use Rattle.desk_questions.specs.Who.{Who}
 use Rattle.file_cif.specs.Answers.{Filing}
+use Rattle.export_desk.specs.declared.DeskReported.{DeskReported}
+use Rattle.export_desk.specs.declared.DeskTold.{DeskTold}
 use Rattle.export_desk.specs.declared.DeskFiled.{DeskFiled}
 
 -- everything that making a desk fresh leaves: the answer's number, and the whole of the memory
@@ -20,6 +24,14 @@ freshened a t n = record { answer = a; texts = t; numbers = n }
 -- zeros, which are a fresh desk; memory that is no desk gets 2 and stays as it is
 unfoldable pub freshLent : List ℕ → List ℕ → Freshened
 freshLent t n = cond (isDesk t n) (freshened 0 (replicate textsLength 0) (replicate numbersLength 0)) (freshened 2 t n)
+
+-- what the report told
+abbrev pub reportTold : DeskReported → Report
+reportTold r = reportedAs (r .answer) (r .rows)
+
+-- what Who told
+abbrev pub whoTold : DeskTold → Who
+whoTold r = record { answer = r .answer; entry = r .entry; bench = r .bench }
 
 -- what the writer told, and what the lent bytes then hold
 abbrev pub filingTold : DeskFiled → List ℕ → Filing

@@ -1,7 +1,26 @@
 // The desk for C programs: include/desk.h declares these functions.
 ghost use mathlib.Core.Path.{_≡_};
+ghost use Rattle.desk_keys.specs.Lent.{KeyLent};
+ghost use Rattle.desk_questions.specs.Report.{reportLent};
+ghost use Rattle.desk_questions.specs.Who.{whoLent};
 ghost use Rattle.file_cif.specs.Answers.{fileLent};
-ghost use Rattle.export_desk.specs.Told.{freshened, freshLent, filingTold};
+ghost use Rattle.export_desk.specs.Told.{freshened, freshLent, reportTold, whoTold, filingTold};
+use rows::Rows;
+
+// The number of the answer, and the rows.
+#[repr(C)]
+pub struct DeskReported {
+    pub answer: u8,
+    pub rows: Rows,
+}
+
+// The item's last entry, the number of the answer, and the item's bench.
+#[repr(C)]
+pub struct DeskTold {
+    pub entry: usize,
+    pub answer: u8,
+    pub bench: u8,
+}
 
 // How many bytes were written, and the number of the answer.
 #[repr(C)]
@@ -20,6 +39,48 @@ pub extern "C" fn desk_fresh(texts: &mut [u8], numbers: &mut [usize]) -> u8
     }
     desk_memory::fresh(texts, numbers);
     0
+}
+
+// One key of a bench; the number of the answer.
+#[no_mangle]
+pub extern "C" fn desk_key(
+    texts: &mut [u8],
+    numbers: &mut [usize],
+    log: &mut [u8],
+    bench: u64,
+    byte: u8,
+) -> u8
+    ensures { λ r. ⌜ KeyLent (now (texts .entry)) (now (numbers .entry)) (now (log .entry)) bench byte r (now (texts .exit)) (now (numbers .exit)) (now (log .exit)) ⌝ }
+{
+    desk_answers::answer_number(desk_keys::key(texts, numbers, log, bench, byte))
+}
+
+// The twelve rows of the sheet.
+#[no_mangle]
+pub extern "C" fn desk_report(texts: &[u8], numbers: &[usize]) -> DeskReported
+    ensures { λ r. ⌜ reportTold r ≡ reportLent (now (texts .entry)) (now (numbers .entry)) ⌝ }
+{
+    let reported = desk_questions::report::report(texts, numbers);
+    let answer = reported.answer;
+    let rows = reported.rows;
+    DeskReported {
+        answer: desk_answers::asked_number(answer),
+        rows,
+    }
+}
+
+// Who typed an item.
+#[no_mangle]
+pub extern "C" fn desk_who(texts: &[u8], numbers: &[usize], item: u64) -> DeskTold
+    ensures { λ r. ⌜ whoTold r ≡ whoLent (now (texts .entry)) (now (numbers .entry)) item ⌝ }
+{
+    let told = desk_questions::who::who(texts, numbers, item);
+    let answer = told.answer;
+    DeskTold {
+        entry: told.entry,
+        answer: desk_answers::asked_number(answer),
+        bench: told.bench,
+    }
 }
 
 // The sheet as a CIF file, at the start of out.

@@ -9,12 +9,12 @@ ghost use Rattle.desk_memory.specs.Memory.{itemIn, sheetFrom};
 ghost use Rattle.file_cif.specs.File.{ended, itemText, itemLine, fileOf};
 ghost use Rattle.file_cif.specs.Answers.{filingOf, fileLent};
 use crate::length::lines_length;
+use desk_answers::FileAnswer;
 use desk_memory::LEN_AT;
 use desk_memory::SHEETS_AT;
 use desk_memory::TEXTS;
 use desk_memory::USED_AT;
 use desk_state::desk::BENCH_COUNT;
-use desk_answers::FileAnswer;
 use line_items::ITEM_COUNT;
 
 // The answer, and how many bytes were written.

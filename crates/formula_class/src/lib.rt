@@ -1,9 +1,9 @@
 // The class of a formula by its elements (document 01, "The twelve rows": row 3).
 ghost use mathlib.Core.Path.{_≡_};
 ghost use Rattle.formula_class.specs.Class.{isWanted, hasTerm, formulaClass};
-use line_categories::Class;
 use formula_terms::Step;
 use formula_terms::term::Term;
+use line_categories::Class;
 
 // What is looked for among the terms of a formula: a symbol, or that of any metal.
 pub enum Wanted {

@@ -4,12 +4,12 @@ ghost use Prim.Native.Nat.{_<_, _+_};
 ghost use Rattle.number_decimal.specs.Reading.{isNumber};
 ghost use Rattle.line_items.specs.Items.{itemCount, itemRow};
 ghost use Rattle.line_kinds.specs.Kinds.{ofKind, passes, fits};
-use number_decimal::Reading;
 use line_items::FIRST_TYPED;
 use line_items::ITEM_COUNT;
 use line_items::Kind;
 use line_items::LAST_TYPED;
 use line_items::LINE_MOST;
+use number_decimal::Reading;
 
 // The kinds of the items: t text, n number, c category.
 const KINDS: [u8; 10] = *b"tncnnnnnnt";

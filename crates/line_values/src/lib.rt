@@ -18,7 +18,8 @@ fn is_reserved(s: &[u8]) -> bool
     text_equality::begins_folded(s, b"data_")
         | (text_equality::begins_folded(s, b"save_")
             | (text_equality::same_folded(s, b"loop_")
-                | (text_equality::same_folded(s, b"stop_") | text_equality::same_folded(s, b"global_"))))
+                | (text_equality::same_folded(s, b"stop_")
+                    | text_equality::same_folded(s, b"global_"))))
 }
 
 // Whether s is a bare value.

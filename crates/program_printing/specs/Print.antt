@@ -10,6 +10,7 @@ use Rattle.text_copies.specs.Each.{linesFrom}
 use Rattle.desk_state.specs.Sheets.{valueIn}
 use Rattle.desk_state.specs.declared.sheet.Item.{Item}
 use Rattle.desk_state.specs.declared.desk.Desk.{Desk}
+use Rattle.desk_memory.specs.Memory.{isDesk, deskOf}
 use Rattle.rows.specs.Rows.{rowCount}
 use Rattle.rows.specs.declared.Row.{Row}
 use Rattle.desk_questions.specs.Report.{reportedOf}
@@ -79,6 +80,10 @@ printedItem k i = cond (eqb (i .len) 0) [] (filledLine k i)
 -- the whole text: a head with the number of rows, the rows of the report, the filled items
 unfoldable pub printedOf : Desk → List ℕ
 printedOf d = line (bytes "REPORT " ∷ twoDigits rowCount ∷ []) ++ (linesFrom rowLine 1 (reportedOf d .rows .rows) ++ linesFrom printedItem 1 (d .sheet .items))
+
+-- of the desk in lent memory; nothing for memory that is no desk
+unfoldable pub printedLent : List ℕ → List ℕ → List ℕ
+printedLent t n = cond (isDesk t n) (printedOf (deskOf t n)) []
 
 -- what the printing of a text answers: how many bytes it is, or that `out` is shorter
 unfoldable pub printedIn : List ℕ → List ℕ → Printed

@@ -3,13 +3,12 @@
 ghost use mathlib.Core.Path.{_≡_};
 ghost use Prim.Native.Nat.{_+_, _*_, _≤_, _<_};
 ghost use lib.ListN.{length};
-ghost use Rattle.line_items.specs.Typed.{lineMost};
 ghost use Rattle.line_items.specs.Items.{itemCount};
-ghost use Rattle.desk_state.specs.Sheets.{valueIn};
+ghost use Rattle.desk_memory.specs.Memory.{itemIn, sheetFrom};
 ghost use Rattle.rows.specs.Rows.{rowCount};
 ghost use Rattle.text_copies.specs.Each.{linesFrom};
 ghost use Rattle.program_printing.specs.Page.{pageMost, rowNameMost, rowLineMost, printedItemMost, pageText, Adds};
-ghost use Rattle.program_printing.specs.Print.{rowName, levelLetter, rowLine, filledLine, printedItem, printedOf, printedIn};
+ghost use Rattle.program_printing.specs.Print.{rowName, levelLetter, rowLine, filledLine, printedItem, printedLent, printedIn};
 ghost use Rattle.text_copies.specs.Copy.{copied};
 
 mod page;
@@ -20,10 +19,15 @@ use crate::page::put;
 use crate::page::put_byte;
 use crate::page::put_decimal;
 use crate::page::put_two_digits;
-use desk_state::desk::Desk;
-use desk_state::sheet::Item;
-use desk_state::sheet::Sheet;
-use desk_state::sheet::value_length;
+use desk_memory::BENCH_AT;
+use desk_memory::ENTRY_AT;
+use desk_memory::LEN_AT;
+use desk_memory::SHEETS_AT;
+use desk_memory::TEXTS;
+use desk_memory::USED_AT;
+use desk_memory::number_at;
+use desk_memory::value_at;
+use desk_state::desk::BENCH_COUNT;
 use line_items::ITEM_COUNT;
 use rows::ROW_COUNT;
 use rows::Row;
@@ -116,70 +120,65 @@ fn put_rows(p: Page, rows: Rows) -> Page
     page
 }
 
-// The page with an item's value more.
-fn put_value(p: Page, item: Item) -> Page
-    requires { ⌜ p .len + lineMost ≤ pageMost ⌝ }
-    ensures { λ r. ⌜ Adds p (valueIn item) r × (r .len ≤ p .len + lineMost) ⌝ }
-{
-    let n = value_length(item);
-    let value = item.value;
-    put(p, &value[..n])
-}
-
-// The page with the line of the filled item k + 1 more.
-fn put_filled(p: Page, k: usize, item: Item) -> Page
+// The page with the line of the filled item k + 1 of a sheet's block more.
+fn put_filled(p: Page, k: usize, texts: &[u8], numbers: &[usize]) -> Page
     requires { ⌜ (p .len + printedItemMost ≤ pageMost) × (k < itemCount) ⌝ }
-    ensures { λ r. ⌜ Adds p (filledLine (k + 1) item) r × (r .len ≤ p .len + printedItemMost) ⌝ }
+    ensures { λ r. ⌜ Adds p (filledLine (k + 1) (itemIn (now (texts .entry)) (now (numbers .entry)) k)) r × (r .len ≤ p .len + printedItemMost) ⌝ }
 {
     let p1 = put(p, b"ITEM ");
     let p2 = put_two_digits(p1, k + 1);
     let p3 = put(p2, b" bench ");
-    let p4 = put_decimal(p3, wide(item.bench));
+    let p4 = put_decimal(p3, number_at(numbers, k, BENCH_AT));
     let p5 = put(p4, b" entry ");
-    let p6 = put_decimal(p5, item.entry);
+    let p6 = put_decimal(p5, number_at(numbers, k, ENTRY_AT));
     let p7 = put(p6, b" ");
-    let p8 = put_value(p7, item);
+    let p8 = put(p7, value_at(texts, numbers, k));
     put(p8, b"\n")
 }
 
-// The page with the line of item k + 1 more, where the item is filled.
-fn put_item(p: Page, k: usize, item: Item) -> Page
+// The page with the line of item k + 1 of a sheet's block more, where the item is filled.
+fn put_item(p: Page, k: usize, texts: &[u8], numbers: &[usize]) -> Page
     requires { ⌜ (p .len + printedItemMost ≤ pageMost) × (k < itemCount) ⌝ }
-    ensures { λ r. ⌜ Adds p (printedItem (k + 1) item) r × (r .len ≤ p .len + printedItemMost) ⌝ }
+    ensures { λ r. ⌜ Adds p (printedItem (k + 1) (itemIn (now (texts .entry)) (now (numbers .entry)) k)) r × (r .len ≤ p .len + printedItemMost) ⌝ }
 {
-    if item.len == 0 {
+    if number_at(numbers, k, LEN_AT) == 0 {
         return p;
     }
-    put_filled(p, k, item)
+    put_filled(p, k, texts, numbers)
 }
 
-// The page with all filled items more.
-fn put_items(p: Page, sheet: Sheet) -> Page
+// The page with all filled items of a sheet's block more.
+fn put_items(p: Page, texts: &[u8], numbers: &[usize]) -> Page
     requires { ⌜ p .len + printedItemMost * itemCount ≤ pageMost ⌝ }
-    ensures { λ r. ⌜ Adds p (linesFrom printedItem 1 (sheet .items)) r × (r .len ≤ p .len + printedItemMost * itemCount) ⌝ }
+    ensures { λ r. ⌜ Adds p (linesFrom printedItem 1 (sheetFrom (now (texts .entry)) (now (numbers .entry)) .items)) r × (r .len ≤ p .len + printedItemMost * itemCount) ⌝ }
 {
     let mut page = p;
     let mut i = 0;
     while i < ITEM_COUNT {
-        let item = sheet.items[i];
-        let next = put_item(page, i, item);
+        let next = put_item(page, i, texts, numbers);
         page = next;
         i += 1;
     }
     page
 }
 
-// The page of a desk's report.
-fn report_page(d: Desk) -> Page
-    ensures { λ r. ⌜ (pageText r ≡ printedOf d) × (r .len ≡ length (printedOf d)) × (r .len ≤ pageMost) ⌝ }
+// The page of the report of the desk in lent memory.
+fn report_page(texts: &[u8], numbers: &[usize]) -> Page
+    ensures { λ r. ⌜ (pageText r ≡ printedLent (now (texts .entry)) (now (numbers .entry))) × (r .len ≡ length (printedLent (now (texts .entry)) (now (numbers .entry)))) × (r .len ≤ pageMost) ⌝ }
 {
-    let reported = desk_questions::by_value::report(d);
-    let rows = reported.rows;
-    let sheet = d.sheet;
     let empty = crate::page::empty_page();
+    if !desk_memory::is_desk(texts, numbers) {
+        return empty;
+    }
+    let reported = desk_questions::report::report(texts, numbers);
+    let rows = reported.rows;
     let head = put(empty, b"REPORT 12\n");
     let with_rows = put_rows(head, rows);
-    put_items(with_rows, sheet)
+    put_items(
+        with_rows,
+        &texts[SHEETS_AT..TEXTS],
+        &numbers[BENCH_COUNT..USED_AT],
+    )
 }
 
 // Copies a page out, if there is room for it.
@@ -196,10 +195,10 @@ fn copy_out(p: Page, out: &mut [u8]) -> Printed
     Printed::Bytes(n)
 }
 
-// Prints the report of a desk at the start of out and says how many bytes it is; with no room for all of it, nothing. REPORT_MOST bytes are always room.
-pub fn print_report(d: Desk, out: &mut [u8]) -> Printed
-    ensures { λ r. ⌜ (r ≡ printedIn (now (out .entry)) (printedOf d)) × (now (out .exit) ≡ copied (now (out .entry)) 0 (printedOf d)) × (length (printedOf d) ≤ pageMost) ⌝ }
+// Prints the report of the desk in lent memory at the start of out and says how many bytes it is; with no room for all of it, nothing. REPORT_MOST bytes are always room.
+pub fn print_report(texts: &[u8], numbers: &[usize], out: &mut [u8]) -> Printed
+    ensures { λ r. ⌜ (r ≡ printedIn (now (out .entry)) (printedLent (now (texts .entry)) (now (numbers .entry)))) × (now (out .exit) ≡ copied (now (out .entry)) 0 (printedLent (now (texts .entry)) (now (numbers .entry)))) × (length (printedLent (now (texts .entry)) (now (numbers .entry))) ≤ pageMost) ⌝ }
 {
-    let page = report_page(d);
+    let page = report_page(texts, numbers);
     copy_out(page, out)
 }

@@ -1,10 +1,10 @@
 // Rows 6 to 11: values with a new and an old name (document 01, "The twelve rows").
 ghost use mathlib.Core.Path.{_≡_};
 ghost use Rattle.rows_graded.specs.GradedRows.{gradeRow, gradedRow, oldNameRow};
-use rows_levels::Graded;
 use rows::Row;
 use rows::is_missing;
 use rows::make_row;
+use rows_levels::Graded;
 
 fn row_of_grade(g: Graded) -> Row
     ensures { λ r. ⌜ r ≡ gradeRow g ⌝ }

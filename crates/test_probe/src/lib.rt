@@ -4,9 +4,9 @@ ghost use Rattle.number_decimal.specs.Reading.{readingOf};
 ghost use Rattle.line_items.specs.Items.{itemOf};
 ghost use Rattle.line_reader.specs.Line.{splitOf};
 ghost use Rattle.test_probe.specs.Probe.{numberTold, formTold, lineTold, itemTold};
+use line_items::Named;
 use line_reader::line::Split;
 use number_decimal::Reading;
-use line_items::Named;
 
 #[repr(C)]
 pub struct ProbeNumber {

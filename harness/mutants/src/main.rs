@@ -7,6 +7,8 @@
 
 #[path = "../../src/by_reference.rs"]
 mod by_mutant;
+#[path = "../../src/memory.rs"]
+mod memory;
 
 use by_mutant::{gathered, Reference};
 use harness::compare::{first_difference, Plan};

@@ -1,13 +1,25 @@
 //! The comparison of the twelve rows.
 
+use super::calls::Both;
 use super::{from_seeds, hex, Comparison, Plan};
-use crate::boundary::{Row, RowsResult, Sheet};
+use crate::desks::in_memory;
+use crate::program::Call;
 use crate::sheet_lists;
 use crate::sheets::Sheets;
-use reference::rows::NAMES;
+use reference::desk::{values, Desk};
+use std::fmt::{Display, Formatter, Result};
 
 /// One sheet for each two lines.
 const ONE_IN: u64 = 2;
+
+/// A desk told by its values.
+struct Told<'a>(&'a Desk);
+
+impl Display for Told<'_> {
+    fn fmt(&self, to: &mut Formatter) -> Result {
+        write!(to, "values {}", values(self.0).map(hex).join(","))
+    }
+}
 
 impl Comparison<'_> {
     pub(super) fn some_sheets(&mut self, plan: &Plan) {
@@ -32,35 +44,11 @@ impl Comparison<'_> {
         self.sheets(name, (0..count).map(|_| sheets.sheet()));
     }
 
-    fn sheets(&mut self, name: &'static str, sheets: impl IntoIterator<Item = Sheet>) {
+    fn sheets(&mut self, name: &'static str, desks: impl IntoIterator<Item = Desk>) {
         self.begin(name);
-        for sheet in sheets {
+        for desk in desks {
             self.group().inputs += 1;
-            self.sheet(&sheet);
+            self.call(&mut Both::new(in_memory(&desk)), &Call::Report, &Told(&desk));
         }
     }
-
-    fn sheet(&mut self, sheet: &Sheet) {
-        let (tested, expected) = (self.tested.rows(sheet), self.expected.rows(sheet));
-        self.group().answers += expected.rows.len() as u64;
-        self.tally.note_rows(&tested);
-        if tested != expected {
-            self.different(|| sheet_example(sheet, &tested, &expected));
-        }
-    }
-}
-
-/// The values, and the rows that differ.
-fn sheet_example(sheet: &Sheet, tested: &RowsResult, expected: &RowsResult) -> String {
-    let values = sheet.values().map(hex).join(",");
-    let told = |row: &Row| format!("{}/{}", row.level, row.reason);
-    let rows: Vec<String> = NAMES
-        .iter()
-        .zip(tested.rows.iter().zip(&expected.rows))
-        .filter(|(_, (tested, expected))| tested != expected)
-        .map(|(name, (tested, expected))| {
-            format!("{name} {}, reference {}", told(tested), told(expected))
-        })
-        .collect();
-    format!("probe_rows, values {values}: {}", rows.join("; "))
 }

@@ -1,6 +1,5 @@
 //! Generated trace commands.
 
-use crate::by_reference::Reference;
 use crate::compare::hex;
 use crate::desks::State;
 use crate::files::{length, Files};
@@ -48,8 +47,8 @@ pub fn commands(seed: u64, count: u64) -> impl Iterator<Item = Vec<u8>> {
                 return format!("new {length} {seed}").into_bytes();
             }
             _ => {
-                let (bench, byte) = keys.call(&state.desk);
-                state.key(&Reference, bench, byte);
+                let (bench, byte) = keys.call(&state.lengths());
+                state.key(bench, byte);
                 return format!("k {bench} {byte}").into_bytes();
             }
         };

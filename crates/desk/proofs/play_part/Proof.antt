@@ -9,8 +9,8 @@ use Rattle.desk.proofs.play_part.Tie as tie
 
 returns : tie.Need-returns
 returns c =
-    let p = c .before .before in
-    let r = p .before .before .before .before in
+    let p = c .before .before .before .before .before .before in
+    let r = p .before .before .before .before .before .before in
     record {
       part = take (r .read-full .result) (r .read-full .last .1 .0);
       plays = p .play-pairs .ensures;
@@ -26,5 +26,7 @@ play-part-spec =
     (λ c. search needs)
     (λ c. search needs)
     (λ c κs. search needs)
+    (λ c. search needs)
+    (λ c. search needs)
     (λ c. search needs)
     returns)

@@ -1,4 +1,4 @@
--- `printing::copy_out` meets its contract: the test of the length is the definition's.
+-- `program_printing::copy_out` meets its contract: the test of the length is the definition's.
 -- Assumes nothing.
 use native.Mathlib.Omega.{arith}
 use mathlib.Core.Path.{_≡_, sym, ap}

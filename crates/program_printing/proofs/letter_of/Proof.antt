@@ -1,4 +1,4 @@
--- `printing::letter_of` meets its contract: a table, and one letter for all other levels.
+-- `program_printing::letter_of` meets its contract: a table, and one letter for all other levels.
 -- Assumes nothing.
 use mathlib.Core.Path.{sym}
 use Prim.Native.Nat.{ℕ}

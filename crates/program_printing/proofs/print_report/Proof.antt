@@ -1,4 +1,4 @@
--- `printing::print_report` meets its contract: what is written on the page is the printed text.
+-- `program_printing::print_report` meets its contract: what is written on the page is the printed text.
 -- Assumes nothing.
 use native.Mathlib.Omega.{arith}
 use mathlib.Core.Path.{ap, _∙_}
@@ -13,7 +13,7 @@ returns : tie.Need-returns
 returns c =
     let k = c .before .before in
     let p = k .before .before in
-    let out = now (p .before .before .args .out) in
+    let out = now (p .before .before .before .before .args .out) in
     let text = p .report-page .ensures .0 in
     (k .copy-out .ensures .0 ∙ ap (printedIn out) text, k .copy-out .ensures .1 ∙ ap (copied out 0) text, omega arith)
 

@@ -1,4 +1,4 @@
--- `printing::put_name` meets its contract: the part of the flat table is the row's name.
+-- `program_printing::put_name` meets its contract: the part of the flat table is the row's name.
 -- Assumes nothing.
 use native.Mathlib.Omega.{arith}
 use mathlib.Core.Path.{ap}

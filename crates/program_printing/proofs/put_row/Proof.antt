@@ -1,4 +1,4 @@
--- `printing::put_row` meets its contract: the pieces of the line one after the other.
+-- `program_printing::put_row` meets its contract: the pieces of the line one after the other.
 -- Assumes nothing.
 use native.Mathlib.Omega.{arith}
 use mathlib.Core.Path.{ap}

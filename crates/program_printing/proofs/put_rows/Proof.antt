@@ -1,4 +1,4 @@
--- `printing::put_rows` meets its contract. The loop's invariant: the lines of the first i rows are added.
+-- `program_printing::put_rows` meets its contract. The loop's invariant: the lines of the first i rows are added.
 -- The measure is what is left of the rows. Assumes nothing.
 use borrow.Author.Needs.{needs}
 use native.Mathlib.Omega.{arith}

@@ -1,32 +1,63 @@
--- `printing::report_page` meets its contract: the head, the rows and the items one after the other.
+-- `program_printing::report_page` meets its contract: the head, the rows and the items one after the other.
 -- Assumes nothing.
 use native.Mathlib.Omega.{arith}
-use mathlib.Core.Path.{ap}
-use mathlib.Core.List.{[], _∷_, _++_}
-use Rattle.text.specs.Quote.{bytes}
-use Rattle.rows.specs.Rows.{rowCount}
-use Rattle.desk_questions.specs.Report.{Report}
-use Rattle.text_copies.specs.Each.{linesFrom}
-use Rattle.program_printing.specs.Print.{line, twoDigits, rowLine, printedItem, printedOf}
+use mathlib.Core.Path.{_≡_, sym, ap, _∙_}
+use mathlib.Core.Bool.{true}
+use mathlib.Core.List.{List}
+use Prim.Native.Nat.{ℕ}
+use borrow.Author.Tests.{not-true, not-false}
+use lib.ListN.{length}
+use denote.Ref.{now}
+use Rattle.desk_memory.specs.Memory.{Sized, isDesk}
+use Rattle.desk_memory.proofs.Desks.{desk-sized}
 use Rattle.program_printing.proofs.Pages.{adds-as, adds-then, adds-first}
+use Rattle.program_printing.proofs.Lent.{printed-none, printed-desk}
 use borrow.Author.Needs.{needs}
 use Rattle.program_printing.proofs.report_page.Statement.{statement}
 use Rattle.program_printing.proofs.report_page.Tie as tie
 
+-- the memory has a desk's lengths
+desk-here : (c : tie.Else1) → (let a = c .before .before .before .before .before .args in isDesk (now (a .texts)) (now (a .numbers)) ≡ true)
+desk-here c = sym (c .before .is-desk .ensures) ∙ not-false _ (c .if1 .left)
+
+sized : (c : tie.Else1) → (let a = c .before .before .before .before .before .args in Sized (now (a .texts)) (now (a .numbers)))
+sized c = desk-sized _ _ (desk-here c)
+
 returns : tie.Need-returns
-unfolding printedOf
 returns c =
-    let r = c .before in
+    let d = c .before in
+    let e = d .before .empty-page .ensures in
+    let a = d .before .before .before .before .args in
+    let none = sym (printed-none (now (a .texts)) (now (a .numbers)) (sym (d .is-desk .ensures) ∙ not-true _ (c .if1 .taken))) in
+    (e .0 ∙ none, e .1 ∙ ap (λ (l : List ℕ). length l) none, omega (arith, e .1))
+
+put-rows-requires : tie.Need-put-rows-requires
+put-rows-requires c κs = omega (arith, c .put .ensures .size, c .before .before .before .before .before .before .empty-page .ensures .1)
+
+part-put-items-end : tie.Need-part-put-items-end
+part-put-items-end c = omega (arith, sized (c .before .before .before .before .before) .texts)
+
+part-put-items-end-2 : tie.Need-part-put-items-end-2
+part-put-items-end-2 c = omega (arith, sized (c .before .before .before .before .before .before) .numbers)
+
+put-items-requires : tie.Need-put-items-requires
+put-items-requires c κs =
+    let r = c .before .before in
     let h = r .before in
-    let e = h .before .before in
-    let n = e .before .before .before in
-    let s = n .before in
-    let rows = ap
-    (λ (x : Report). line (bytes "REPORT " ∷ twoDigits rowCount ∷ []) ++ (linesFrom rowLine 1 (x .rows .rows) ++ linesFrom printedItem 1 (s .args .d .sheet .items)))
-    (n .report .ensures) in
+    omega (arith, r .put-rows .ensures .1, h .put .ensures .size, h .before .before .before .before .before .before .empty-page .ensures .1)
+
+returns-2 : tie.Need-returns-2
+returns-2 c =
+    let r = c .before .before .before in
+    let h = r .before in
+    let q = h .before .before .before in
+    let s = q .before in
+    let e = s .before .before in
+    let a = e .before .before .before .args in
     let all = adds-then (h .put .ensures) (adds-then (r .put-rows .ensures .0) (c .put-items .ensures .0)) in
-    let first = adds-first (e .empty-page .ensures .0) (e .empty-page .ensures .1) (adds-as rows all) in
-    (first .0, first .1, omega arith)
+    let text = printed-desk (now (a .texts)) (now (a .numbers)) (desk-here s) _ (q .report .ensures) in
+    let first = adds-first (e .empty-page .ensures .0) (e .empty-page .ensures .1) (adds-as text all) in
+    (first .0, first .1, omega (arith, c .put-items .ensures .1, r .put-rows .ensures .1, h .put .ensures .size, e .empty-page .ensures .1))
 
 pub report-page-spec : {M : Type 1} → statement M
 report-page-spec =
@@ -34,8 +65,16 @@ report-page-spec =
     (tie.spec
     (λ c κs. search needs)
     (λ c κs. search needs)
+    returns
+    (λ c κs. search needs)
     (λ c. search needs)
     (λ c κs. search needs)
-    (λ c κs. search needs)
-    (λ c κs. search needs)
-    returns)
+    put-rows-requires
+    (λ c. search needs)
+    (λ c. search needs)
+    part-put-items-end
+    (λ c. search needs)
+    (λ c. search needs)
+    part-put-items-end-2
+    put-items-requires
+    returns-2)

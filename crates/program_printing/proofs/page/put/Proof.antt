@@ -1,4 +1,4 @@
--- `printing::page::put` meets its contract: the piece is copied in after what is written.
+-- `program_printing::page::put` meets its contract: the piece is copied in after what is written.
 -- Assumes nothing.
 use mathlib.Core.Path.{_≡_}
 use lib.ListN.{length}

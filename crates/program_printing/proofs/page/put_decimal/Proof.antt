@@ -1,4 +1,4 @@
--- `printing::page::put_decimal` meets its contract. The loop's invariant: the digits of what is left of the number, and then those set from i on, are
+-- `program_printing::page::put_decimal` meets its contract. The loop's invariant: the digits of what is left of the number, and then those set from i on, are
 -- the number's. The measure is i. Assumes nothing.
 use native.Mathlib.Omega.{arith}
 use mathlib.Core.Path.{_≡_, sym, ap, _∙_}

@@ -1,2 +1,0 @@
-pub mod CallBytes
-pub mod OneCall

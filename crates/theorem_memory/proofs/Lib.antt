@@ -1,0 +1,4 @@
+pub mod Shapes
+pub mod Follows
+pub mod Kept
+pub mod Gathered

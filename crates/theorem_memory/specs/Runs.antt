@@ -1,0 +1,63 @@
+-- Calls on a desk in lent memory, one after the other: each step is what the contract of its function says (document 01, "Sequences of calls").
+-- Assumes nothing.
+use mathlib.Core.Path.{_≡_}
+use mathlib.Core.Bool.{true}
+use mathlib.Core.List.{List, [], _∷_}
+use Prim.Native.Nat.{ℕ}
+use lib.ListN.{length, replicate}
+use Rattle.rows.specs.Rows.{noRows}
+use Rattle.rows.specs.declared.Rows.{Rows}
+use Rattle.rows_sheet.specs.Sheet.{rowsOf}
+use Rattle.desk_memory.specs.Memory.{textsLength, numbersLength, isDesk}
+use Rattle.desk_soundness.specs.SoundMemory.{soundMemory, soundForKeys}
+use Rattle.desk_keys.specs.Lent.{KeyLent}
+use Rattle.desk_questions.specs.Report.{Report, reportLent}
+use Rattle.desk_questions.specs.Who.{Who, whoLent}
+use Rattle.desk_session.specs.Lent.{held}
+use Rattle.theorem_sequences.specs.Calls.{Call, key, ask, report, who, Reply, keyed, reported, told, State}
+use Rattle.theorem_sequences.specs.Gather.{gatherAnswered}
+use Rattle.theorem_sequences.specs.Sequences.{Sequences, deskAnswers, stateAfter}
+
+-- what is lent to a call
+pub record Memory : Type 0 where
+  pub texts : List ℕ
+  pub numbers : List ℕ
+  pub log : List ℕ
+
+-- the state that it holds
+abbrev pub stateIn : Memory → State
+stateIn m = held (m .texts) (m .numbers) (m .log)
+
+-- memory of zeros, and a log
+abbrev pub freshMemory : List ℕ → Memory
+freshMemory log = record { texts = replicate textsLength 0; numbers = replicate numbersLength 0; log = log }
+
+-- a call, the memory before it, its answer, and the memory after it: what `desk_keys::key`, `desk_questions::report::report` and `desk_questions::who::who` ensure
+pub data Lends : Call → Memory → Reply Rows → Memory → Type 0 where
+  a-key : {m m′ : Memory} {bench byte a : ℕ} → KeyLent (m .texts) (m .numbers) (m .log) bench byte a (m′ .texts) (m′ .numbers) (m′ .log)
+      → Lends (key bench byte) m (keyed a) m′
+  a-report : {m : Memory} {r : Report} → r ≡ reportLent (m .texts) (m .numbers) → Lends (ask report) m (reported (r .answer) (r .rows)) m
+  a-who : {m : Memory} {item : ℕ} {r : Who} → r ≡ whoLent (m .texts) (m .numbers) item → Lends (ask (who item)) m (told r) m
+
+-- calls, "Each call gets the desk and log as the last one left them"
+pub data Run : Memory → List Call → List (Call × Reply Rows) → Memory → Type 0 where
+  done : {m : Memory} → Run m [] [] m
+  call : {m m′ m″ : Memory} {c : Call} {r : Reply Rows} {cs : List Call} {ps : List (Call × Reply Rows)} → Lends c m r m′ → Run m′ cs ps m″
+      → Run m (c ∷ cs) ((c, r) ∷ ps) m″
+
+-- demand 3 of a run from zeros: its answers and the state that it leaves are those of which `Sequences` is the claim
+pub record MemorySequence (log : List ℕ) (cs : List Call) (ps : List (Call × Reply Rows)) (m : Memory) : Type 0 where
+  pub answers : ps ≡ deskAnswers rowsOf noRows log cs
+  pub state : stateIn m ≡ stateAfter rowsOf noRows log cs
+  pub sequences : Sequences rowsOf noRows log cs
+
+-- demand 3 in bytes: calls run from zeros and a log, and the same calls gathered, from zeros and an equal log; every call gets the answer that it got before, and
+-- all bytes of desk and log are equal
+pub record MemoryGathered (ps : List (Call × Reply Rows)) (m : Memory) (qs : List (Call × Reply Rows)) (m′ : Memory) : Type 0 where
+  pub gathered-answers : qs ≡ gatherAnswered ps
+  pub gathered-memory : m′ ≡ m
+
+-- soundness is kept by a key call, for questions and for key calls
+pub record MemoryKept (t n log t′ n′ log′ : List ℕ) : Type 0 where
+  pub for-questions : soundMemory t n ≡ true → soundMemory t′ n′ ≡ true
+  pub for-keys : soundForKeys t n (length log) ≡ true → soundForKeys t′ n′ (length log′) ≡ true

@@ -1,0 +1,1 @@
+// Sequences of calls on a desk in lent memory: theorems, no code.

@@ -1,0 +1,121 @@
+/* Holds the constants of include/desk.h against what the functions do: which lengths are a desk, where
+ * each key, item and number stands, the longest log. Prints what is wrong; exit 1 then. */
+#include "desk.h"
+
+#include <stdio.h>
+#include <string.h>
+
+enum { LONGEST = DESK_TEXTS + 1, MOST = DESK_NUMBERS + 1, NAME_MOST = 32 };
+
+static uint8_t texts[LONGEST], log_bytes[DESK_LOG + 1], out[DESK_FILE];
+static size_t numbers[MOST];
+static int wrong;
+
+static const char *const lines[DESK_ITEMS] = {
+    "_chemical_formula_sum 'C4 H10'",
+    "_chemical_formula_weight 58.12",
+    "_publ_requested_category FO",
+    "_refine_ls_R_factor_gt 0.0412",
+    "_refine_ls_R_factor_obs 0.051",
+    "_refine_ls_wR_factor_ref 0.12",
+    "_refine_ls_wR_factor_obs 0.1",
+    "_refine_ls_shift/su_max 0.001",
+    "_refine_ls_shift/esd_max 0",
+    "_reflns_threshold_expression 'I > 2\\s(I)'",
+};
+
+static void expect(int holds, const char *what, size_t of)
+{
+    if (!holds) {
+        printf("desk_layout: %s (%zu)\n", what, of);
+        wrong = 1;
+    }
+}
+
+static uint8_t key(uint64_t bench, uint8_t byte)
+{
+    return desk_key(texts, DESK_TEXTS, numbers, DESK_NUMBERS, log_bytes, DESK_LOG, bench, byte);
+}
+
+static void fresh(void)
+{
+    expect(desk_fresh(texts, DESK_TEXTS, numbers, DESK_NUMBERS) == 0, "a desk's lengths are refused", 0);
+}
+
+/* How many elements of the memory are not zero. */
+static size_t set(void)
+{
+    size_t n = 0, i;
+    for (i = 0; i < DESK_TEXTS; i++) n += texts[i] != 0;
+    for (i = 0; i < DESK_NUMBERS; i++) n += numbers[i] != 0;
+    return n;
+}
+
+static void lengths(void)
+{
+    size_t t, n;
+    for (t = DESK_TEXTS - 1; t <= LONGEST; t++)
+        for (n = DESK_NUMBERS - 1; n <= MOST; n++)
+            expect(desk_fresh(texts, t, numbers, n) == (t == DESK_TEXTS && n == DESK_NUMBERS ? 0 : 2), "desk_fresh by lengths", t * 100 + n);
+    fresh();
+    expect(desk_key(texts, DESK_TEXTS, numbers, DESK_NUMBERS, log_bytes, DESK_LOG, 0, 24) == 0, "the longest log is refused", DESK_LOG);
+    expect(desk_key(texts, DESK_TEXTS, numbers, DESK_NUMBERS, log_bytes, DESK_LOG + 1, 0, 24) == 2, "a longer log is taken", DESK_LOG + 1);
+}
+
+static void benches(void)
+{
+    size_t bench, i;
+    for (bench = 0; bench < DESK_BENCHES; bench++) {
+        fresh();
+        for (i = 0; i < DESK_LINE; i++) expect(key(bench, 'x') == 0, "a key is refused", bench);
+        expect(key(bench, 'x') == 4, "a line is longer", bench);
+        for (i = 0; i < DESK_LINE; i++) expect(texts[bench * DESK_LINE + i] == 'x', "a line stands elsewhere", bench);
+        expect(numbers[bench] == DESK_LINE && set() == DESK_LINE + 1, "a line's length stands elsewhere", bench);
+    }
+    expect(key(DESK_BENCHES, 'x') == 1, "there is a further bench", DESK_BENCHES);
+}
+
+/* Types the line of item k + 1; its value. */
+static const char *type(size_t k, uint64_t bench)
+{
+    const char *value = strchr(lines[k], ' ') + 1, *p;
+    for (p = lines[k]; *p; p++) expect(key(bench, (uint8_t)*p) == 0, "a key is refused", k + 1);
+    expect(key(bench, 10) == 0, "an entry is refused", k + 1);
+    expect(memcmp(texts + (DESK_ITEMS_SLOT + k) * DESK_LINE, value, strlen(value)) == 0, "a value stands elsewhere", k + 1);
+    return value;
+}
+
+static void sheet(void)
+{
+    static const uint8_t name[] = "camp";
+    size_t k, used = 0;
+    desk_reported rows;
+    desk_filed filed;
+    fresh();
+    for (k = 0; k < DESK_ITEMS; k++) {
+        size_t *of = numbers + DESK_ITEMS_AT + k * DESK_ITEM_NUMBERS, bench = (k + 1) % DESK_BENCHES, n;
+        desk_told told = desk_who(texts, DESK_TEXTS, numbers, DESK_NUMBERS, k + 1);
+        expect(told.answer == 0 && told.bench == DESK_NO_BENCH && told.entry == 0, "an empty item has a bench", k + 1);
+        n = strlen(type(k, bench));
+        used += 6 + n;
+        expect(of[0] == n && of[1] == k + 1 && of[2] == bench, "an item's numbers stand elsewhere", k + 1);
+        expect(numbers[DESK_COUNT_AT] == k + 1 && numbers[DESK_USED_AT] == used, "the count or the used number stands elsewhere", k + 1);
+        told = desk_who(texts, DESK_TEXTS, numbers, DESK_NUMBERS, k + 1);
+        expect(told.answer == 0 && told.bench == bench && told.entry == k + 1, "Who tells another entry", k + 1);
+    }
+    expect(desk_who(texts, DESK_TEXTS, numbers, DESK_NUMBERS, DESK_ITEMS + 1).answer == 6, "there is a further item", DESK_ITEMS + 1);
+    rows = desk_report(texts, DESK_TEXTS, numbers, DESK_NUMBERS);
+    expect(rows.answer == 0 && sizeof rows == 1 + 2 * DESK_ROWS, "the report", sizeof rows);
+    for (k = 0; k < DESK_ROWS; k++) expect(rows.rows[k].level <= 4 && rows.rows[k].reason <= 2, "a row", k + 1);
+    filed = desk_file(texts, DESK_TEXTS, numbers, DESK_NUMBERS, name, 4, out, DESK_FILE);
+    expect(filed.answer == 0 && memcmp(out, "data_camp\n_chemical", 19) == 0, "the file", filed.count);
+    expect(DESK_FILE == 6 + NAME_MOST + DESK_ITEMS * (DESK_LINE + 1), "the room for a file", DESK_FILE);
+}
+
+int main(void)
+{
+    lengths();
+    benches();
+    sheet();
+    return wrong;
+}

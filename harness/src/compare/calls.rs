@@ -1,0 +1,175 @@
+//! One call of desk.h by both programs: the answers and all that was lent held equal.
+
+use super::files::file_place;
+use super::{hex, Comparison};
+use crate::boundary::{
+    Filed, Memory, Reported, Told, DESK_COUNT_AT, DESK_ITEMS, DESK_ITEMS_AT, DESK_ITEM_NUMBERS,
+};
+use crate::program::{Answer, Call};
+use crate::tally::Question;
+use reference::desk::{EMPTY, ENTER, ERASE, NOT_SOUND, NO_BENCH, NO_SUCH_ITEM};
+use reference::line::ACCEPTED;
+use std::fmt::Display;
+
+/// Bytes after the lent ones, which nobody lends.
+const GUARD: usize = 16;
+
+/// The same memory in the hands of both programs.
+pub(super) struct Both {
+    pub tested: Memory,
+    pub expected: Memory,
+}
+
+impl Both {
+    pub fn new(memory: Memory) -> Self {
+        Both { tested: memory.clone(), expected: memory }
+    }
+}
+
+impl Comparison<'_> {
+    /// A key or a question. The answer, where nothing was different.
+    pub(super) fn call(
+        &mut self,
+        both: &mut Both,
+        call: &Call,
+        place: &dyn Display,
+    ) -> Option<Answer> {
+        let line = line_length(&both.tested, call);
+        let tested = self.tested.call(&mut both.tested, call);
+        let expected = self.expected.call(&mut both.expected, call);
+        if !self.equal(both, &tested, &expected, &format_args!("{place}, {call:?}")) {
+            return None;
+        }
+        self.note_call(&both.tested, call, &tested, line);
+        Some(tested)
+    }
+
+    /// The memory made a fresh desk. Whether nothing was different.
+    pub(super) fn fresh(&mut self, both: &mut Both, place: &dyn Display) -> bool {
+        let tested = self.tested.fresh(&mut both.tested);
+        let expected = self.expected.fresh(&mut both.expected);
+        self.tally.note(Question::Fresh, (tested / NOT_SOUND).into());
+        self.equal(both, &tested, &expected, &format_args!("{place}, fresh"))
+    }
+
+    /// A file on so many lent bytes. What was written, where nothing was different.
+    pub(super) fn file(
+        &mut self,
+        both: &Both,
+        block: &[u8],
+        room: usize,
+        place: &dyn Display,
+    ) -> Option<(Filed, Vec<u8>)> {
+        let (mut tested_out, mut expected_out) = (pattern(room), pattern(room));
+        let tested = self.tested.file(&both.tested, block, &mut tested_out[..room]);
+        let expected = self.expected.file(&both.expected, block, &mut expected_out[..room]);
+        let place = format_args!("{place}, file, block name {}, {room} bytes", hex(block));
+        if !self.equal(both, &tested, &expected, &place) {
+            return None;
+        }
+        if let Some(what) = first("out", &tested_out, &expected_out) {
+            self.different(|| format!("{place}: {what}"));
+            return None;
+        }
+        self.tally.note(Question::File, file_place(&tested));
+        Some((tested, tested_out))
+    }
+
+    /// Holds two answers and both memories equal.
+    fn equal<T: PartialEq + std::fmt::Debug>(
+        &mut self,
+        both: &Both,
+        tested: &T,
+        expected: &T,
+        place: &dyn Display,
+    ) -> bool {
+        self.group().answers += 1;
+        let same = tested == expected && both.tested == both.expected;
+        if !same {
+            let what = || difference(&both.tested, &both.expected);
+            let answers = || format!("{tested:?}, reference {expected:?}");
+            self.different(|| {
+                let what = if tested == expected { what() } else { answers() };
+                format!("{place}: {what}")
+            });
+        }
+        same
+    }
+
+    /// Counts what one call came to; its line had this length.
+    fn note_call(&mut self, after: &Memory, call: &Call, answer: &Answer, line: usize) {
+        match (*call, answer) {
+            (Call::Key { bench, byte }, Answer::Key(answer)) => {
+                self.tally.note(Question::Key, (*answer).into());
+                if *answer == ACCEPTED {
+                    self.note_accepted(after, bench as usize, byte, line);
+                }
+            }
+            (_, Answer::Report(Reported { answer, rows })) => {
+                self.tally.note(Question::Report, (answer / NOT_SOUND).into());
+                if *answer == ACCEPTED {
+                    self.tally.note_rows(rows);
+                }
+            }
+            (_, Answer::Who(told)) => self.tally.note(Question::Who, who_place(told)),
+            _ => {}
+        }
+    }
+
+    fn note_accepted(&mut self, after: &Memory, bench: usize, byte: u8, line: usize) {
+        let accepted = match byte {
+            ERASE => 1 + usize::from(line == 0),
+            EMPTY => 3,
+            ENTER => 4,
+            _ => 0,
+        };
+        self.tally.note(Question::KeyAccepted, accepted);
+        if byte == ENTER {
+            self.tally.note(Question::EntryBench, bench);
+            let mut items =
+                after.numbers[DESK_ITEMS_AT..].chunks(DESK_ITEM_NUMBERS).take(DESK_ITEMS);
+            let item = items.position(|numbers| numbers[1] == after.numbers[DESK_COUNT_AT]);
+            self.tally.note(Question::EntryItem, item.unwrap_or(usize::MAX));
+        }
+    }
+}
+
+/// Lent bytes and those after them, which nobody lends: such as stand in no file.
+fn pattern(room: usize) -> Vec<u8> {
+    (0..room + GUARD).map(|at| 128 | (room + 7 * at) as u8).collect()
+}
+
+/// The length of the line that a key goes to.
+fn line_length(memory: &Memory, call: &Call) -> usize {
+    match *call {
+        Call::Key { bench, .. } => usize::try_from(bench)
+            .ok()
+            .and_then(|bench| memory.numbers.get(bench))
+            .map_or(0, |n| *n),
+        _ => 0,
+    }
+}
+
+/// The place of an answer of Who in its list.
+pub(super) fn who_place(told: &Told) -> usize {
+    match (told.answer, told.bench) {
+        (ACCEPTED, NO_BENCH) => 4,
+        (ACCEPTED, bench) => bench.into(),
+        (NO_SUCH_ITEM, _) => 5,
+        (NOT_SOUND, _) => 6,
+        _ => usize::MAX,
+    }
+}
+
+/// What two memories differ in, the first of it.
+pub(super) fn difference(tested: &Memory, expected: &Memory) -> String {
+    first("texts", &tested.texts, &expected.texts)
+        .or_else(|| first("numbers", &tested.numbers, &expected.numbers))
+        .or_else(|| first("the log", &tested.log, &expected.log))
+        .unwrap_or_default()
+}
+
+fn first<T: PartialEq + Display>(what: &str, tested: &[T], expected: &[T]) -> Option<String> {
+    let at = tested.iter().zip(expected).position(|(tested, expected)| tested != expected)?;
+    Some(format!("place {at} of {what} is {}, reference {}", tested[at], expected[at]))
+}

@@ -1,0 +1,118 @@
+//! The comparison on memory that is no sound desk: every call, on desks broken in every way, on
+//! random ones, and on memory of other lengths.
+
+use super::calls::Both;
+use super::{from_seeds, Comparison, Plan};
+use crate::boundary::{Memory, DESK_FILE, DESK_NUMBERS, DESK_TEXTS};
+use crate::broken::{each_broken, WAYS};
+use crate::desks::Desks;
+use crate::program::Call;
+use crate::random::Random;
+use crate::session::OTHER_BENCHES;
+use crate::tally::{Question, CALLS};
+use reference::desk::{BENCHES, EMPTY, ENTER, ERASE, NOT_SOUND};
+use reference::names::ITEMS;
+use std::fmt::Display;
+
+/// One desk to be broken in every way, and one lent with every other length, for each two thousand
+/// lines, one random desk for each fifty.
+const BROKEN_ONE_IN: u64 = 2000;
+const RANDOM_ONE_IN: u64 = 50;
+
+impl Comparison<'_> {
+    pub(super) fn some_memories(&mut self, plan: &Plan) {
+        self.seeded(plan, from_seeds!("broken desks"), BROKEN_ONE_IN, Self::broken_desks);
+        self.seeded(plan, from_seeds!("random desks"), RANDOM_ONE_IN, Self::random_desks);
+        self.seeded(plan, from_seeds!("other lengths"), BROKEN_ONE_IN, Self::other_lengths);
+    }
+
+    fn broken_desks(&mut self, name: &'static str, seed: u64, count: u64) {
+        self.begin(name);
+        each_broken(seed, count, |number, way, state, random| {
+            let place = format_args!("{name}, desk {number}, {}", WAYS[way].0);
+            let refused = self.every_call(state.memory(), random, &place);
+            self.tally.note_unsound(way, refused);
+        });
+    }
+
+    fn random_desks(&mut self, name: &'static str, seed: u64, count: u64) {
+        self.begin(name);
+        let (mut desks, mut random) = (Desks::new(seed), Random::new(seed));
+        for number in 0..count {
+            let memory = desks.random().memory();
+            self.every_call(memory, &mut random, &format_args!("{name}, desk {number}"));
+        }
+    }
+
+    /// Sound desks lent with fewer or more texts and numbers than a desk has.
+    fn other_lengths(&mut self, name: &'static str, seed: u64, count: u64) {
+        self.begin(name);
+        let (mut desks, mut random) = (Desks::new(seed.rotate_left(40)), Random::new(!seed));
+        for number in 0..count {
+            let memory = desks.sound().memory();
+            for (texts, texts_length) in lengths(DESK_TEXTS, &mut random) {
+                for (numbers, numbers_length) in lengths(DESK_NUMBERS, &mut random) {
+                    let place = format_args!(
+                        "{name}, desk {number}, {texts_length} texts, {numbers_length} numbers"
+                    );
+                    self.tally.note(Question::Lengths, 3 * texts + numbers);
+                    let memory = resized(&memory, texts_length, numbers_length);
+                    let mut both = Both::new(memory.clone());
+                    self.every_call(memory, &mut random, &place);
+                    self.fresh(&mut both, &place);
+                }
+            }
+        }
+    }
+
+    /// Keys, questions and files on one memory; which of the calls were refused with 2.
+    fn every_call(
+        &mut self,
+        memory: Memory,
+        random: &mut Random,
+        place: &dyn Display,
+    ) -> [bool; CALLS.len()] {
+        self.group().inputs += 1;
+        let mut both = Both::new(memory);
+        let mut refused = [false; CALLS.len()];
+        let benches = [random.below(BENCHES) as u64, random.pick(&OTHER_BENCHES)];
+        let bytes = [ENTER, random.pick(&[ERASE, EMPTY, b'a']), random.byte()];
+        let keys = benches.into_iter().flat_map(|bench| bytes.map(|byte| (bench, byte)));
+        let keys = keys.map(|(bench, byte)| (0, Call::Key { bench, byte }));
+        let items = [0, 1 + random.below(ITEMS.len()) as u64, random.next()];
+        let questions = items.map(|item| (2, Call::Who { item }));
+        let calls: Vec<_> = [(1, Call::Report)].into_iter().chain(questions).chain(keys).collect();
+        for (at, call) in calls {
+            let answer = self.call(&mut both, &call, place);
+            refused[at] |= answer.is_some_and(|answer| answer.number() == NOT_SOUND);
+        }
+        for block in [&b"camp-1"[..], b"_", b""] {
+            for room in [DESK_FILE, random.below(DESK_FILE), 0] {
+                let written = self.file(&both, block, room, place);
+                refused[3] |= written.is_some_and(|(filed, _)| filed.answer == NOT_SOUND);
+            }
+        }
+        refused
+    }
+}
+
+/// Lengths about a right one, each with 0 for less, 1 for as much and 2 for more.
+fn lengths(right: usize, random: &mut Random) -> [(usize, usize); 7] {
+    [
+        (0, 0),
+        (0, random.below(right)),
+        (0, right - 1),
+        (1, right),
+        (2, right + 1),
+        (2, right + 1 + random.below(right)),
+        (2, 2 * right),
+    ]
+}
+
+/// The same memory cut off, or with zeros after it.
+fn resized(memory: &Memory, texts: usize, numbers: usize) -> Memory {
+    let (mut all_texts, mut all_numbers) = (memory.texts.to_vec(), memory.numbers.to_vec());
+    all_texts.resize(texts, 0);
+    all_numbers.resize(numbers, 0);
+    Memory { texts: all_texts.into(), numbers: all_numbers.into(), log: memory.log.clone() }
+}

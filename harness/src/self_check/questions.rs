@@ -1,0 +1,149 @@
+//! Faulty programs for Report and Who, and wrong orders of calls.
+
+use super::Wrong;
+use crate::boundary::{Memory, Reported, Row, Told, DESK_COUNT_AT, DESK_NUMBERS, DESK_USED_AT};
+use crate::by_reference::{gathered, Reference};
+use crate::compare::Gather;
+use crate::desks::{holding, in_memory, sheet};
+use crate::memory::{held, put};
+use crate::program::{Call, Program};
+use reference::desk::{values, ENTER, NOT_SOUND, NO_BENCH, NO_SUCH_ITEM, RECORD_HEAD};
+use reference::line::{classify, split, ACCEPTED, LIMIT};
+use reference::names::{item, ITEMS};
+use reference::rows::ROWS;
+use std::cell::Cell;
+
+pub const FAULTS: [(&str, Wrong); 9] = [
+    ("Report reads an unfinished line", Wrong::Report(unfinished_read)),
+    ("Report keeps its first answer", Wrong::Report(first_kept)),
+    ("Report looks at the log", Wrong::Report(log_looked_at)),
+    ("Report tells an unsound desk's rows", Wrong::Report(unsound_told)),
+    ("Report takes memory one number short", Wrong::Report(short_taken)),
+    ("Who answers the first entry", Wrong::Who(first_entry)),
+    ("Who answers on an unsound desk", Wrong::Who(unsound_answered)),
+    ("Who looks at the item before soundness", Wrong::Who(item_first)),
+    ("Who counts items modulo 2^32", Wrong::Who(|m, item| Reference.who(m, item % (1 << 32)))),
+];
+
+/// Wrong orders of calls.
+pub const ORDERS: [(&str, Gather); 2] = [
+    ("questions are gathered too", questions_moved),
+    ("keys are gathered in turned order", keys_turned),
+];
+
+/// Lines that Enter would accept are on the sheet already.
+fn unfinished_read(memory: &Memory) -> Reported {
+    let (right, mut read) = (Reference.report(memory), memory.clone());
+    if let (ACCEPTED, Some((mut desk, used))) = (right.answer, held(memory)) {
+        for line in desk.lines {
+            let typed = &line.bytes[..line.len as usize];
+            if let (ACCEPTED, Some((name, value))) = (classify(typed), split(typed)) {
+                let number = item(name).expect("an accepted line names an item");
+                desk.items[number - 1] = holding([(number, value)]).items[number - 1];
+                desk.count = desk.count.max(1);
+            }
+        }
+        put(&mut read, &desk, used);
+    }
+    Reference.report(&read)
+}
+
+/// Until the next fresh desk.
+fn first_kept(memory: &Memory) -> Reported {
+    thread_local!(static FIRST: Cell<Option<Reported>> = const { Cell::new(None) });
+    let kept = FIRST.get().filter(|_| memory.numbers.get(DESK_COUNT_AT).is_some_and(|&n| n > 0));
+    let told = kept.unwrap_or_else(|| Reference.report(memory));
+    FIRST.set(Some(told));
+    told
+}
+
+/// Six times the count is more than the used number.
+fn log_looked_at(memory: &Memory) -> Reported {
+    let right = Reference.report(memory);
+    let few = |numbers: &[usize]| {
+        numbers[DESK_COUNT_AT] as u128 * RECORD_HEAD as u128 > numbers[DESK_USED_AT] as u128
+    };
+    match right.answer {
+        ACCEPTED if memory.numbers.len() == DESK_NUMBERS && few(&memory.numbers) => refusal(),
+        _ => right,
+    }
+}
+
+fn refusal() -> Reported {
+    Reported { answer: NOT_SOUND, rows: [Row { level: 0, reason: 0 }; ROWS] }
+}
+
+/// The rows of the values of a desk whose lines alone are broken.
+fn unsound_told(memory: &Memory) -> Reported {
+    let right = Reference.report(memory);
+    let Some((desk, _)) = held(memory).filter(|_| right.answer == NOT_SOUND) else {
+        return right;
+    };
+    if desk.items.iter().any(|item| item.len > LIMIT as u64) {
+        return right;
+    }
+    Reference.report(&in_memory(&sheet(values(&desk))))
+}
+
+fn short_taken(memory: &Memory) -> Reported {
+    let mut longer = memory.clone();
+    if memory.numbers.len() == DESK_NUMBERS - 1 {
+        longer.numbers = [&memory.numbers[..], &[0]].concat().into();
+    }
+    Reference.report(&longer)
+}
+
+/// Who keeps the first answer that names a bench, until the next fresh desk.
+fn first_entry(memory: &Memory, item: u64) -> Told {
+    type First = [Option<Told>; ITEMS.len()];
+    thread_local!(static FIRST: Cell<First> = const { Cell::new([None; ITEMS.len()]) });
+    let right = Reference.who(memory, item);
+    let named = right.answer == ACCEPTED && right.bench != NO_BENCH;
+    let mut first = if named { FIRST.get() } else { return right };
+    let kept = first[item as usize - 1].filter(|kept| kept.entry <= right.entry);
+    first[item as usize - 1] = kept.or(Some(right));
+    FIRST.set(first);
+    first[item as usize - 1].expect("it is set")
+}
+
+fn unsound_answered(memory: &Memory, item: u64) -> Told {
+    let right = Reference.who(memory, item);
+    let desk = held(memory).filter(|_| right.answer == NOT_SOUND);
+    let place = (item as usize).wrapping_sub(1);
+    match desk.and_then(|(desk, _)| desk.items.get(place).copied()) {
+        Some(item) if item.len > 0 => {
+            Told { entry: item.entry as usize, answer: ACCEPTED, bench: item.bench as u8 }
+        }
+        _ => right,
+    }
+}
+
+fn item_first(memory: &Memory, item: u64) -> Told {
+    let right = Reference.who(memory, item);
+    if (1..=ITEMS.len() as u64).contains(&item) {
+        right
+    } else {
+        Told { answer: NO_SUCH_ITEM, ..right }
+    }
+}
+
+/// Questions go where the key before them goes, or to the end.
+fn questions_moved(calls: &[Call]) -> Vec<usize> {
+    let mut last = 0;
+    let as_key = |call: &Call| match *call {
+        Call::Key { bench, .. } => {
+            last = bench;
+            *call
+        }
+        _ => Call::Key { bench: last, byte: 0 },
+    };
+    gathered(&calls.iter().map(as_key).collect::<Vec<_>>())
+}
+
+/// The keys before each Enter, and those at the end, in turned order.
+fn keys_turned(calls: &[Call]) -> Vec<usize> {
+    let mut order = gathered(calls);
+    let is_moved = |at: &usize| matches!(calls[*at], Call::Key { byte, .. } if byte != ENTER);
+    order.chunk_by_mut(|a, b| is_moved(a) && is_moved(b)).for_each(|part| part.reverse());
+    order
+}
