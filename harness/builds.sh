@@ -108,14 +108,13 @@ write_caller() {
     cat <<'END'
 use libc::STDIN_FILENO;
 use libc::STDOUT_FILENO;
+use desk_memory::TEXTS;
+use desk_memory::NUMBERS;
+use rows::ROW_COUNT;
 
 const HEAD: usize = 17;
 
 const LONGEST: usize = 262144;
-
-const TEXTS: usize = 1120;
-
-const NUMBERS: usize = 36;
 
 const CALL: usize = 10;
 
@@ -182,7 +181,7 @@ fn call(bytes: &[u8], at: usize, texts: &mut [u8], numbers: &mut [usize], log: &
         let told = export_desk::desk_report(texts, numbers);
         put(told.answer);
         let mut i = 0;
-        while i < 12 {
+        while i < ROW_COUNT {
             put(told.rows.rows[i].level);
             put(told.rows.rows[i].reason);
             i += 1;

@@ -36,7 +36,7 @@ use exact::Exact;
 use inputs::Inputs;
 use program::Program;
 use proved::Proved;
-use reference::program::{cif_program, program};
+use reference::program::{cif_program, keys, program};
 use sequences::Sequences;
 use std::io::{stdin, stdout, BufWriter, Read, Write};
 use std::path::Path;
@@ -62,6 +62,7 @@ const USAGE: &str = "usage: harness MODE
   desk-runs PROGRAM SEED COUNT    run the program desk on generated inputs
   cif-runs PROGRAM SEED COUNT     run the program's command cif on generated inputs and block names
   desk-input SEED                 write one such input
+  pairs                           the pairs of such an input, each as bench number and byte
   frames FOLDER, frames SEED COUNT FOLDER, example-frames FOLDER
                                   write calls for a program that reads them, fixed ones, generated ones or
                                   the measured examples alone, to the file stdin, and what it must answer
@@ -137,6 +138,10 @@ fn run(words: &[&str]) -> Outcome {
         ["desk-input", seed] => {
             let input = Sequences::new(number(2, seed)?).desk_input();
             done(output.write_all(&input).and_then(|()| output.flush()))
+        }
+        ["pairs"] => {
+            let pairs = whole_input()?;
+            write(keys(&pairs).map(|(bench, byte)| format!("{bench} {byte}").into()), output)
         }
         ["example-frames", folder] => frames::write_examples(Path::new(folder)).and(DONE),
         ["frames", folder] => frames::write_lists(Path::new(folder)).and(DONE),

@@ -18,8 +18,6 @@ use Rattle.desk_soundness.specs.SoundLog.{soundLog}
 use Rattle.desk_state.specs.declared.line.Line.{Line}
 use Rattle.desk_state.specs.declared.sheet.Sheet.{Sheet}
 use Rattle.desk_state.specs.declared.desk.Desk.{Desk}
-use Rattle.desk_answers.specs.Number.{answerNumber}
-use Rattle.desk_keys.specs.declared.by_value.Keyed.{Keyed}
 
 -- everything that a key call leaves; the answer is its number
 pub record After : Type 0 where
@@ -27,10 +25,6 @@ pub record After : Type 0 where
   pub desk : Desk
   pub used : ℕ
   pub log : List ℕ
-
--- the function's result and what the log then holds
-abbrev pub after : Keyed → List ℕ → After
-after r log = record { answer = answerNumber (r .answer); desk = r .desk; used = r .used; log = log }
 
 -- "Refused calls change nothing: the desk and the log come back equal"
 abbrev pub refused : ℕ → Desk → ℕ → List ℕ → After

@@ -1,4 +1,3 @@
 // The two questions to the desk in lent memory. report: the twelve rows. who: who typed an item.
-pub mod by_value;
 pub mod report;
 pub mod who;

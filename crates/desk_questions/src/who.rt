@@ -24,7 +24,7 @@ pub struct Told {
     pub bench: u8,
 }
 
-pub(crate) fn tell_nobody(answer: Asked) -> Told
+fn tell_nobody(answer: Asked) -> Told
     ensures { λ r. ⌜ whoIn r ≡ nobody (askedNumber answer) ⌝ }
 {
     Told {

@@ -7,8 +7,7 @@ use Rattle.text.specs.Run.{between}
 use Rattle.desk_state.specs.Desks.{benchCount, noBench}
 use Rattle.rows.specs.Rows.{noRows}
 use Rattle.rows_sheet.specs.Sheet.{rowsOf}
-use Rattle.theorem_sequences.specs.Calls.{Call, key, State, stateOf, step, final}
-use Rattle.desk_session.specs.declared.play.Played.{Played}
+use Rattle.theorem_sequences.specs.Calls.{Call, key, State, step, final}
 
 -- "a bench digit", from `0` on; "Any other first byte goes in as bench 255"
 unfoldable pub benchOf : ℕ → ℕ
@@ -19,10 +18,6 @@ abbrev pub pairsOf : List ℕ → List Call
 pairsOf [] = []
 pairsOf (first ∷ []) = []
 pairsOf (first ∷ byte ∷ rest) = key (benchOf first) byte ∷ pairsOf rest
-
--- the function's result and what the log then holds
-abbrev pub stateLeft : Played → List ℕ → State
-stateLeft r log = stateOf (r .desk) (r .used) log
 
 -- what the pairs of an input leave; a refused call leaves everything, so that "refusals are passed over"
 abbrev pub played : State → List ℕ → State

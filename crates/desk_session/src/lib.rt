@@ -5,8 +5,6 @@ ghost use Rattle.desk_session.specs.Lent.{PlayLent};
 use desk_state::desk::BENCH_COUNT;
 use desk_state::desk::NO_BENCH;
 
-pub mod play;
-
 // The bench of any other byte.
 const NONE: u64 = NO_BENCH as u64;
 
@@ -16,7 +14,7 @@ const FIRST_DIGIT: u8 = b'0';
 const LAST_DIGIT: u8 = FIRST_DIGIT + BENCH_COUNT as u8 - 1;
 
 // The bench of a pair's first byte.
-pub(crate) fn bench_of(first: u8) -> u64
+fn bench_of(first: u8) -> u64
     ensures { λ r. ⌜ r ≡ benchOf first ⌝ }
 {
     if first < FIRST_DIGIT {

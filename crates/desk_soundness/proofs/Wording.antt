@@ -11,7 +11,7 @@ use lib.Dec.{leb, ltb, eqb}
 use lib.ListN.{length, getD, drop}
 use Rattle.text.specs.Run.{all, between}
 use Rattle.text.proofs.Bools.{and-both}
-use Rattle.text.proofs.Runs.{all-replicate}
+use Rattle.text.proofs.Runs.{all-replicate, all-same}
 use Rattle.line_values.specs.Value.{isValue}
 use Rattle.line_values.proofs.Values.{value-is, value-taken}
 use Rattle.line_items.specs.Items.{itemRow}
@@ -31,14 +31,6 @@ use Rattle.desk_soundness.proofs.Everys.{every-each}
 
 -- ---- zeros
 
-zeros-are : (bs : List ℕ) → zeros bs ≡ true → AreZero bs
-unfolding all between
-zeros-are [] e = refl
-zeros-are (b ∷ bs) e =
-    let h = and-both (between 0 0 b) (zeros bs) e in
-    let zero : b ≡ 0 = omega (arith, leb-true b 0 (and-both (leb 0 b) (leb b 0) (h .0) .1)) in
-    rw zero (ap (λ (l : List ℕ). 0 ∷ l) (zeros-are bs (h .1)))
-
 zeros-taken : (bs : List ℕ) → AreZero bs → zeros bs ≡ true
 unfolding between
 zeros-taken bs e = ap zeros e ∙ all-replicate (between 0 0) (length bs) 0 refl
@@ -50,7 +42,7 @@ unfolding soundLine
 line-is l e =
     let most = and-both (leb (l .len) lineMost) _ e in
     let bytes = and-both (all isTyped (typed l)) _ (most .1) in
-    record { most = leb-true (l .len) lineMost (most .0); bytes = bytes .0; unused = zeros-are (drop (l .len) (l .bytes)) (bytes .1) }
+    record { most = leb-true (l .len) lineMost (most .0); bytes = bytes .0; unused = all-same 0 (drop (l .len) (l .bytes)) (bytes .1) }
 
 line-taken : (l : Line) → SoundLine l → soundLine l ≡ true
 unfolding soundLine
@@ -63,7 +55,7 @@ unfolding soundEmpty
 empty-is i z e =
     let bench = and-both (eqb (i .bench) 0) _ e in
     let entry = and-both (eqb (i .entry) 0) _ (bench .1) in
-    record { len = z; bench = eqb-true (i .bench) 0 (bench .0); entry = eqb-true (i .entry) 0 (entry .0); value = zeros-are (i .value) (entry .1) }
+    record { len = z; bench = eqb-true (i .bench) 0 (bench .0); entry = eqb-true (i .entry) 0 (entry .0); value = all-same 0 (i .value) (entry .1) }
 
 empty-taken : (i : Item) → EmptyItem i → soundEmpty i ≡ true
 unfolding soundEmpty
@@ -93,7 +85,7 @@ module _ (count k : ℕ) (i : Item) where
         bytes = bytes .0;
         kind = passes-is k v (kind .0);
         line = leb-true (length (itemRow k .name) + 1 + length v) lineMost (bytes .1);
-        unused = zeros-are (drop (i .len) (i .value)) (fit .1);
+        unused = all-same 0 (drop (i .len) (i .value)) (fit .1);
       }
 
   filled-taken : 1 ≤ k → FilledItem count k i → soundFilled count k i ≡ true

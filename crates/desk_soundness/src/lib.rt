@@ -23,7 +23,6 @@ use line_items::ITEM_COUNT;
 use line_items::LAST_TYPED;
 use line_items::LINE_MOST;
 
-pub mod by_value;
 
 // The longest log, and the least that a record takes of it.
 pub const LOG_MOST: usize = 65536;

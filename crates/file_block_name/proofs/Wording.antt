@@ -1,28 +1,18 @@
 -- The test of a block's name says what document 02's words say.
 -- Assumes nothing.
-use mathlib.Core.Path.{_≡_, refl}
-use mathlib.Core.Bool.{Bool, true, or-true}
+use mathlib.Core.Path.{_≡_}
+use mathlib.Core.Bool.{true, or-true}
 use mathlib.Core.Logic.{⊎-elim}
-use mathlib.Core.List.{List, [], _∷_}
-use Prim.Native.Nat.{ℕ, suc, _≤_, _<_}
-use native.Mathlib.Omega.{arith}
+use mathlib.Core.List.{List}
+use Prim.Native.Nat.{ℕ}
 use borrow.Author.Tests.{leb-true, le-leb, eqb-true, eq-eqb}
 use lib.Dec.{leb}
 use lib.ListN.{length, getD}
-use Rattle.text.specs.Run.{all, between, isCapital, isSmall, isDigit}
+use Rattle.text.specs.Run.{isCapital, isSmall, isDigit}
 use Rattle.text.proofs.Bools.{and-both, or-either}
-use Rattle.text.proofs.Runs.{all-each}
+use Rattle.text.proofs.Runs.{all-each, all-from, between-is, between-taken}
 use Rattle.file_block_name.specs.Block.{blockMost, isBlockByte, isBlockName}
 use Rattle.file_block_name.specs.Wording.{BlockByte, BlockName}
-
--- the bytes of a range
-between-is : (lo hi b : ℕ) → between lo hi b ≡ true → (lo ≤ b) × (b ≤ hi)
-unfolding between
-between-is lo hi b e = let h = and-both (leb lo b) (leb b hi) e in (leb-true lo b (h .0), leb-true b hi (h .1))
-
-between-taken : (lo hi b : ℕ) → lo ≤ b → b ≤ hi → between lo hi b ≡ true
-unfolding between
-between-taken lo hi b l h = simp (le-leb lo b l, le-leb b hi h)
 
 byte-is : (b : ℕ) → isBlockByte b ≡ true → BlockByte b
 unfolding isBlockByte
@@ -40,12 +30,6 @@ byte-taken b (BlockByte.capital l h) = simp (between-taken 65 90 b l h)
 byte-taken b (BlockByte.small l h) = simp (between-taken 97 122 b l h, or-true)
 byte-taken b (BlockByte.digit l h) = simp (between-taken 48 57 b l h, or-true)
 byte-taken b (BlockByte.dash e) = simp (eq-eqb b 45 e, or-true)
-
--- what is so at each place is so of all
-all-from : (p : ℕ → Bool) (s : List ℕ) → ((i : ℕ) → i < length s → p (getD s i 0) ≡ true) → all p s ≡ true
-unfolding all
-all-from p [] h = refl
-all-from p (b ∷ bs) h = simp (h 0 (omega arith), all-from p bs (λ i l. h (suc i) (omega arith)))
 
 -- a text that the test takes is a block's name
 pub block-is : (name : List ℕ) → isBlockName name ≡ true → BlockName name

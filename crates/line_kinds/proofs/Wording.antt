@@ -1,9 +1,9 @@
 -- The test of kinds says what document 01's words say.
 -- Assumes nothing.
-use mathlib.Core.Path.{_≡_, refl, sym, ap, _∙_}
+use mathlib.Core.Path.{_≡_, refl, ap, _∙_}
 use mathlib.Core.Bool.{Bool, true, false, or-true, false≢true}
 use mathlib.Core.Logic.{⊎-elim}
-use mathlib.Core.List.{List, [], _∷_, map-id}
+use mathlib.Core.List.{List, [], _∷_}
 use Prim.Native.Nat.{ℕ, _≤_}
 use native.Mathlib.Omega.{arith}
 use borrow.Author.Tests.{le-leb, eqb-true}
@@ -12,7 +12,7 @@ use lib.ListN.{length, getD}
 use Rattle.text.specs.Quote.{bytes}
 use Rattle.text.proofs.Bools.{and-both, or-either}
 use Rattle.text_equality.specs.Same.{exact, sameBy}
-use Rattle.text_equality.proofs.Sames.{same→map}
+use Rattle.text_equality.proofs.Sames.{same-exact}
 use Rattle.number_decimal.specs.Reading.{readingOf, isFound, isNumber}
 use Rattle.number_decimal.specs.declared.Reading.{Reading}
 use Rattle.number_decimal.specs.declared.Reading.the-variants.{Number, Nothing}
@@ -61,16 +61,13 @@ number-taken v Nothing e h = absurd (agree v Nothing e (h .denoted) (h .is-numbe
 
 -- ---- a category
 
-same-is : (a b : List ℕ) → sameBy exact a b ≡ true → a ≡ b
-same-is a b e = sym (map-id a) ∙ same→map exact a b e ∙ map-id b
-
 six-is : (t : List ℕ) → isCategory t ≡ true → SixText t
 unfolding isCategory
 six-is t e =
-    ⊎-elim (λ i. ⊎-elim (λ a. SixText.fi (same-is t (bytes "FI") a)) (λ a. SixText.ci (same-is t (bytes "CI") a)) (or-either (sameBy exact t (bytes "FI")) _ i))
+    ⊎-elim (λ i. ⊎-elim (λ a. SixText.fi (same-exact t (bytes "FI") a)) (λ a. SixText.ci (same-exact t (bytes "CI") a)) (or-either (sameBy exact t (bytes "FI")) _ i))
     (λ m.
-    ⊎-elim (λ m. ⊎-elim (λ a. SixText.fm (same-is t (bytes "FM") a)) (λ a. SixText.cm (same-is t (bytes "CM") a)) (or-either (sameBy exact t (bytes "FM")) _ m))
-    (λ o. ⊎-elim (λ a. SixText.fo (same-is t (bytes "FO") a)) (λ a. SixText.co (same-is t (bytes "CO") a)) (or-either (sameBy exact t (bytes "FO")) _ o))
+    ⊎-elim (λ m. ⊎-elim (λ a. SixText.fm (same-exact t (bytes "FM") a)) (λ a. SixText.cm (same-exact t (bytes "CM") a)) (or-either (sameBy exact t (bytes "FM")) _ m))
+    (λ o. ⊎-elim (λ a. SixText.fo (same-exact t (bytes "FO") a)) (λ a. SixText.co (same-exact t (bytes "CO") a)) (or-either (sameBy exact t (bytes "FO")) _ o))
     (or-either (inClass class.MetalOrganic t) _ m))
     (or-either (inClass class.Inorganic t) _ e)
 

@@ -6,29 +6,17 @@ use mathlib.Core.List.{List, [], _∷_, _++_}
 use Prim.Native.Nat.{ℕ, zero, suc, _+_, _≤_}
 use native.Mathlib.Nat.{not-suc-le-zero}
 use native.Mathlib.Omega.{arith}
-use borrow.Author.Tests.{leb-true, le-leb}
-use lib.Dec.{leb}
+use borrow.Author.Tests.{le-leb}
 use lib.ListN.{length, take, drop, replicate, length-append, length-replicate, take-append-drop, List·getD-append}
 use lib.Seq.{take-append-seam, drop-append-seam, drop-append-add, drop-drop, drop-at}
 use Rattle.text.specs.Run.{runOf, all, between, other, hasAt}
-use Rattle.text.proofs.Bools.{and-both}
-use Rattle.text.proofs.Runs.{run-append, run-taken, run-length, has-here, has-within, has-byte, all-replicate}
+use Rattle.text.proofs.Runs.{run-append, run-taken, run-length, has-here, has-within, has-byte, all-replicate, all-same}
 use Rattle.line_reader.specs.Line.{nameEnd, valueStart, splitOf}
 use Rattle.line_values.specs.Wording.{ValueText}
 use Rattle.line_reader.specs.Wording.{IsLine}
 use Rattle.line_reader.specs.declared.line.Split.the-variants.{Parts, Malformed}
 use Rattle.line_reader.proofs.Splits.{split-is}
 use Rattle.line_values.proofs.Values.{value-is, value-taken, value-first}
-
--- a text of spaces alone
-all-spaces : (s : List ℕ) → all (between 32 32) s ≡ true → s ≡ replicate (length s) 32
-unfolding all between
-all-spaces [] e = refl
-all-spaces (b ∷ bs) e =
-    let h = and-both (between 32 32 b) (all (between 32 32) bs) e in
-    let k = and-both (leb 32 b) (leb b 32) (h .0) in
-    let at : b ≡ 32 = omega (arith, leb-true 32 b (k .0), leb-true b 32 (k .1)) in
-    rw at (ap (λ (l : List ℕ). 32 ∷ l) (all-spaces bs (h .1)))
 
 -- the name ends after its first byte
 name-begins : (t : List ℕ) → hasAt t 0 95 ≡ true → hasAt (take (nameEnd t) t) 0 95 ≡ true
@@ -43,7 +31,7 @@ module _ (t : List ℕ) where
   spaces-are : take spacesOf (drop (nameEnd t) t) ≡ replicate spacesOf 32
   spaces-are =
       let s = drop (nameEnd t) t in
-      all-spaces (take spacesOf s) (run-taken (between 32 32) s) ∙ ap (λ (n : ℕ). replicate n 32) (run-length (between 32 32) s)
+      all-same 32 (take spacesOf s) (run-taken (between 32 32) s) ∙ ap (λ (n : ℕ). replicate n 32) (run-length (between 32 32) s)
 
   text-is : t ≡ take (nameEnd t) t ++ (replicate spacesOf 32 ++ drop (valueStart t) t)
   text-is =

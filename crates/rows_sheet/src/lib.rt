@@ -1,3 +1,2 @@
 // The alert rows of document 01, "The twelve rows": all twelve of a sheet.
-pub mod by_value;
 pub mod sheet_rows;

@@ -16,21 +16,21 @@ use rows_graded::old_name_row;
 use rows_threshold::threshold_row;
 
 // Rows 1 to 5.
-pub(crate) struct FormulaGroup {
-    pub first: Row,
-    pub second: Row,
-    pub third: Row,
-    pub fourth: Row,
-    pub fifth: Row,
+struct FormulaGroup {
+    first: Row,
+    second: Row,
+    third: Row,
+    fourth: Row,
+    fifth: Row,
 }
 
 // A row that grades and the row of the old name.
-pub(crate) struct GradedPair {
-    pub graded: Row,
-    pub general: Row,
+struct GradedPair {
+    graded: Row,
+    general: Row,
 }
 
-pub(crate) fn formula_texts(f: &[u8], w: &[u8], c: &[u8]) -> FormulaGroup
+fn formula_texts(f: &[u8], w: &[u8], c: &[u8]) -> FormulaGroup
     ensures { λ r. ⌜ FormulaGroupOf (now (f .entry)) (now (w .entry)) (now (c .entry)) r ⌝ }
 {
     let first = recognised_row(f);
@@ -48,7 +48,7 @@ pub(crate) fn formula_texts(f: &[u8], w: &[u8], c: &[u8]) -> FormulaGroup
     }
 }
 
-pub(crate) fn graded_texts(row: u64, new: &[u8], old: &[u8]) -> GradedPair
+fn graded_texts(row: u64, new: &[u8], old: &[u8]) -> GradedPair
     ensures { λ r. ⌜ GradedPairOf row (now (new .entry)) (now (old .entry)) r ⌝ }
 {
     let graded = graded_row(row, new, old);

@@ -2,7 +2,7 @@
 -- Assumes nothing.
 use mathlib.Core.Path.{_≡_, refl, sym, ap, subst, _∙_}
 use mathlib.Core.Bool.{Bool, true, false, cond, _||_, and-false, false≢true}
-use mathlib.Core.List.{List, [], _∷_, _++_, map-id, append-assoc}
+use mathlib.Core.List.{List, [], _∷_, _++_, append-assoc}
 use Prim.Native.Nat.{ℕ, _+_, _-_}
 use native.Mathlib.Omega.{arith}
 use borrow.Author.Tests.{le-leb, leb-true}
@@ -15,7 +15,7 @@ use Rattle.text.specs.Run.{all, between, other, hasAt, isDigit}
 use Rattle.text.proofs.Bools.{and-both}
 use Rattle.text.proofs.Runs.{all-append, all-lack, lacks-nowhere, has-here}
 use Rattle.text_equality.specs.Same.{exact, sameBy}
-use Rattle.text_equality.proofs.Sames.{map→same, same→map}
+use Rattle.text_equality.proofs.Sames.{map→same, same-exact}
 use Rattle.number_decimal.specs.Reading.{readingOf}
 use Rattle.number_decimal.specs.Grammar.{SignText, PointText, UncertaintyText, IsSize, IsNumber}
 use Rattle.number_decimal.specs.declared.Reading.{Reading}
@@ -51,9 +51,6 @@ module _ (p q x : List ℕ) where
       let n : length whole - length p - length q ≡ length x = omega (arith, whole-long) in
       ap (λ (k : ℕ). take k (drop (length p) whole)) n ∙ ap (take (length x)) (drop-append-seam p (x ++ q)) ∙ take-append-seam x q
 
-same-is : (a b : List ℕ) → sameBy exact a b ≡ true → a ≡ b
-same-is a b e = sym (map-id a) ∙ same→map exact a b e ∙ map-id b
-
 -- a text that has a shape is of it
 shape-is : (p q t : List ℕ) → hasShape p q t ≡ true → t ≡ p ++ (insideOf p q t ++ q)
 unfolding hasShape
@@ -64,8 +61,8 @@ shape-is p q t e =
     let n = length t - length p - length q in
     let d = drop (length p) t in
     let at : length p + n ≡ length t - length q = omega arith in
-    let ends : drop n d ≡ q = drop-drop n (length p) t ∙ ap (λ (m : ℕ). drop m t) at ∙ same-is _ _ (k .1) in
-    sym (take-append-drop (length p) t) ∙ ap (λ (l : List ℕ). l ++ d) (same-is _ _ (k .0))
+    let ends : drop n d ≡ q = drop-drop n (length p) t ∙ ap (λ (m : ℕ). drop m t) at ∙ same-exact _ _ (k .1) in
+    sym (take-append-drop (length p) t) ∙ ap (λ (l : List ℕ). l ++ d) (same-exact _ _ (k .0))
     ∙ ap (λ (l : List ℕ). p ++ l) (sym (take-append-drop n d) ∙ ap (λ (l : List ℕ). take n d ++ l) ends)
 
 -- ---- what stands for x

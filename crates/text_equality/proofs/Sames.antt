@@ -2,7 +2,7 @@
 -- Assumes nothing.
 use mathlib.Core.Path.{_≡_, refl, sym, ap, _∙_}
 use mathlib.Core.Bool.{Bool, true, false, _&&_, and-true, and-false, and-assoc, false≢true}
-use mathlib.Core.List.{List, [], _∷_, _++_, map}
+use mathlib.Core.List.{List, [], _∷_, _++_, map, map-id}
 use Prim.Native.Nat.{ℕ, suc, _+_, _≤_, _<_}
 use native.Mathlib.Numerals.{add-one}
 use native.Mathlib.Omega.{arith}
@@ -10,7 +10,7 @@ use borrow.Author.Tests.{eq-eqb, ne-eqb, eqb-true}
 use lib.Dec.{eqb}
 use lib.ListN.{length, getD, take, drop, drop-of-length-le}
 use lib.Seq.{drop-cons, length-take-le, take-suc, take-all}
-use Rattle.text_equality.specs.Same.{sameBy}
+use Rattle.text_equality.specs.Same.{exact, sameBy}
 use Rattle.text.proofs.Bools.{and-both}
 
 pub record Compared (f : ℕ → ℕ) (a b : List ℕ) (i : ℕ) : Type 0 where
@@ -65,6 +65,10 @@ same→map f (x ∷ xs) (y ∷ ys) e =
     let h = eqb-true (f x) (f y) (k .0) in
     let r = same→map f xs ys (k .1) in
     cc
+
+-- byte for byte, they are equal
+pub same-exact : (a b : List ℕ) → sameBy exact a b ≡ true → a ≡ b
+same-exact a b e = sym (map-id a) ∙ same→map exact a b e ∙ map-id b
 
 -- a text is seen only through f
 pub same-cong : (f : ℕ → ℕ) (s t x : List ℕ) → map f s ≡ map f t → sameBy f s x ≡ sameBy f t x

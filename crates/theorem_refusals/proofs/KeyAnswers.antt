@@ -1,7 +1,7 @@
 -- A key call answers by its table: each number exactly when its condition holds and none above it does, 0 exactly when none does.
 -- Assumes nothing.
-use mathlib.Core.Path.{_≡_, refl, sym, ap, _∙_, subst⁻¹}
-use mathlib.Core.Bool.{Bool, true, false, cond, _&&_, false≢true}
+use mathlib.Core.Path.{_≡_, refl, ap, _∙_, subst⁻¹}
+use mathlib.Core.Bool.{Bool, true, false, cond, _&&_}
 use mathlib.Core.Logic.{_↔_}
 use mathlib.Core.List.{List}
 use Prim.Native.Nat.{ℕ, _-_, _≤_}
@@ -9,8 +9,8 @@ use native.Mathlib.Omega.{arith}
 use borrow.Author.Tests.{ltb-true, ltb-false, leb-true, leb-false, eqb-true, eqb-false, le-leb}
 use lib.Dec.{ltb, leb, eqb}
 use lib.ListN.{length, drop, length-take, List·getD-eq-default}
-use Rattle.text.specs.Run.{all, between}
-use Rattle.text.proofs.Bools.{and-both}
+use Rattle.text.specs.Run.{all}
+use Rattle.text.proofs.Runs.{between-is, between-taken}
 use Rattle.line_items.specs.Items.{IsName}
 use Rattle.line_items.specs.Typed.{lineMost, isTyped}
 use Rattle.line_reader.specs.Line.{classOf}
@@ -45,8 +45,7 @@ no-key a e m n (empties h) = m h
 no-key a e m n (enter h) = n h
 
 not-typed : {byte : ℕ} → isTyped byte ≡ false → Appends byte → ⊥
-unfolding between
-not-typed {byte} e h = let s = le-leb 32 byte (h .0) in let m = le-leb byte 126 (h .1) in false≢true (sym e ∙ simp (s, m))
+not-typed {byte} e h = fails e (between-taken 32 126 byte (h .0) (h .1))
 
 -- a text of at most 80 bytes, all 32 to 126
 abbrev pub Fits : List ℕ → Type 0
@@ -90,10 +89,8 @@ module _ (Sound : Type 0) (line : List ℕ) (size unused bench byte : ℕ) where
 
     by-byte : (p q r s : Bool) → isTyped byte ≡ p → eqb byte 8 ≡ q → eqb byte 24 ≡ r → eqb byte 10 ≡ s
         → From 3 (cond p (cond (ltb size lineMost) 0 4) (cond q 0 (cond r 0 (cond s (enterNumber (classOf line) line unused) 3))))
-    unfolding between
     by-byte true q r s e e8 e24 e10 =
-        let h = and-both (leb 32 byte) (leb byte 126) e in
-        let a : Appends byte = (leb-true 32 byte (h .0), leb-true byte 126 (h .1)) in
+        let a = between-is 32 126 byte e in
         next (λ k. k (appends a)) (by-size a (ltb size lineMost) refl)
     by-byte false true r s e e8 e24 e10 =
         let at = eqb-true byte 8 e8 in
