@@ -1,4 +1,5 @@
 pub mod Shapes
 pub mod Follows
-pub mod Kept
 pub mod Gathered
+pub mod Kept
+pub mod Trips
