@@ -4,21 +4,17 @@ use mathlib.Core.Path.{_≡_, sym, ap, _∙_}
 use mathlib.Core.Bool.{Bool, true, false, _&&_}
 use mathlib.Core.List.{List, _++_}
 use Prim.Native.Nat.{ℕ, _+_, _-_, _*_, _≤_, _<_}
-use native.Mathlib.Nat.{zero-add}
 use native.Mathlib.Omega.{arith}
 use borrow.Author.Tests.{leb-true}
 use borrow.Rule.Slice.PartMut.{putMid, midOf}
 use lib.Dec.{leb}
-use lib.ListN.{length, take, drop, replicate, length-replicate, replicate-append-replicate, take-append-drop}
-use lib.Seq.{drop-at, drop-drop}
-use Rattle.text_copies.specs.Copy.{copied}
+use lib.ListN.{length, take, drop, take-append-drop}
+use lib.Seq.{drop-drop}
 use Rattle.text.proofs.Bools.{and-both}
-use Rattle.text_copies.proofs.Copies.{copied-fits}
 use Rattle.line_items.specs.Typed.{lineMost}
 use Rattle.desk_log.specs.Record.{recordLength, recordMost, recordOf, withRecord, hasRoom, writtenOf, freeAfter}
 use Rattle.desk_log.specs.declared.Written.the-variants.{Bytes, NoRoom}
 use Rattle.desk_log.proofs.Records.{free-written, tail-back, tail-lent, wrote-none, wrote-bytes, room-left}
-use Rattle.desk_state.specs.Lines.{padded}
 use Rattle.desk_state.specs.Desks.{benchCount, noLine, lineAt}
 use Rattle.desk_soundness.specs.Sound.{soundLine, soundLines, soundDesk}
 use Rattle.desk_soundness.specs.SoundLog.{logMost, soundLog}
@@ -27,20 +23,6 @@ use Rattle.desk_state.specs.declared.desk.Desk.{Desk}
 use Rattle.desk_soundness.proofs.Everys.{every-each}
 use Rattle.desk_keys.specs.Key.{After, refused, entered, stored}
 use Rattle.desk_keys.specs.Ready.{Ready}
-
-drop-zeros : (n k : ℕ) → n ≤ k → drop {A = ℕ} n (replicate k 0) ≡ replicate (k - n) 0
-drop-zeros n k h =
-    let e : n + (k - n) ≡ k = omega arith in
-    ap (λ (l : List ℕ). drop n l) (sym (replicate-append-replicate n (k - n) 0 ∙ ap (λ (m : ℕ). replicate m 0) e))
-    ∙ drop-at (replicate n 0) (replicate (k - n) 0) n (length-replicate n 0)
-
--- a value copied into an array of zeros
-pub copied-padded : (v : List ℕ) → length v ≤ lineMost → copied (replicate lineMost 0) 0 v ≡ padded v
-copied-padded v h =
-    let l : 0 + length v ≤ length {A = ℕ} (replicate lineMost 0) = rw (length-replicate {A = ℕ} lineMost 0) (omega arith) in
-    copied-fits (replicate lineMost 0) 0 v l
-    ∙ ap (λ (n : ℕ). v ++ drop n (replicate lineMost 0)) (zero-add (length v))
-    ∙ ap (λ (r : List ℕ). v ++ r) (drop-zeros (length v) lineMost h)
 
 -- the log's tail was lent to the writer, and came back
 module _ (d : Desk) (used : ℕ) (log : List ℕ) (bench item : ℕ) (v last : List ℕ) (short : length v ≤ lineMost) (within : used ≤ length log)

@@ -1,6 +1,6 @@
 -- A key call whose answer is not 0 changes nothing, in the definitions and in lent memory, where it leaves every byte and every number.
 -- Assumes nothing.
-use mathlib.Core.Path.{_≡_, refl, sym, ap, _∙_}
+use mathlib.Core.Path.{_≡_, refl, ap, _∙_}
 use mathlib.Core.Bool.{Bool, true, false, cond, _&&_}
 use mathlib.Core.List.{List}
 use Prim.Native.Nat.{ℕ, _-_}
@@ -19,7 +19,7 @@ use Rattle.desk_memory.proofs.Desks.{desk-sized}
 use Rattle.desk_memory.proofs.Whole.{same-texts, same-numbers}
 use Rattle.desk_soundness.specs.Sound.{soundDesk}
 use Rattle.desk_soundness.specs.SoundLog.{soundLog}
-use Rattle.desk_keys.specs.Key.{After, refused, edited, stored, enteredAs, keyStep, keyOf}
+use Rattle.desk_keys.specs.Key.{After, refused, stored, enteredAs, keyStep, keyOf}
 use Rattle.desk_keys.specs.Lent.{KeyLent}
 
 module _ (d : Desk) (used : ℕ) (log : List ℕ) where

@@ -24,7 +24,6 @@ use desk_state::desk::BENCH_COUNT;
 use line_items::LINE_MOST;
 use line_reader::line::Class;
 
-
 // A byte to append.
 fn append_byte(texts: &mut [u8], numbers: &mut [usize], bench: usize, byte: u8) -> Answer
     requires { ⌜ (bench < benchCount) × Sized (now texts) (now numbers) ⌝ }

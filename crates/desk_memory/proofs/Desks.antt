@@ -4,7 +4,6 @@ use mathlib.Core.Path.{_≡_, refl, sym, ap, _∙_}
 use mathlib.Core.Bool.{true}
 use mathlib.Core.List.{List}
 use Prim.Native.Nat.{ℕ, _+_, _*_, _-_, _<_}
-use native.Mathlib.Omega.{arith}
 use borrow.Author.Tests.{eq-eqb, eqb-true}
 use lib.Dec.{eqb}
 use lib.ListN.{length, getD, take, drop, set, replicate}
@@ -13,8 +12,6 @@ use Rattle.line_items.specs.Typed.{lineMost}
 use Rattle.line_items.specs.Items.{itemCount}
 use Rattle.desk_state.specs.Sheets.{noItem}
 use Rattle.desk_state.specs.Desks.{benchCount, noLine, lineAt, withLine, freshDesk}
-use Rattle.desk_state.specs.declared.line.Line.{Line}
-use Rattle.desk_state.specs.declared.sheet.Sheet.{Sheet}
 use Rattle.desk_memory.specs.Memory.{itemNumbers, countAt, sheetNumbers, sheetTexts, sheetsAt, usedAt, textsLength, numbersLength, Sized, isDesk, slot, each, lineIn, itemIn, sheetFrom, textsOf, numbersOf, deskOf, usedOf}
 use Rattle.desk_memory.proofs.Slots.{block-lent, slot-after, slot-within}
 use Rattle.desk_memory.proofs.Eachs.{each-length, each-at, each-same, each-set}

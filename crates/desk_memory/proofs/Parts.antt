@@ -4,7 +4,7 @@ use mathlib.Core.Path.{_≡_, refl, sym, ap, _∙_}
 use mathlib.Core.List.{List, [], _∷_, _++_, append-assoc}
 use Prim.Native.Nat.{ℕ, zero, suc, _+_, _-_, _≤_, _<_}
 use native.Mathlib.Omega.{arith}
-use lib.ListN.{length, getD, take, drop, set, length-append, length-drop, take-append-drop, List·getD-append}
+use lib.ListN.{length, getD, take, drop, set, length-append, length-drop, List·getD-append}
 use lib.Seq.{take-set-le, drop-set-lt, take-set-lt, drop-set-add, length-take-le, take-append-le, drop-append-le, drop-append-add, take-at, drop-at, drop-drop, take-take, getD-take, getD-drop}
 use borrow.Rule.Slice.PartMut.{putMid, postOf, drop-put}
 use Rattle.text_copies.specs.Copy.{copied}

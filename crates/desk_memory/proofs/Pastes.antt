@@ -1,11 +1,11 @@
 -- Laws of loops that copy or clear in one text.
 -- Assumes nothing.
-use mathlib.Core.Path.{_≡_, refl, sym, ap, _∙_}
+use mathlib.Core.Path.{_≡_, sym, ap, _∙_}
 use mathlib.Core.List.{List, _++_, append-nil}
 use Prim.Native.Nat.{ℕ, _+_, _≤_, _<_}
 use native.Mathlib.Numerals.{add-one}
 use native.Mathlib.Omega.{arith}
-use lib.ListN.{length, getD, take, drop, set, replicate, length-append, length-drop, length-replicate, getD-replicate, drop-of-length-le, List·getD-append}
+use lib.ListN.{length, getD, take, drop, set, replicate, length-drop, length-replicate, getD-replicate, drop-of-length-le, List·getD-append}
 use lib.Seq.{paste, paste-suc, length-take-le, length-paste-head, getD-take, getD-drop}
 use Rattle.text_copies.specs.Copy.{copied}
 use Rattle.text_copies.proofs.Copies.{copied-fits, copied-start, pasted-is}

@@ -23,11 +23,10 @@ use line_items::ITEM_COUNT;
 use line_items::LAST_TYPED;
 use line_items::LINE_MOST;
 
-
 // The longest log, and the least that a record takes of it.
 pub const LOG_MOST: usize = 65536;
 
-pub(crate) const RECORD_LEAST: usize = 6;
+const RECORD_LEAST: usize = 6;
 
 fn is_sound_line(bytes: &[u8], n: usize) -> bool
     requires { ⌜ length (now bytes) ≡ lineMost ⌝ }

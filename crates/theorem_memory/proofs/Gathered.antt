@@ -4,7 +4,6 @@ use mathlib.Core.Path.{_≡_, sym, ap, _∙_}
 use mathlib.Core.List.{List}
 use Prim.Native.Nat.{ℕ}
 use Rattle.rows.specs.declared.Rows.{Rows}
-use Rattle.desk_state.specs.declared.desk.Desk.{Desk}
 use Rattle.desk_memory.specs.Memory.{deskOf, usedOf}
 use Rattle.desk_memory.proofs.Desks.{zeros-fresh, desk-sized}
 use Rattle.desk_memory.proofs.Whole.{same-texts, same-numbers}
@@ -37,5 +36,5 @@ memory-gathered log {m = m} {m′ = m′} run moved =
     record {
       gathered-answers = then .answers ∙ claim .gathered-answers ∙ ap gatherAnswered (sym (first .answers));
       gathered-memory = same-memory m′ m (run-kept (zeros-fresh .0) moved) (run-kept (zeros-fresh .0) run)
-        (then .state ∙ claim .gathered-state ∙ sym (first .state));
+          (then .state ∙ claim .gathered-state ∙ sym (first .state));
     }

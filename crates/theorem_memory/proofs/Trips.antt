@@ -5,7 +5,7 @@ use mathlib.Core.Bool.{Bool, true, false}
 use mathlib.Core.List.{List, map}
 use Prim.Native.Nat.{ℕ, _≤_, _<_}
 use native.Mathlib.Omega.{arith}
-use lib.ListN.{length, replicate}
+use lib.ListN.{length}
 use Rattle.rows.specs.declared.Rows.{Rows}
 use Rattle.desk_state.specs.Sheets.{itemAt, valueIn}
 use Rattle.desk_state.specs.Desks.{benchCount}
@@ -13,8 +13,8 @@ use Rattle.desk_memory.specs.Memory.{isDesk, deskOf}
 use Rattle.desk_memory.proofs.Desks.{desk-sized}
 use Rattle.desk_soundness.specs.SoundLog.{logMost}
 use Rattle.file_cif.specs.Answers.{Filing, fileStep, fileLent}
-use Rattle.theorem_sequences.specs.Calls.{Call, Reply, keyed, State}
-use Rattle.theorem_round_trip.specs.RoundTrip.{lineKeys, filedBytes, roomFor, RoundTrip}
+use Rattle.theorem_sequences.specs.Calls.{Call, Reply, State}
+use Rattle.theorem_round_trip.specs.RoundTrip.{filedBytes, roomFor, RoundTrip}
 use Rattle.theorem_round_trip.proofs.Trip.{round-trip}
 use Rattle.theorem_memory.specs.Runs.{Memory, freshMemory, Run}
 use Rattle.theorem_memory.specs.RoundTrips.{fileKeys, MemoryRoundTrip}

@@ -8,7 +8,7 @@ use lib.ListN.{length, replicate}
 use Rattle.rows.specs.Rows.{noRows}
 use Rattle.rows.specs.declared.Rows.{Rows}
 use Rattle.rows_sheet.specs.Sheet.{rowsOf}
-use Rattle.desk_memory.specs.Memory.{textsLength, numbersLength, isDesk}
+use Rattle.desk_memory.specs.Memory.{textsLength, numbersLength}
 use Rattle.desk_soundness.specs.SoundMemory.{soundMemory, soundForKeys}
 use Rattle.desk_keys.specs.Lent.{KeyLent}
 use Rattle.desk_questions.specs.Report.{Report, reportLent}

@@ -1,6 +1,5 @@
 -- `desk_keys::append_byte` meets its contract: the line is full or not.
 -- Assumes nothing.
-use native.Mathlib.Omega.{arith}
 use denote.Ref.{now}
 use Rattle.desk_keys.proofs.Cases.{append-full, append-some}
 use borrow.Author.Needs.{needs}

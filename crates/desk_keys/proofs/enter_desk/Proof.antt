@@ -2,7 +2,7 @@
 -- Assumes nothing.
 use native.Mathlib.Omega.{arith}
 use mathlib.Core.Path.{_∙_, ap}
-use lib.ListN.{take, drop, set, length-set}
+use lib.ListN.{take, drop, length-set}
 use denote.Ref.{now}
 use Rattle.desk_state.specs.Lines.{emptyLine}
 use Rattle.desk_state.specs.Desks.{withLine}

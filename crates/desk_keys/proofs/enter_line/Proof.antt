@@ -11,7 +11,7 @@ use Rattle.desk_state.specs.Lines.{typed}
 use Rattle.desk_state.specs.Desks.{lineAt}
 use Rattle.line_reader.specs.Line.{classOf}
 use Rattle.line_reader.specs.declared.line.Class.{Class}
-use Rattle.line_reader.proofs.Entries.{IsEntry, entry-is}
+use Rattle.line_reader.proofs.Entries.{entry-is}
 use Rattle.desk_keys.specs.Key.{enteredAs}
 use Rattle.desk_memory.specs.Memory.{deskOf, usedOf}
 use Rattle.desk_keys.proofs.Stores.{typed-lent}

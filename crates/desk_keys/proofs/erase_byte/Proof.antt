@@ -1,6 +1,5 @@
 -- `desk_keys::erase_byte` meets its contract: the line is empty, too long, or neither.
 -- Assumes nothing.
-use native.Mathlib.Omega.{arith}
 use denote.Ref.{now}
 use Rattle.desk_keys.proofs.Cases.{erase-none, erase-long, erase-some}
 use borrow.Author.Needs.{needs}

@@ -3,11 +3,10 @@
 use native.Mathlib.Omega.{arith}
 use mathlib.Core.Path.{_≡_, sym, _∙_, ap}
 use mathlib.Core.List.{List}
-use Prim.Native.Nat.{ℕ, _+_, _*_, _-_, _≤_, _<_}
+use Prim.Native.Nat.{ℕ, _+_, _*_, _-_, _≤_}
 use denote.Ref.{now}
-use lib.ListN.{length, getD, take, drop, length-take, length-drop}
+use lib.ListN.{length, getD, take, drop, length-take}
 use Rattle.line_items.specs.Typed.{lineMost}
-use Rattle.desk_soundness.specs.SoundLog.{logMost}
 use Rattle.desk_state.specs.Lines.{typed}
 use Rattle.desk_state.specs.Desks.{lineAt}
 use Rattle.desk_log.proofs.Records.{wrote-bytes}

@@ -4,7 +4,6 @@ use native.Mathlib.Omega.{arith}
 use mathlib.Core.Path.{_≡_, refl}
 use Prim.Native.Nat.{_≤_, _-_}
 use lib.ListN.{length}
-use denote.Ref.{now}
 use Rattle.desk_session.proofs.Runs.{RanLent, lent-none, lent-next, lent-all}
 use borrow.Author.Needs.{needs}
 use Rattle.desk_session.proofs.play_pairs.Statement.{statement}

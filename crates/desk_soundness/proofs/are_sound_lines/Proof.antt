@@ -9,7 +9,6 @@ use lib.ListN.{length-take, length-drop}
 use denote.Ref.{now}
 use Rattle.line_items.specs.Typed.{lineMost}
 use Rattle.desk_state.specs.Desks.{benchCount}
-use Rattle.desk_soundness.specs.Sound.{soundLine}
 use Rattle.desk_soundness.proofs.Turns.{linesFrom, lines-all, lines-end, line-turn}
 use Rattle.desk_soundness.proofs.are_sound_lines.Statement.{statement}
 use Rattle.desk_soundness.proofs.are_sound_lines.Tie as tie

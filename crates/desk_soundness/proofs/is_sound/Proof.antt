@@ -1,8 +1,8 @@
 -- `desk_soundness::is_sound` meets its contract: the lengths, the lines and then the sheet.
 -- Assumes nothing.
 use native.Mathlib.Omega.{arith}
-use mathlib.Core.Path.{_≡_, refl, sym, _∙_}
-use mathlib.Core.Bool.{true, false}
+use mathlib.Core.Path.{_≡_, sym, _∙_}
+use mathlib.Core.Bool.{true}
 use lib.ListN.{length-take, length-drop}
 use denote.Ref.{now}
 use borrow.Author.Tests.{not-true, not-false}

@@ -1,8 +1,7 @@
 -- `desk_soundness::is_sound_for_keys` meets its contract: the memory, and then the log.
 -- Assumes nothing.
 use native.Mathlib.Omega.{arith}
-use mathlib.Core.Path.{_≡_, sym, _∙_}
-use mathlib.Core.Bool.{true}
+use mathlib.Core.Path.{sym, _∙_}
 use denote.Ref.{now}
 use Rattle.text.proofs.Bools.{and-both}
 use Rattle.desk_memory.specs.Memory.{Sized, isDesk, deskOf}

@@ -1,7 +1,7 @@
 -- `desk_soundness::is_sound_line` meets its contract: each return has the tests of `soundLine` on its way.
 -- Assumes nothing.
 use native.Mathlib.Omega.{arith}
-use mathlib.Core.Path.{_≡_, sym, _∙_}
+use mathlib.Core.Path.{sym, _∙_}
 use lib.ListN.{length-take}
 use denote.Ref.{now}
 use borrow.Author.Tests.{le-leb, lt-leb}
