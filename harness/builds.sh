@@ -103,161 +103,6 @@ desk_builds() {
     done
 }
 
-# A program, unproved, that reads calls of the library from standard input and writes what they answer; harness/src/frames.rs has their form.
-write_caller() {
-    cat <<'END'
-use libc::STDIN_FILENO;
-use libc::STDOUT_FILENO;
-use desk_memory::TEXTS;
-use desk_memory::NUMBERS;
-use rows::ROW_COUNT;
-
-const HEAD: usize = 17;
-
-const LONGEST: usize = 262144;
-
-const CALL: usize = 10;
-
-fn number(head: &[u8], at: usize) -> usize {
-    head[at] as usize + 256 * (head[at + 1] as usize) + 65536 * (head[at + 2] as usize)
-}
-
-fn wide(bytes: &[u8], at: usize) -> u64 {
-    let mut n = 0;
-    let mut i = 8;
-    while 0 < i {
-        i -= 1;
-        n = 256 * n + bytes[at + i] as u64;
-    }
-    n
-}
-
-fn read(buffer: &mut [u8], n: usize) {
-    io::read_full(STDIN_FILENO, &mut buffer[..n]);
-}
-
-fn put(byte: u8) {
-    let one = [byte];
-    io::write_all(STDOUT_FILENO, &one);
-}
-
-fn put_wide(n: u64) {
-    let mut bytes = [0u8; 8];
-    let mut rest = n;
-    let mut i = 0;
-    while i < 8 {
-        bytes[i] = (rest % 256) as u8;
-        rest = rest / 256;
-        i += 1;
-    }
-    io::write_all(STDOUT_FILENO, &bytes);
-}
-
-fn read_numbers(numbers: &mut [usize]) {
-    let mut bytes = [0u8; 8];
-    let mut i = 0;
-    while i < numbers.len() {
-        io::read_full(STDIN_FILENO, &mut bytes);
-        numbers[i] = wide(&bytes, 0) as usize;
-        i += 1;
-    }
-}
-
-fn put_numbers(numbers: &[usize]) {
-    let mut i = 0;
-    while i < numbers.len() {
-        put_wide(numbers[i] as u64);
-        i += 1;
-    }
-}
-
-// One call, and its answer.
-fn call(bytes: &[u8], at: usize, texts: &mut [u8], numbers: &mut [usize], log: &mut [u8]) {
-    let n = wide(bytes, at + 1);
-    if bytes[at] == 0 {
-        let answer = export_desk::desk_key(texts, numbers, log, n, bytes[at + 9]);
-        put(answer);
-    } else if bytes[at] == 1 {
-        let told = export_desk::desk_report(texts, numbers);
-        put(told.answer);
-        let mut i = 0;
-        while i < ROW_COUNT {
-            put(told.rows.rows[i].level);
-            put(told.rows.rows[i].reason);
-            i += 1;
-        }
-    } else {
-        let told = export_desk::desk_who(texts, numbers, n);
-        put(told.answer);
-        put(told.bench);
-        put_wide(told.entry as u64);
-    }
-}
-
-fn calls(fresh: bool, bytes: &[u8], log: &mut [u8], name: &[u8], out: &mut [u8], texts: &mut [u8], numbers: &mut [usize]) {
-    if fresh {
-        let answer = export_desk::desk_fresh(texts, numbers);
-        put(answer);
-    }
-    let mut at = 0;
-    while at < bytes.len() {
-        call(bytes, at, texts, numbers, log);
-        at += CALL;
-    }
-    let filed = export_desk::desk_file(texts, numbers, name, out);
-    put_wide(filed.count as u64);
-    put(filed.answer);
-    io::write_all(STDOUT_FILENO, out);
-    io::write_all(STDOUT_FILENO, texts);
-    put_numbers(numbers);
-    io::write_all(STDOUT_FILENO, log);
-}
-
-fn answer(head: &[u8], first: &mut [u8], log: &mut [u8], name: &mut [u8], out: &mut [u8]) -> bool {
-    let a = number(head, 1);
-    let b = number(head, 5);
-    let c = number(head, 9);
-    let room = number(head, 13);
-    if LONGEST < CALL * a || LONGEST < b || LONGEST < c || LONGEST < room {
-        return false;
-    }
-    if head[0] == 2 {
-        read(first, a);
-        let graded = export_wall::wall_grade(b as u64, &first[..a]);
-        put(export_wall::wall_classify(&first[..a]));
-        put(graded.answer);
-        put(graded.level);
-        return true;
-    }
-    let mut texts = [0u8; TEXTS];
-    let mut numbers = [0usize; NUMBERS];
-    io::read_full(STDIN_FILENO, &mut texts);
-    read_numbers(&mut numbers);
-    read(first, CALL * a);
-    read(log, b);
-    read(name, c);
-    read(out, room);
-    calls(head[0] == 1, &first[..CALL * a], &mut log[..b], &name[..c], &mut out[..room], &mut texts, &mut numbers);
-    true
-}
-
-fn main() {
-    let mut head = [0u8; HEAD];
-    let mut first = [0u8; LONGEST];
-    let mut log = [0u8; LONGEST];
-    let mut name = [0u8; LONGEST];
-    let mut out = [0u8; LONGEST];
-    let mut more = true;
-    while more {
-        more = io::read_full(STDIN_FILENO, &mut head) == HEAD;
-        if more {
-            more = answer(&head, &mut first, &mut log, &mut name, &mut out);
-        }
-    }
-}
-END
-}
-
 # generated FOLDER SEED NUMBER BUILD..: so many generated sequences, each with lines, values, sheets and files, by these of the kept builds.
 generated() {
     local folder=$1 seed=$2 number=$3 build
@@ -278,15 +123,13 @@ part() {
     rm -rf "$work"
 }
 
-# The calls of the library: the measured examples four ways, then the fixed lists and generated sequences by the compiled builds.
+# The calls of the library, through the program test_caller: the measured examples four ways, then the fixed lists and generated sequences by the compiled builds.
 library_builds() {
-    local build seed crates
+    local build seed
     local -A number=([1]=400 [2]=2000 [3]=60)
-    mkdir -p "$work/caller/src" "$work/examples" "$work/lists"
-    write_caller >"$work/caller/src/main.rt"
-    crates="io libc export_wall export_desk $(used_by export_wall) $(used_by export_desk)"
+    mkdir -p "$work/examples" "$work/lists"
     "$harness" example-frames "$work/examples" && "$harness" frames "$work/lists" || fail "frames" "not written"
-    tried "library, four ways: measured examples" "$work/library" caller "$work/caller/src/main.rt" "$crates" "$work/examples/stdin" "$work/examples/stdout"
+    tried "library, four ways: measured examples" "$work/library" test_caller crates/test_caller/src/main.rt "$(used_by test_caller)" "$work/examples/stdin" "$work/examples/stdout"
     for build in "${builds[@]}"; do
         prints "library, ${build#* }: fixed lists" "$work/lists/stdout" "$work/lists/stdin" "$work/library/${build% *}"
     done

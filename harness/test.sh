@@ -68,6 +68,7 @@ layout() {
     { grep -ho '^#define DESK_[A-Z_]* [0-9]*' include/desk.h; grep -ho '^} [a-z_]*' include/{wall,desk}.h harness/probe.h; } | awk '{ print $2 }' | sort >"$work/want"
     awk '{ print $1 }' "$work/layout" | sort >"$work/out"
     same "every struct and number of the headers" "$work/want" "$work/out"
+    runs "numbers of desk.h, by what the desk does" 0 '' '' bash harness/desk_layout.sh
 }
 
 client_arguments() {

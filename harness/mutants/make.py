@@ -96,7 +96,7 @@ class Node:
     place at which text is put (before an arm, or after its pattern)."""
 
     def __init__(self, kind, start, end):
-        self.kind, self.start, self.end, self.others, self.inner = kind, start, end, [], []
+        self.kind, self.start, self.end, self.others = kind, start, end, []
 
 
 class File:
@@ -110,10 +110,10 @@ class File:
         """The source from one token to another."""
         return self.source[self.tokens[first].start : self.tokens[last].end]
 
-    def add(self, kind, first, last, old, new, other):
-        """A mutant of the tokens first to last."""
-        start = self.tokens[first].start
-        self.put(kind, start, self.tokens[last].end, old, new, other)
+    def add(self, kind, first, last, old, new, other=None):
+        """A mutant of the tokens first to last: told as old and new, and written as the other text where that differs."""
+        start, end = self.tokens[first].start, self.tokens[last].end
+        self.put(kind, start, end, old, new, new if other is None else other)
 
     def put(self, kind, start, end, old, new, other):
         node = self.nodes.setdefault((start, end, kind), Node(kind, start, end))
@@ -219,9 +219,9 @@ class File:
                 self.operator(at)
             elif token.text == "if" and self.tokens[at + 1].text != "let":
                 self.condition(at)
-            elif token.text == "!" and self.tokens[at - 1].kind != "word" or token.text == "!" and self.source[token.start - 1].isspace():
+            elif token.text == "!" and not self.source[token.start - 1].isalnum():
                 end = self.postfix_end(at + 1)
-                self.add("expression", at, end, self.text(at, end), self.text(at + 1, end), self.text(at + 1, end))
+                self.add("expression", at, end, self.text(at, end), self.text(at + 1, end))
             elif token.text == "." and self.tokens[at + 1].kind == "word" and self.tokens[at + 2].text == "(":
                 self.call(at)
             elif token.kind == "word":
@@ -237,7 +237,7 @@ class File:
         left, right = self.text(first, at - 1), self.text(at + 1, last)
         for other in OTHER_SIGN.get(sign, []):
             new = f"{left} {other} {right}"
-            self.add("expression", first, last, f"{left} {sign} {right}", new, new)
+            self.add("expression", first, last, f"{left} {sign} {right}", new)
 
     def condition(self, at):
         last = self.right(at, 0)
@@ -251,41 +251,42 @@ class File:
         old = self.text(first, last)
         if name in OTHER_CALL:
             new = f"{on}.{OTHER_CALL[name]}{given}"
-            self.add("expression", first, last, old, new, new)
+            self.add("expression", first, last, old, new)
         elif name in NEGATED_CALLS:
             self.add("expression", first, last, old, f"!{old}", f"!({old})")
         elif name in CHOSEN_BY:
             self.add("expression", first, dot - 1, f"({on}).{name}", f"(!{on}).{name}", f"!({on})")
         elif name == "abs":
-            self.add("expression", first, last, old, on, on)
+            self.add("expression", first, last, old, on)
 
     def word(self, at):
         word, after = self.tokens[at].text, self.tokens[at + 1].text
         if self.tokens[at - 1].text == "::" and word in OTHER_PATH:
             owner = self.tokens[at - 2].text
             new = f"{owner}::{OTHER_PATH[word]}"
-            self.add("expression", at - 2, at, f"{owner}::{word}", new, new)
+            self.add("expression", at - 2, at, f"{owner}::{word}", new)
         elif word in KINDS and after == "::":
             self.variant(at)
         elif word == "Some" and after == "(":
             last = self.tokens[at + 1].partner
-            self.add("expression", at, last, self.text(at, last), "None", "None")
+            self.add("expression", at, last, self.text(at, last), "None")
         elif word in self.constants and self.tokens[at - 1].text not in {"::", "."}:
             value = self.constants[word]
             changes = ["+ 1"] * (value != "255") + ["- 1"] * (value != "0")
             for change in changes:
-                self.add("expression", at, at, word, f"{word} {change}", f"{word} {change}")
-        elif word in self.tables and self.tokens[at - 1].text not in {"::", "."} and not (after == "." and self.tokens[at + 2].text == "len"):
-            token = self.tokens[at]
-            node = self.nodes.setdefault((token.start, token.end, "table"), Node("table", token.start, token.end))
-            node.others = [(None, f"(*crate::{self.tables[word]}::mutable_{word}())")]
+                self.add("expression", at, at, word, f"{word} {change}")
+        elif word in self.tables and self.tokens[at - 1].text not in {"::", "."}:
+            if (after, self.tokens[at + 2].text) != (".", "len"):
+                token = self.tokens[at]
+                node = self.nodes.setdefault((token.start, token.end, "table"), Node("table", token.start, token.end))
+                node.others = [(None, f"(*crate::{self.tables[word]}::mutable_{word}())")]
 
     def variant(self, at):
         kinds = KINDS[self.tokens[at].text]
         name = self.tokens[at + 2].text
         other = kinds[(kinds.index(name) + 1) % len(kinds)]
         new = f"{self.tokens[at].text}::{other}"
-        self.add("expression", at, at + 2, self.text(at, at + 2), new, new)
+        self.add("expression", at, at + 2, self.text(at, at + 2), new)
 
     def literal(self, at):
         lent = self.tokens[at - 1].text == "&"  # a literal that is lent lives on only if it is lent as a literal
@@ -320,7 +321,7 @@ class File:
                 self.arms(at)
             elif token.text == "matches":
                 self.matches(at)
-            elif token.text == "|" and self.tokens[at - 1].text in {"(", "=", ","} or token.text == "|" and self.tokens[at - 1].text == "move":
+            elif token.text == "|" and self.tokens[at - 1].text in {"(", "=", ",", "move"}:
                 end = at + 1
                 while self.tokens[end].text != "|":
                     end += 1
@@ -401,7 +402,7 @@ class File:
             token = self.tokens[place]
             for other in other_literals(token):
                 new = self.source[self.tokens[at].start : token.start] + other + self.source[token.end : self.tokens[last].end]
-                self.add("expression", at, last, self.text(at, last), new, new)
+                self.add("expression", at, last, self.text(at, last), new)
 
     # The copy.
 
@@ -453,9 +454,9 @@ def table_of(name, kind, value, file, offset):
     first = next(place for place in range(len(part.tokens)) if part.tokens[place].text == "{")
     for at in range(first + 1, part.tokens[first].partner):
         token = part.tokens[at]
-        if token.kind == "text" and "[u8]" == kind.strip()[1:]:
+        if token.kind == "text" and kind == "&[u8]":
             for other in other_text(token.text):
-                part.add("expression", at, at, token.text, other, other)
+                part.add("expression", at, at, token.text, other)
         elif token.kind in {"number", "text", "byte"}:
             part.literal(at)
         elif token.kind == "word":

@@ -1,16 +1,16 @@
-//! Calls of the library as bytes, for a program that reads them, and what it must answer.
+//! Calls of the library as bytes, and what must be answered: `crates/test_caller` reads them.
 //!
 //! A frame has its kind, one byte, and four numbers of 4 bytes; then the bytes that it lends. All
 //! numbers are little-endian.
 //!
 //! Kind 0 is calls on a desk: how many calls, and the lengths of the log, of a block name and of the
-//! room for a file; then texts, numbers (8 bytes each), calls, log, name and room. A call has its
+//! room for a file; then log, name, room, texts, numbers (8 bytes each) and calls. A call has its
 //! kind (0 key, 1 Report, 2 Who), its bench or item (8 bytes) and its byte. Answered are for each call
 //! its answer's number, with a Report level and reason of each row, with a Who bench and entry
 //! (8 bytes); then count (8 bytes) and answer of the file; then room, texts, numbers and log. Kind 1 is
 //! the same on memory that is first made a fresh desk, of which the answer comes first.
 //!
-//! Kind 2 is the wall screen: the length of a text, a row, 0, 0; then the text. Answered are the
+//! Kind 2 is the wall screen: a row, 0, the length of a text, 0; then the text. Answered are the
 //! number of the line, and answer and level of the grade.
 
 use crate::boundary::Memory;
@@ -53,7 +53,7 @@ impl Frames {
         self.stdin.extend(numbers.iter().flat_map(|&number| (number as u32).to_le_bytes()));
     }
 
-    /// Calls on a fresh desk, and its file in an exact room.
+    /// Calls on a fresh desk, and its file.
     fn sequence(&mut self, Sequence { calls, log }: &Sequence) {
         let mut memory = Memory::zeros(log);
         memory.texts.fill(FILL);
@@ -66,8 +66,8 @@ impl Frames {
         let mut out = vec![FILL; room];
         self.head(kind, [calls.len(), memory.log.len(), block.len(), room]);
         let calls_bytes: Vec<u8> = calls.iter().flat_map(encoded).collect();
-        self.stdin.extend([desk_bytes(&memory), calls_bytes].concat());
         self.stdin.extend([&memory.log, block, &out].concat());
+        self.stdin.extend([desk_bytes(&memory), calls_bytes].concat());
         if kind == FRESH_CALLS {
             self.stdout.push(Reference.fresh(&mut memory));
         }
@@ -81,7 +81,7 @@ impl Frames {
     }
 
     fn wall(&mut self, text: &[u8], row: u64) {
-        self.head(WALL, [text.len(), row as usize, 0, 0]);
+        self.head(WALL, [row as usize, 0, text.len(), 0]);
         self.stdin.extend(text);
         let graded = Reference.grade(row, text);
         self.stdout.extend([Reference.classify(text), graded.answer, graded.level]);

@@ -7,11 +7,9 @@ use crate::random::Random;
 use crate::session::{Session, OTHER_BENCHES};
 use crate::sheet_lists;
 use crate::sheets::Sheets;
-use reference::desk::{record, values, BENCHES, EMPTY, ENTER, ERASE, LOG_LIMIT, RECORD_HEAD};
-use reference::line::{classify, split, ACCEPTED, BYTES, LIMIT};
+use reference::desk::{key, record, values, Desk, BENCHES, EMPTY, ENTER, ERASE, FRESH, LOG_LIMIT};
 use reference::names::ITEMS;
 use reference::program::{keys, LOG};
-use std::collections::VecDeque;
 
 /// Item numbers that are none: neighbours, and what a cut-off number would turn into one.
 const OTHER_ITEMS: [u64; 9] =
@@ -23,36 +21,33 @@ pub struct Sequence {
     pub log: Vec<u8>,
 }
 
-/// One bench, or a number that is none, at its keys.
-struct Bench {
-    number: u64,
-    /// The keys that it presses next.
-    waiting: VecDeque<u8>,
-    /// What its line holds.
-    typed: Vec<u8>,
+/// The desk at which calls are made while they are generated.
+struct Typed {
+    desk: Desk,
+    log: Vec<u8>,
+    used: u64,
+    calls: Vec<Call>,
 }
 
-impl Bench {
-    /// A key, with so much room in the log.
-    fn press(&mut self, byte: u8, room: &mut usize) -> Call {
-        match byte {
-            ENTER => self.enter(room),
-            EMPTY => self.typed.clear(),
-            ERASE => drop(self.typed.pop()),
-            _ if BYTES.contains(&byte) && self.typed.len() < LIMIT => self.typed.push(byte),
-            _ => {}
-        }
-        Call::Key { bench: self.number, byte }
+impl Typed {
+    fn new(log: usize) -> Self {
+        Typed { desk: FRESH, log: vec![0; log], used: 0, calls: vec![] }
     }
 
-    fn enter(&mut self, room: &mut usize) {
-        let record = RECORD_HEAD + split(&self.typed).map_or(0, |(_, value)| value.len());
-        if classify(&self.typed) == ACCEPTED && record <= *room {
-            *room -= record;
-            self.typed.clear();
-        }
+    fn press(&mut self, bench: u64, byte: u8) {
+        key(&mut self.desk, &mut self.log, &mut self.used, bench, byte);
+        self.calls.push(Call::Key { bench, byte });
+    }
+
+    /// How much a bench's line holds; that of a number that is none holds nothing.
+    fn held(&self, bench: u64) -> usize {
+        let line = usize::try_from(bench).ok().and_then(|bench| self.desk.lines.get(bench));
+        line.map_or(0, |line| line.len as usize)
     }
 }
+
+/// The values of one sheet.
+type Values = [Vec<u8>; ITEMS.len()];
 
 pub struct Sequences {
     random: Random,
@@ -66,7 +61,7 @@ impl Sequences {
         Sequences { random: Random::new(!seed), session: Session::new(seed), sheets }
     }
 
-    /// A sequence and its log.
+    /// A sequence and its log. In every second one most items are filled before the first question.
     pub fn sequence(&mut self) -> Sequence {
         let count = match self.random.below(100) {
             0 => 1500,
@@ -74,8 +69,9 @@ impl Sequences {
             10..=19 => self.random.below(10),
             _ => 60 + self.random.below(200),
         };
-        let length = self.log_length();
-        Sequence { calls: self.calls(count, length), log: self.content(length) }
+        let filled = self.random.once_in(2);
+        let length = if filled { 300 + self.random.below(300) } else { self.log_length() };
+        Sequence { calls: self.typed(count, length, filled), log: self.content(length) }
     }
 
     /// How long the log is; most often a few records long, at times at the limit and beyond.
@@ -90,33 +86,65 @@ impl Sequences {
         }
     }
 
-    /// So many calls: some benches, and some numbers that are none, each with a run of its keys in
-    /// turn; the values are most often those of one sheet.
+    /// So many calls with a log of this length.
     pub fn calls(&mut self, count: usize, log: usize) -> Vec<Call> {
-        let sheet = self.sheets.values();
-        let (mut benches, mut room) = (self.benches(), log);
-        let mut calls = vec![];
-        while calls.len() < count {
-            let at = self.random.below(benches.len());
+        self.typed(count, log, false)
+    }
+
+    /// So many calls, after those that fill the sheet: some benches, and some numbers that are none,
+    /// each with a run of its keys in turn; the values are most often those of one sheet.
+    fn typed(&mut self, count: usize, log: usize, filled: bool) -> Vec<Call> {
+        let (sheet, benches, mut typed) = (self.sheets.values(), self.benches(), Typed::new(log));
+        self.session.begin();
+        if filled {
+            self.fill(&mut typed, &sheet);
+        }
+        let count = typed.calls.len() + count;
+        while typed.calls.len() < count {
+            let bench = self.random.pick(&benches);
             match self.random.below(32) {
-                0..=3 => calls.push(Call::Report),
-                4..=8 => calls.push(Call::Who { item: self.item() }),
-                9 => calls.push(Call::Key { bench: self.number(), byte: self.session.any_byte() }),
-                10 => calls.push(benches[at].press(self.session.any_byte(), &mut room)),
-                _ => {
-                    for _ in 0..self.random.pick(&[1, 1, 2, 3, 8, 40]) {
-                        let byte = self.key(&mut benches[at], &sheet);
-                        calls.push(benches[at].press(byte, &mut room));
-                    }
-                }
+                0..=3 => typed.calls.push(Call::Report),
+                4..=8 => typed.calls.push(Call::Who { item: self.item() }),
+                9 => typed.press(self.number(), self.session.any_byte()),
+                10 => typed.press(bench, self.session.any_byte()),
+                _ => self.run(&mut typed, bench, &sheet),
             }
         }
-        calls.truncate(count);
-        calls
+        typed.calls.truncate(count);
+        typed.calls
+    }
+
+    /// Most of a sheet's values, typed by two benches at once.
+    fn fill(&mut self, typed: &mut Typed, sheet: &Values) {
+        let mut waiting = [vec![], vec![]];
+        for ((name, _), value) in ITEMS.iter().zip(sheet) {
+            if !self.random.once_in(12) {
+                let line = [name.as_bytes(), b" ", value, &[ENTER]].concat();
+                waiting[self.random.below(2)].extend(line);
+            }
+        }
+        let first = self.random.below(BENCHES) as u64;
+        let [mut one, mut other] = waiting.map(Vec::into_iter);
+        while one.len() + other.len() > 0 {
+            let (bench, keys) = match self.random.below(2) {
+                0 => (first, &mut one),
+                _ => ((first + 1) % BENCHES as u64, &mut other),
+            };
+            keys.take(8).for_each(|byte| typed.press(bench, byte));
+        }
+    }
+
+    /// A run of one bench's keys.
+    fn run(&mut self, typed: &mut Typed, bench: u64, sheet: &Values) {
+        for _ in 0..self.random.pick(&[1, 1, 2, 3, 8, 40]) {
+            let (held, random) = (typed.held(bench), &mut self.random);
+            let byte = self.session.key(bench, |session| next_line(random, session, held, sheet));
+            typed.press(bench, byte);
+        }
     }
 
     /// One to four benches, and up to two numbers that are none.
-    fn benches(&mut self) -> Vec<Bench> {
+    fn benches(&mut self) -> Vec<u64> {
         let first = self.random.below(BENCHES);
         let mut numbers: Vec<u64> = (0..self.random.pick(&[1, 2, 2, 3, BENCHES]))
             .map(|place| ((first + place) % BENCHES) as u64)
@@ -124,8 +152,7 @@ impl Sequences {
         for _ in 0..self.random.pick(&[0, 0, 0, 0, 1, 2]) {
             numbers.push(self.number());
         }
-        let bench = |number| Bench { number, waiting: VecDeque::new(), typed: vec![] };
-        numbers.into_iter().map(bench).collect()
+        numbers
     }
 
     /// Any bench number.
@@ -144,23 +171,6 @@ impl Sequences {
             1 => self.random.next() >> self.random.below(64),
             _ => 1 + self.random.below(ITEMS.len()) as u64,
         }
-    }
-
-    /// The next key of one bench.
-    fn key(&mut self, bench: &mut Bench, sheet: &[Vec<u8>; ITEMS.len()]) -> u8 {
-        if bench.waiting.is_empty() {
-            bench.waiting = self.next_line(bench.typed.len(), sheet).into();
-        }
-        bench.waiting.pop_front().unwrap_or(ENTER)
-    }
-
-    fn next_line(&mut self, left: usize, sheet: &[Vec<u8>; ITEMS.len()]) -> Vec<u8> {
-        if self.random.once_in(4) {
-            return self.session.next_line(left);
-        }
-        let place = self.random.pick(&[0, 0, 1, 1, 2, 2, 3, 4, 5, 6, 7, 8, 9]);
-        let cleared: &[u8] = if left > 0 { &[EMPTY] } else { &[] };
-        [cleared, ITEMS[place].0.as_bytes(), b" ", &sheet[place], &[ENTER]].concat()
     }
 
     /// The bytes of a log before anything is written to it.
@@ -195,6 +205,16 @@ impl Sequences {
         }
         input
     }
+}
+
+/// A line of any kind, or most often one of the sheet's values, after what the line holds is cleared.
+fn next_line(random: &mut Random, session: &mut Session, held: usize, sheet: &Values) -> Vec<u8> {
+    if random.once_in(4) {
+        return session.next_line(held);
+    }
+    let place = random.pick(&[0, 0, 1, 1, 2, 2, 3, 4, 5, 6, 7, 8, 9]);
+    let cleared: &[u8] = if held > 0 { &[EMPTY] } else { &[] };
+    [cleared, ITEMS[place].0.as_bytes(), b" ", &sheet[place], &[ENTER]].concat()
 }
 
 /// The sessions of the program `desk`, with questions after each Enter and at the end.

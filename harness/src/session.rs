@@ -4,7 +4,7 @@ use crate::desks::Desks;
 use crate::random::Random;
 use reference::desk::{BENCHES, EMPTY, ENTER, ERASE, LOG_LIMIT};
 use reference::line::LIMIT;
-use std::collections::VecDeque;
+use std::collections::{HashMap, VecDeque};
 
 /// Bench numbers that are none: neighbours, and what a cut-off number would turn into one.
 pub const OTHER_BENCHES: [u64; 14] = [
@@ -24,16 +24,18 @@ pub const OTHER_BENCHES: [u64; 14] = [
     u64::MAX,
 ];
 
+/// Benches at their keys. What each presses next depends on what its line holds.
 pub struct Session {
     random: Random,
     desks: Desks,
-    waiting: [VecDeque<u8>; BENCHES],
+    /// The keys that each bench presses next.
+    waiting: HashMap<u64, VecDeque<u8>>,
 }
 
 impl Session {
     pub fn new(seed: u64) -> Self {
-        let waiting = std::array::from_fn(|_| VecDeque::new());
-        Session { random: Random::new(seed), desks: Desks::new(!seed), waiting }
+        let (random, desks) = (Random::new(seed), Desks::new(!seed));
+        Session { random, desks, waiting: HashMap::new() }
     }
 
     /// How long the log is; most often a few records long, at times at the limit and beyond.
@@ -65,7 +67,8 @@ impl Session {
             1 => (self.random.below(BENCHES) as u64, self.any_byte()),
             _ => {
                 let bench = self.random.below(BENCHES);
-                (bench as u64, self.key(bench, lengths[bench]))
+                let held = lengths[bench];
+                (bench as u64, self.key(bench as u64, |session| session.next_line(held)))
             }
         }
     }
@@ -78,12 +81,18 @@ impl Session {
         }
     }
 
-    /// The next key of one bench.
-    fn key(&mut self, bench: usize, length: usize) -> u8 {
-        if self.waiting[bench].is_empty() {
-            self.waiting[bench] = self.next_line(length).into();
+    /// Forgets the keys that wait.
+    pub fn begin(&mut self) {
+        self.waiting.clear();
+    }
+
+    /// The next key of one bench; where none waits, the first of a next line.
+    pub fn key(&mut self, bench: u64, next_line: impl FnOnce(&mut Self) -> Vec<u8>) -> u8 {
+        if self.waiting.get(&bench).is_none_or(VecDeque::is_empty) {
+            let line = next_line(self);
+            self.waiting.insert(bench, line.into());
         }
-        self.waiting[bench].pop_front().unwrap_or(ENTER)
+        self.waiting.get_mut(&bench).and_then(VecDeque::pop_front).unwrap_or(ENTER)
     }
 
     /// The keys that clear what is left of a refused line, or correct it, and type the next one.

@@ -1,4 +1,4 @@
--- Laws of what is read of memory: the numbers of an item, and a text that does not fit.
+-- Laws of what is read of memory: the numbers of an item, the length of its value, and a text that does not fit.
 -- Assumes nothing.
 use mathlib.Core.Path.{_≡_, ap, _∙_}
 use mathlib.Core.List.{List, []}
@@ -8,7 +8,9 @@ use borrow.Author.Tests.{lt-leb}
 use lib.ListN.{length, getD, take, drop, length-take, drop-of-length-le, List·getD-eq-default}
 use lib.Seq.{take-nil}
 use Rattle.text_copies.specs.Copy.{copied}
-use Rattle.desk_memory.specs.Memory.{slot}
+use Rattle.line_items.specs.Typed.{lineMost}
+use Rattle.desk_state.specs.Sheets.{valueIn}
+use Rattle.desk_memory.specs.Memory.{slot, itemIn}
 use Rattle.desk_memory.proofs.Slots.{slot-get}
 
 module _ (w : ℕ) (t : List ℕ) (k i : ℕ) where
@@ -24,6 +26,14 @@ module _ (w : ℕ) (t : List ℕ) (k i : ℕ) where
 pub slot-none : (w : ℕ) (t : List ℕ) (k : ℕ) → length t ≤ k * w → slot w t k ≡ []
 unfolding slot
 slot-none w t k h = ap (take w) (drop-of-length-le t h) ∙ take-nil w
+
+-- a value is no longer than its slot
+pub value-short : (t n : List ℕ) (k : ℕ) → length (valueIn (itemIn t n k)) ≤ lineMost
+unfolding slot
+value-short t n k =
+    let a = length-take (itemIn t n k .len) (slot lineMost t k) in
+    let b = length-take lineMost (drop (k * lineMost) t) in
+    omega arith
 
 pub copied-not : (d : List ℕ) (at : ℕ) (s : List ℕ) → length d < at + length s → copied d at s ≡ d
 unfolding copied

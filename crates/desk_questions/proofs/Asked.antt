@@ -1,7 +1,7 @@
 -- What the questions say of lent memory, by the test of its soundness; the item that is asked for, and what soundness says of its bench.
 -- Assumes nothing.
-use mathlib.Core.Path.{_≡_, refl, sym, ap, _∙_}
-use mathlib.Core.Bool.{Bool, true, false, cond, _&&_}
+use mathlib.Core.Path.{_≡_, sym, ap, _∙_}
+use mathlib.Core.Bool.{true, cond}
 use mathlib.Core.List.{List}
 use Prim.Native.Nat.{ℕ, _+_, _-_, _<_}
 use native.Mathlib.Nat.{zero-add}
@@ -14,20 +14,16 @@ use Rattle.line_items.specs.Items.{itemCount, isItem}
 use Rattle.desk_state.specs.Sheets.{noItem, itemAt}
 use Rattle.desk_state.specs.Desks.{benchCount}
 use Rattle.desk_state.specs.declared.sheet.Sheet.{Sheet}
-use Rattle.desk_memory.specs.Memory.{itemNumbers, sheetsAt, usedAt, textsLength, Sized, isDesk, slot, itemIn, sheetFrom, deskOf}
-use Rattle.desk_memory.proofs.Desks.{desk-sized, sheet-lent, items-long, item-at}
+use Rattle.desk_memory.specs.Memory.{itemNumbers, sheetsAt, usedAt, textsLength, isDesk, slot, itemIn, sheetFrom, deskOf}
+use Rattle.desk_memory.proofs.Desks.{sheet-lent, items-long, item-at}
 use Rattle.desk_soundness.specs.Sound.{soundFilled, soundItem, soundLines, soundSheet, soundDesk}
 use Rattle.desk_soundness.specs.SoundMemory.{soundMemory}
 use Rattle.desk_soundness.proofs.Everys.{every-each}
+use Rattle.desk_soundness.proofs.Memories.{by-soundness}
 use Rattle.rows.specs.Rows.{noRows}
 use Rattle.rows_sheet.specs.Sheet.{rowsOf}
 use Rattle.desk_questions.specs.Who.{nobody, toldOf, whoOf, whoLent}
 use Rattle.desk_questions.specs.Report.{reportedAs, reportedOf, reportLent}
-
--- a test in a test with the same other side
-cond-and : {A : Type 0} (a b : Bool) (x y : A) → cond a (cond b x y) y ≡ cond (a && b) x y
-cond-and true b x y = refl
-cond-and false b x y = refl
 
 -- a filled item of a sound sheet has one of the benches
 filled-bench : (t n : List ℕ) (k : ℕ) → k < itemCount → soundSheet (sheetFrom t n) ≡ true
@@ -44,12 +40,12 @@ filled-bench t n k h s f =
 
 module _ (t n : List ℕ) where
   pub report-by : reportLent t n ≡ cond (soundMemory t n) (reportedAs 0 (rowsOf (deskOf t n .sheet))) (reportedAs 2 noRows)
-  unfolding reportLent reportedOf soundMemory
-  report-by = cond-and (isDesk t n) (soundDesk (deskOf t n)) _ _
+  unfolding reportLent reportedOf
+  report-by = by-soundness t n _ _
 
   pub who-by : (item : ℕ) → whoLent t n item ≡ cond (soundMemory t n) (cond (isItem item) (toldOf (itemAt (deskOf t n .sheet) item)) (nobody 6)) (nobody 2)
-  unfolding whoLent whoOf soundMemory
-  who-by item = cond-and (isDesk t n) (soundDesk (deskOf t n)) _ _
+  unfolding whoLent whoOf
+  who-by item = by-soundness t n _ _
 
   -- the block of the sheet's numbers, as it is lent
   abbrev pub block : List ℕ
@@ -62,10 +58,6 @@ module _ (t n : List ℕ) where
   item-lent k h = ap (λ (s : Sheet). getD (s .items) k noItem) (sym (sheet-lent t n)) ∙ item-at textBlock block k h
 
   module _ (s : soundMemory t n ≡ true) where
-    pub sound-sized : Sized t n
-    unfolding soundMemory
-    sound-sized = desk-sized t n (and-both (isDesk t n) (soundDesk (deskOf t n)) s .0)
-
     pub sound-bench : (k : ℕ) → k < itemCount → (getD (slot itemNumbers block k) 0 0 ≡ 0 → ⊥) → getD (slot itemNumbers block k) 2 0 < benchCount
     unfolding soundMemory soundDesk
     sound-bench k h =

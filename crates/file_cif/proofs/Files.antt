@@ -2,20 +2,18 @@
 -- Assumes nothing.
 use mathlib.Core.Path.{_≡_, refl, ap, _∙_}
 use mathlib.Core.List.{List, [], _∷_, _++_, append-assoc}
-use Prim.Native.Nat.{ℕ, _+_, _*_, _≤_}
+use Prim.Native.Nat.{ℕ, _+_, _≤_}
 use native.Mathlib.Omega.{arith}
 use borrow.Author.Tests.{eq-eqb, ne-eqb}
-use lib.ListN.{length, drop, length-append, length-take}
+use lib.ListN.{length, length-append}
 use Rattle.text.specs.Quote.{bytes}
 use Rattle.text_copies.specs.Copy.{copied}
 use Rattle.text_copies.specs.Each.{linesFrom}
 use Rattle.text_copies.proofs.Copies.{copied-next}
 use Rattle.line_items.specs.Items.{nameOf}
-use Rattle.line_items.specs.Typed.{lineMost}
 use Rattle.desk_state.specs.Sheets.{valueIn}
 use Rattle.desk_state.specs.declared.sheet.Item.{Item}
 use Rattle.desk_state.specs.declared.sheet.Sheet.{Sheet}
-use Rattle.desk_memory.specs.Memory.{slot, itemIn}
 use Rattle.file_cif.specs.File.{ended, itemText, itemLine, fileOf}
 
 pub empty-line : (k : ℕ) (i : Item) → i .len ≡ 0 → itemLine k i ≡ []
@@ -25,14 +23,6 @@ empty-line k i e = simp (eq-eqb (i .len) 0 e)
 pub filled-line : (k : ℕ) (i : Item) → (i .len ≡ 0 → ⊥) → itemLine k i ≡ ended (itemText k (valueIn i))
 unfolding itemLine
 filled-line k i n = simp (ne-eqb (i .len) 0 n)
-
--- a value is no longer than its slot
-pub value-short : (t n : List ℕ) (k : ℕ) → length (valueIn (itemIn t n k)) ≤ lineMost
-unfolding slot
-value-short t n k =
-    let a = length-take (itemIn t n k .len) (slot lineMost t k) in
-    let b = length-take lineMost (drop (k * lineMost) t) in
-    omega arith
 
 pub ended-length : (k : ℕ) (v : List ℕ) → length (ended (itemText k v)) ≡ length (nameOf k) + 1 + length v + 1
 ended-length k v = length-append (itemText k v) (10 ∷ []) ∙ ap (λ (n : ℕ). n + 1) (length-append (nameOf k) (32 ∷ v)) ∙ omega arith

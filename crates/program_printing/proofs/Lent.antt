@@ -1,32 +1,21 @@
--- The printed report of the desk in lent memory, from the pieces that are printed; and how long a value can be.
+-- The printed report of the desk in lent memory, from the pieces that are printed.
 -- Assumes nothing.
 use mathlib.Core.Path.{_≡_, ap, _∙_}
 use mathlib.Core.Bool.{true, false}
 use mathlib.Core.List.{List, [], _∷_, _++_}
-use Prim.Native.Nat.{ℕ, _*_, _-_, _≤_}
-use native.Mathlib.Omega.{arith}
-use lib.ListN.{length, take, drop, length-take}
+use Prim.Native.Nat.{ℕ, _-_}
+use lib.ListN.{take, drop}
 use Rattle.text.specs.Quote.{bytes}
 use Rattle.text_copies.specs.Each.{linesFrom}
-use Rattle.line_items.specs.Typed.{lineMost}
-use Rattle.desk_state.specs.Sheets.{valueIn}
 use Rattle.desk_state.specs.Desks.{benchCount}
 use Rattle.desk_state.specs.declared.sheet.Item.{Item}
 use Rattle.desk_state.specs.declared.sheet.Sheet.{Sheet}
-use Rattle.desk_memory.specs.Memory.{sheetsAt, usedAt, textsLength, isDesk, slot, itemIn, sheetFrom, deskOf}
+use Rattle.desk_memory.specs.Memory.{sheetsAt, usedAt, textsLength, isDesk, sheetFrom, deskOf}
 use Rattle.desk_memory.proofs.Desks.{sheet-lent}
 use Rattle.rows.specs.Rows.{rowCount}
 use Rattle.rows.specs.declared.Row.{Row}
 use Rattle.desk_questions.specs.Report.{Report, reportedOf, reportLent}
 use Rattle.program_printing.specs.Print.{line, twoDigits, rowLine, printedItem, printedOf, printedLent}
-
--- a value is no longer than its slot
-pub value-short : (t n : List ℕ) (k : ℕ) → length (valueIn (itemIn t n k)) ≤ lineMost
-unfolding slot
-value-short t n k =
-    let a = length-take (itemIn t n k .len) (slot lineMost t k) in
-    let b = length-take lineMost (drop (k * lineMost) t) in
-    omega arith
 
 -- a report of these rows and items
 whole : List Row → List Item → List ℕ

@@ -48,7 +48,7 @@ impl Comparison<'_> {
     pub(super) fn fresh(&mut self, both: &mut Both, place: &dyn Display) -> bool {
         let tested = self.tested.fresh(&mut both.tested);
         let expected = self.expected.fresh(&mut both.expected);
-        self.tally.note(Question::Fresh, (tested / NOT_SOUND).into());
+        self.tally.note(Question::Fresh, asked_place(tested));
         self.equal(both, &tested, &expected, &format_args!("{place}, fresh"))
     }
 
@@ -106,7 +106,7 @@ impl Comparison<'_> {
                 }
             }
             (_, Answer::Report(Reported { answer, rows })) => {
-                self.tally.note(Question::Report, (answer / NOT_SOUND).into());
+                self.tally.note(Question::Report, asked_place(*answer));
                 if *answer == ACCEPTED {
                     self.tally.note_rows(rows);
                 }
@@ -147,6 +147,15 @@ fn line_length(memory: &Memory, call: &Call) -> usize {
             .and_then(|bench| memory.numbers.get(bench))
             .map_or(0, |n| *n),
         _ => 0,
+    }
+}
+
+/// The place of an answer that is 0 or 2 in its list.
+fn asked_place(answer: u8) -> usize {
+    match answer {
+        ACCEPTED => 0,
+        NOT_SOUND => 1,
+        _ => usize::MAX,
     }
 }
 

@@ -7,10 +7,10 @@ use Prim.Native.Nat.{ℕ, _+_, _≤_}
 use lib.ListN.{length}
 use denote.Ref.{now}
 use Rattle.line_items.specs.Typed.{lineMost}
+use Rattle.desk_memory.proofs.Gets.{value-short}
 use Rattle.program_printing.specs.Page.{decimalMost}
 use Rattle.program_printing.specs.Print.{decimalText}
 use Rattle.program_printing.proofs.Pages.{adds-as, adds-then}
-use Rattle.program_printing.proofs.Lent.{value-short}
 use borrow.Author.Needs.{needs}
 use Rattle.program_printing.proofs.put_filled.Statement.{statement}
 use Rattle.program_printing.proofs.put_filled.Tie as tie

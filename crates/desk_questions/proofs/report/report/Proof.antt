@@ -7,9 +7,10 @@ use borrow.Author.Tests.{not-true, not-false}
 use denote.Ref.{now}
 use Rattle.desk_memory.proofs.Desks.{sheet-lent}
 use Rattle.desk_soundness.specs.SoundMemory.{soundMemory}
+use Rattle.desk_soundness.proofs.Memories.{sound-sized}
 use Rattle.rows_sheet.specs.Sheet.{rowsOf}
 use Rattle.desk_questions.specs.Report.{reportedAs}
-use Rattle.desk_questions.proofs.Asked.{report-by, sound-sized}
+use Rattle.desk_questions.proofs.Asked.{report-by}
 use borrow.Author.Needs.{needs}
 use Rattle.desk_questions.proofs.report.report.Statement.{statement}
 use Rattle.desk_questions.proofs.report.report.Tie as tie

@@ -10,8 +10,9 @@ use Rattle.line_items.specs.Items.{itemCount}
 use Rattle.line_items.specs.Typed.{lineMost}
 use Rattle.desk_memory.specs.Memory.{slot}
 use Rattle.desk_soundness.specs.SoundMemory.{soundMemory}
+use Rattle.desk_soundness.proofs.Memories.{sound-sized}
 use Rattle.desk_questions.specs.Who.{toldOf}
-use Rattle.desk_questions.proofs.Asked.{who-by, textBlock, item-lent, sound-sized, sound-bench}
+use Rattle.desk_questions.proofs.Asked.{who-by, textBlock, item-lent, sound-bench}
 use borrow.Author.Needs.{needs}
 use Rattle.desk_questions.proofs.who.who.Statement.{statement}
 use Rattle.desk_questions.proofs.who.who.Tie as tie

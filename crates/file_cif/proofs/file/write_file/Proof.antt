@@ -14,11 +14,12 @@ use Rattle.desk_state.specs.declared.sheet.Sheet.{Sheet}
 use Rattle.desk_memory.specs.Memory.{Sized, deskOf}
 use Rattle.desk_memory.proofs.Desks.{sheet-lent}
 use Rattle.desk_soundness.specs.SoundMemory.{soundMemory}
+use Rattle.desk_soundness.proofs.Memories.{sound-sized}
 use Rattle.file_block_name.specs.Block.{isBlockName}
 use Rattle.file_block_name.proofs.Blocks.{block-short}
 use Rattle.file_cif.specs.File.{itemLine, fileOf}
 use Rattle.file_cif.proofs.Files.{file-length}
-use Rattle.file_cif.proofs.Steps.{sound-sized, step-unsound, step-bad-name, step-no-room, step-written}
+use Rattle.file_cif.proofs.Steps.{step-unsound, step-bad-name, step-no-room, step-written}
 use Rattle.file_cif.proofs.file.write_file.Statement.{statement}
 use Rattle.file_cif.proofs.file.write_file.Tie as tie
 

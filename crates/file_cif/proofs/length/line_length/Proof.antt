@@ -11,7 +11,8 @@ use Rattle.line_items.specs.Typed.{lineMost}
 use Rattle.line_items.proofs.NameTable.{name-short}
 use Rattle.desk_state.specs.Sheets.{valueIn}
 use Rattle.desk_memory.specs.Memory.{itemIn}
-use Rattle.file_cif.proofs.Files.{value-short, empty-line, filled-line, ended-length}
+use Rattle.desk_memory.proofs.Gets.{value-short}
+use Rattle.file_cif.proofs.Files.{empty-line, filled-line, ended-length}
 use borrow.Author.Needs.{needs}
 use Rattle.file_cif.proofs.length.line_length.Statement.{statement}
 use Rattle.file_cif.proofs.length.line_length.Tie as tie
