@@ -1,4 +1,4 @@
--- `log::put_head` meets its contract: six stores, one after the other.
+-- `desk_log::put_head` meets its contract: six stores, one after the other.
 -- Assumes nothing.
 use native.Mathlib.Omega.{arith}
 use lib.ListN.{length-set}

@@ -1,4 +1,4 @@
--- `log::write_record` meets its contract: with room, the head and then the value; else nothing.
+-- `desk_log::write_record` meets its contract: with room, the head and then the value; else nothing.
 -- Assumes nothing.
 use native.Mathlib.Omega.{arith}
 use mathlib.Core.Path.{_∙_, ap, sym}

@@ -1,4 +1,4 @@
--- `wall::tell` meets its contract: each arm is a case of the definitions.
+-- `export_wall::tell` meets its contract: each arm is a case of the definitions.
 -- Assumes nothing.
 use mathlib.Core.Path.{sym, ap}
 use Rattle.export_wall.specs.Wall.{wallAnswer}

@@ -1,4 +1,4 @@
--- `wall::wall_classify` meets its contract: the number of what the line is.
+-- `export_wall::wall_classify` meets its contract: the number of what the line is.
 -- Assumes nothing.
 use mathlib.Core.Path.{_∙_, ap}
 use Rattle.line_reader.specs.Line.{classNumber}

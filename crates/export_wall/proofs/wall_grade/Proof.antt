@@ -1,4 +1,4 @@
--- `wall::wall_grade` meets its contract: what grading found, told.
+-- `export_wall::wall_grade` meets its contract: what grading found, told.
 -- Assumes nothing.
 use mathlib.Core.Path.{_∙_, ap}
 use Rattle.export_wall.specs.Wall.{wallAnswer}

@@ -1,4 +1,4 @@
--- `block_name::is_block_byte` meets its contract: each return has the tests of `isBlockByte` on its way.
+-- `file_block_name::is_block_byte` meets its contract: each return has the tests of `isBlockByte` on its way.
 -- Assumes nothing.
 use mathlib.Core.Path.{sym, _∙_}
 use borrow.Author.Needs.{needs}

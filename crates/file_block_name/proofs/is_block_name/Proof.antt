@@ -1,4 +1,4 @@
--- `block_name::is_block_name` meets its contract. The loop's invariant: the bytes passed can stand in a name.
+-- `file_block_name::is_block_name` meets its contract. The loop's invariant: the bytes passed can stand in a name.
 -- The measure is what is left of the name. Assumes nothing.
 use native.Mathlib.Omega.{arith}
 use mathlib.Core.Path.{_≡_, sym, _∙_}

@@ -1,4 +1,4 @@
--- `elements::find` meets its contract. The loop's invariant: no symbol passed is the one, so the rest of the table decides.
+-- `formula_elements::find` meets its contract. The loop's invariant: no symbol passed is the one, so the rest of the table decides.
 -- The measure is what is left of the table. Assumes nothing.
 use native.Mathlib.Omega.{arith}
 use mathlib.Core.Path.{sym, _∙_}

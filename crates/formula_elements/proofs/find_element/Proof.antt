@@ -1,4 +1,4 @@
--- `elements::find_element` meets its contract: the code's table of symbols is the definition's.
+-- `formula_elements::find_element` meets its contract: the code's table of symbols is the definition's.
 -- Assumes nothing.
 use Rattle.formula_elements.specs.Elements.{symbols, elementOf}
 use borrow.Author.Needs.{needs}

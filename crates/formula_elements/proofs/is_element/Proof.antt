@@ -1,4 +1,4 @@
--- `elements::is_element` meets its contract: each return is a case of `isSomewhere`.
+-- `formula_elements::is_element` meets its contract: each return is a case of `isSomewhere`.
 -- Assumes nothing.
 use mathlib.Core.Path.{sym, ap, _∙_}
 use Rattle.formula_elements.specs.Elements.{isSomewhere, isElement}

@@ -1,4 +1,4 @@
--- `elements::is_metal` meets its contract: the code's table of symbols that are no metals is the definition's.
+-- `formula_elements::is_metal` meets its contract: the code's table of symbols that are no metals is the definition's.
 -- Assumes nothing.
 use mathlib.Core.Path.{_≡_, sym, ap, _∙_}
 use mathlib.Core.Bool.{Bool, true, false, _&&_, not}

@@ -1,4 +1,4 @@
--- `elements::same_symbol` meets its contract: each return is a case of `sameSymbol`.
+-- `formula_elements::same_symbol` meets its contract: each return is a case of `sameSymbol`.
 -- Assumes nothing.
 use borrow.Author.Tests.{eq-eqb, ne-eqb}
 use Rattle.formula_elements.specs.Elements.{sameSymbol}

@@ -1,4 +1,4 @@
--- `elements::weight_of` meets its contract: the weight stands where the symbol does.
+-- `formula_elements::weight_of` meets its contract: the weight stands where the symbol does.
 -- Assumes nothing.
 use native.Mathlib.Omega.{arith}
 use mathlib.Core.Path.{_≡_, sym, ap, _∙_}

@@ -1,4 +1,4 @@
--- `terms::step_at` meets its contract: the run of other bytes ends the term.
+-- `formula_terms::step_at` meets its contract: the run of other bytes ends the term.
 -- Assumes nothing.
 use native.Mathlib.Omega.{arith}
 use mathlib.Core.Path.{_≡_, ap, _∙_}

@@ -1,4 +1,4 @@
--- `categories::is_category` meets its contract: each class tried is a case of `isCategory`.
+-- `line_categories::is_category` meets its contract: each class tried is a case of `isCategory`.
 -- Assumes nothing.
 use Rattle.line_categories.specs.Categories.{isCategory}
 use borrow.Author.Needs.{needs}

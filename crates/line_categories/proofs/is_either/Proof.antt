@@ -1,4 +1,4 @@
--- `categories::is_either` meets its contract: one text or the other.
+-- `line_categories::is_either` meets its contract: one text or the other.
 -- Assumes nothing.
 use mathlib.Core.Path.{sym, _∙_}
 use borrow.Author.Needs.{needs}

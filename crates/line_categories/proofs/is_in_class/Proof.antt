@@ -1,4 +1,4 @@
--- `categories::is_in_class` meets its contract: each arm is a case of `inClass`.
+-- `line_categories::is_in_class` meets its contract: each arm is a case of `inClass`.
 -- Assumes nothing.
 use mathlib.Core.Path.{sym, _∙_, ap}
 use denote.Ref.{now}

@@ -1,4 +1,4 @@
--- `items::copy_name` meets its contract: the item's part of the table is its name.
+-- `line_items::copy_name` meets its contract: the item's part of the table is its name.
 -- Assumes nothing.
 use native.Mathlib.Omega.{arith}
 use mathlib.Core.Path.{sym, ap, _∙_}

@@ -1,4 +1,4 @@
--- `items::is_name` meets its contract: the item's part of the table is its name, and a text of another length is not.
+-- `line_items::is_name` meets its contract: the item's part of the table is its name, and a text of another length is not.
 -- Assumes nothing.
 use native.Mathlib.Omega.{arith}
 use mathlib.Core.Path.{sym, ap, _∙_}

@@ -1,4 +1,4 @@
--- `items::item_named` meets its contract: the one item that the text can name, if it does.
+-- `line_items::item_named` meets its contract: the one item that the text can name, if it does.
 -- Assumes nothing.
 use native.Mathlib.Omega.{arith}
 use mathlib.Core.Path.{sym, _∙_}

@@ -1,4 +1,4 @@
--- `items::likely_item` meets its contract: the item at the mark, and none where the text is shorter than every name.
+-- `line_items::likely_item` meets its contract: the item at the mark, and none where the text is shorter than every name.
 -- Assumes nothing.
 use native.Mathlib.Omega.{arith}
 use mathlib.Core.Path.{_≡_, sym, ap, _∙_}

@@ -1,4 +1,4 @@
--- `items::name_length` meets its contract: the table of lengths.
+-- `line_items::name_length` meets its contract: the table of lengths.
 -- Assumes nothing.
 use native.Mathlib.Omega.{arith}
 use mathlib.Core.Path.{sym, ap}

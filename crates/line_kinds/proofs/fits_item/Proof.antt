@@ -1,4 +1,4 @@
--- `kinds::fits_item` meets its contract: each return has the tests of `fits` on its way.
+-- `line_kinds::fits_item` meets its contract: each return has the tests of `fits` on its way.
 -- Assumes nothing.
 use native.Mathlib.Omega.{arith}
 use mathlib.Core.Path.{_≡_, sym, _∙_, ap}

@@ -1,4 +1,4 @@
--- `kinds::is_number` meets its contract: a number was found or not.
+-- `line_kinds::is_number` meets its contract: a number was found or not.
 -- Assumes nothing.
 use mathlib.Core.Path.{_∙_, sym, ap}
 use Rattle.number_decimal.specs.Reading.{isFound, isNumber}

@@ -1,4 +1,4 @@
--- `kinds::is_of_kind` meets its contract: each arm is a case of `ofKind`.
+-- `line_kinds::is_of_kind` meets its contract: each arm is a case of `ofKind`.
 -- Assumes nothing.
 use mathlib.Core.Path.{sym, _∙_, ap}
 use Rattle.line_kinds.specs.Kinds.{ofKind}

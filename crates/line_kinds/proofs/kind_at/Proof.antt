@@ -1,4 +1,4 @@
--- `kinds::kind_at` meets its contract: the letter at k is that of the kind of item k + 1.
+-- `line_kinds::kind_at` meets its contract: the letter at k is that of the kind of item k + 1.
 -- Assumes nothing.
 use mathlib.Core.Path.{sym, _∙_}
 use Rattle.line_kinds.proofs.KindTable.{letters, letter-at, is-number, is-category, is-text}

@@ -1,4 +1,4 @@
--- `kinds::passes_kind` meets its contract: each return has the tests of `passes` on its way.
+-- `line_kinds::passes_kind` meets its contract: each return has the tests of `passes` on its way.
 -- Assumes nothing.
 use native.Mathlib.Omega.{arith}
 use mathlib.Core.Path.{_≡_, sym, _∙_, ap}

@@ -1,4 +1,4 @@
--- `quotes::is_quoted` meets its contract: one mark or the other.
+-- `line_quotes::is_quoted` meets its contract: one mark or the other.
 -- Assumes nothing.
 use mathlib.Core.Path.{sym, _∙_}
 use Rattle.line_quotes.specs.Quoted.{isQuoted}

@@ -1,4 +1,4 @@
--- `quotes::is_quoted_by` meets its contract: each return has the tests of `isQuotedBy` on its way.
+-- `line_quotes::is_quoted_by` meets its contract: each return has the tests of `isQuotedBy` on its way.
 -- Assumes nothing.
 use borrow.Author.Tests.{eq-eqb, ne-eqb, le-leb, lt-leb}
 use Rattle.line_quotes.specs.Quoted.{isQuotedBy}

@@ -1,4 +1,4 @@
--- `quotes::text_of` meets its contract: a quoted value has its two marks, and the text is between them.
+-- `line_quotes::text_of` meets its contract: a quoted value has its two marks, and the text is between them.
 -- Assumes nothing.
 use native.Mathlib.Omega.{arith}
 use mathlib.Core.Path.{sym, _∙_}

@@ -1,4 +1,4 @@
--- `values::is_bare` meets its contract: each return has the tests of `isBare` on its way.
+-- `line_values::is_bare` meets its contract: each return has the tests of `isBare` on its way.
 -- Assumes nothing.
 use mathlib.Core.Path.{sym, _∙_}
 use borrow.Author.Tests.{le-leb, lt-leb, not-true, not-false}

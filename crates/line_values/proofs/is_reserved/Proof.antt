@@ -1,4 +1,4 @@
--- `values::is_reserved` meets its contract: each word tried is a case of `isReserved`.
+-- `line_values::is_reserved` meets its contract: each word tried is a case of `isReserved`.
 -- Assumes nothing.
 use Rattle.line_values.specs.Value.{isReserved}
 use borrow.Author.Needs.{needs}

@@ -1,4 +1,4 @@
--- `values::is_unassigned` meets its contract: each return has the tests of `isUnassigned` on its way.
+-- `line_values::is_unassigned` meets its contract: each return has the tests of `isUnassigned` on its way.
 -- Assumes nothing.
 use borrow.Author.Tests.{eq-eqb, ne-eqb}
 use Rattle.line_values.specs.Value.{isUnassigned}

@@ -1,4 +1,4 @@
--- `values::is_value` meets its contract: bare or quoted.
+-- `line_values::is_value` meets its contract: bare or quoted.
 -- Assumes nothing.
 use mathlib.Core.Path.{sym, _∙_}
 use Rattle.line_values.specs.Value.{isValue}

@@ -1,4 +1,4 @@
--- `values::may_begin` meets its contract: the byte is none of the table's.
+-- `line_values::may_begin` meets its contract: the byte is none of the table's.
 -- Assumes nothing.
 use Rattle.line_values.specs.Value.{mayBegin}
 use borrow.Author.Needs.{needs}

@@ -1,4 +1,4 @@
--- `decimal::closes_bracket` meets its contract: each return has the tests of `closes` on its way.
+-- `number_decimal::closes_bracket` meets its contract: each return has the tests of `closes` on its way.
 -- Assumes nothing.
 use borrow.Author.Tests.{le-leb, lt-leb, eq-eqb, ne-eqb}
 use Rattle.number_decimal.specs.Reading.{closes}

@@ -1,4 +1,4 @@
--- `decimal::digits_value` meets its contract. The loop's invariant: acc and the digits from i write the value, and acc is small.
+-- `number_decimal::digits_value` meets its contract. The loop's invariant: acc and the digits from i write the value, and acc is small.
 -- The measure is what is left of the digits. Assumes nothing.
 use native.Mathlib.Omega.{arith}
 use mathlib.Core.Path.{_≡_, sym, _∙_}

@@ -1,4 +1,4 @@
--- `decimal::is_tail` meets its contract: each return has the tests of `isTail` on its way.
+-- `number_decimal::is_tail` meets its contract: each return has the tests of `isTail` on its way.
 -- Assumes nothing.
 use mathlib.Core.Path.{_∙_, ap}
 use borrow.Author.Tests.{eq-eqb, ne-eqb}

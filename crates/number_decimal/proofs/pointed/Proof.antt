@@ -1,4 +1,4 @@
--- `decimal::pointed` meets its contract: the digits are the run, and what follows is the rest.
+-- `number_decimal::pointed` meets its contract: the digits are the run, and what follows is the rest.
 -- Assumes nothing.
 use native.Mathlib.Omega.{arith}
 use mathlib.Core.Path.{_∙_}

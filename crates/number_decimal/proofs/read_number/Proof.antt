@@ -1,4 +1,4 @@
--- `decimal::read_number` meets its contract: the first byte decides the case of `readingOf`.
+-- `number_decimal::read_number` meets its contract: the first byte decides the case of `readingOf`.
 -- Assumes nothing.
 use native.Mathlib.Omega.{arith}
 use mathlib.Core.Path.{_∙_, sym}

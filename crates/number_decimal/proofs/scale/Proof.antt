@@ -1,4 +1,4 @@
--- `decimal::scale` meets its contract: antt computes that the table is the list of the scales.
+-- `number_decimal::scale` meets its contract: antt computes that the table is the list of the scales.
 -- Assumes nothing.
 use native.Mathlib.Omega.{arith}
 use Prim.Native.Nat.{_-_}

@@ -1,4 +1,4 @@
--- `decimal::sized` meets its contract: each return has the tests of `sizeOf` on its way, and the two products are small.
+-- `number_decimal::sized` meets its contract: each return has the tests of `sizeOf` on its way, and the two products are small.
 -- Assumes nothing.
 use native.Mathlib.Omega.{arith}
 use mathlib.Core.Path.{sym, _∙_}

@@ -1,4 +1,4 @@
--- `decimal::unsigned` meets its contract: the digits are the run, and a point parts what follows.
+-- `number_decimal::unsigned` meets its contract: the digits are the run, and a point parts what follows.
 -- Assumes nothing.
 use native.Mathlib.Omega.{arith}
 use mathlib.Core.Path.{_∙_, sym}

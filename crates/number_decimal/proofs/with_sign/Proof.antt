@@ -1,4 +1,4 @@
--- `decimal::with_sign` meets its contract: the size is far below 2 ^ 63, so an `i64` holds it and its negative.
+-- `number_decimal::with_sign` meets its contract: the size is far below 2 ^ 63, so an `i64` holds it and its negative.
 -- Assumes nothing.
 use native.Mathlib.Omega.{arith}
 use mathlib.Core.Path.{subst}

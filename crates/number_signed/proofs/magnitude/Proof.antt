@@ -1,4 +1,4 @@
--- `signed::magnitude` meets its contract: below zero the number is raised by one and negated, so that nothing wraps.
+-- `number_signed::magnitude` meets its contract: below zero the number is raised by one and negated, so that nothing wraps.
 -- Assumes nothing.
 use native.Mathlib.Omega.{arith}
 use mathlib.Core.Path.{_≡_, sym, _∙_, ap, subst}

@@ -1,4 +1,4 @@
--- `formula_rows::class_row` meets its contract: each return is a case of `row3`.
+-- `rows_formula::class_row` meets its contract: each return is a case of `row3`.
 -- Assumes nothing.
 use mathlib.Core.Path.{sym, _∙_, ap}
 use mathlib.Core.List.{List}

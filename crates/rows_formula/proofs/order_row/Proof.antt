@@ -1,4 +1,4 @@
--- `formula_rows::order_row` meets its contract: the test is of the text without its quotes.
+-- `rows_formula::order_row` meets its contract: the test is of the text without its quotes.
 -- Assumes nothing.
 use mathlib.Core.Path.{_∙_, ap}
 use Rattle.formula_order.specs.Order.{inOrder}

@@ -1,4 +1,4 @@
--- `formula_rows::recognised_row` meets its contract: the test is of the text without its quotes.
+-- `rows_formula::recognised_row` meets its contract: the test is of the text without its quotes.
 -- Assumes nothing.
 use mathlib.Core.Path.{_∙_, ap}
 use Rattle.formula_sum.specs.Recognised.{allRecognised}

@@ -1,4 +1,4 @@
--- `formula_rows::tested_row` meets its contract: each return has the tests on its way.
+-- `rows_formula::tested_row` meets its contract: each return has the tests on its way.
 -- Assumes nothing.
 use mathlib.Core.Path.{sym, _∙_}
 use borrow.Author.Needs.{needs}

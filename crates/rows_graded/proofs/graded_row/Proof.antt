@@ -1,4 +1,4 @@
--- `graded_rows::graded_row` meets its contract: the new name, then the old one.
+-- `rows_graded::graded_row` meets its contract: the new name, then the old one.
 -- Assumes nothing.
 use mathlib.Core.Path.{sym, _∙_, ap}
 use borrow.Author.Tests.{not-true, not-false}

@@ -1,4 +1,4 @@
--- `graded_rows::old_name_row` meets its contract: assigned or not.
+-- `rows_graded::old_name_row` meets its contract: assigned or not.
 -- Assumes nothing.
 use mathlib.Core.Path.{sym, _∙_}
 use Rattle.rows_graded.specs.GradedRows.{oldNameRow}

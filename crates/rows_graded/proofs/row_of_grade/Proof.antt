@@ -1,4 +1,4 @@
--- `graded_rows::row_of_grade` meets its contract: each arm is a case of `gradeRow`.
+-- `rows_graded::row_of_grade` meets its contract: each arm is a case of `gradeRow`.
 -- Assumes nothing.
 use mathlib.Core.Path.{sym, ap}
 use Rattle.rows_graded.specs.GradedRows.{gradeRow}

@@ -1,4 +1,4 @@
--- `levels::bound` meets its contract: the table is the definition's.
+-- `rows_levels::bound` meets its contract: the table is the definition's.
 -- Assumes nothing.
 use Rattle.rows_levels.specs.Bounds.{bounds}
 use borrow.Author.Needs.{needs}

@@ -1,4 +1,4 @@
--- `threshold::ends_with` meets its contract: an empty text ends with nothing.
+-- `rows_threshold::ends_with` meets its contract: an empty text ends with nothing.
 -- Assumes nothing.
 use native.Mathlib.Omega.{arith}
 use mathlib.Core.Path.{sym}

@@ -1,4 +1,4 @@
--- `threshold::has_shape` meets its contract: each return has the tests of `hasShape` on its way.
+-- `rows_threshold::has_shape` meets its contract: each return has the tests of `hasShape` on its way.
 -- Assumes nothing.
 use native.Mathlib.Omega.{arith}
 use mathlib.Core.Path.{sym, _∙_, ap}

@@ -1,4 +1,4 @@
--- `threshold::read_multiplier` meets its contract: each return has the tests of `multiplierOf` on its way.
+-- `rows_threshold::read_multiplier` meets its contract: each return has the tests of `multiplierOf` on its way.
 -- Assumes nothing.
 use native.Mathlib.Omega.{arith}
 use mathlib.Core.Path.{_≡_, sym, _∙_, ap}

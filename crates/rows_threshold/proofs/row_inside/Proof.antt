@@ -1,4 +1,4 @@
--- `threshold::row_inside` meets its contract: what stands between the two ends.
+-- `rows_threshold::row_inside` meets its contract: what stands between the two ends.
 -- Assumes nothing.
 use native.Mathlib.Omega.{arith}
 use mathlib.Core.Path.{_≡_, _∙_, ap}

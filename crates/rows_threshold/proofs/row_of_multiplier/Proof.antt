@@ -1,4 +1,4 @@
--- `threshold::row_of_multiplier` meets its contract: a multiplier or none.
+-- `rows_threshold::row_of_multiplier` meets its contract: a multiplier or none.
 -- Assumes nothing.
 use mathlib.Core.Path.{sym, _∙_, ap}
 use Prim.Native.Nat.{ℕ}

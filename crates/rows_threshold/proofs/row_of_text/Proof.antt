@@ -1,4 +1,4 @@
--- `threshold::row_of_text` meets its contract: the first shape that the text has.
+-- `rows_threshold::row_of_text` meets its contract: the first shape that the text has.
 -- Assumes nothing.
 use mathlib.Core.Path.{sym, _∙_}
 use Rattle.rows_threshold.specs.Threshold.{thresholdRow}

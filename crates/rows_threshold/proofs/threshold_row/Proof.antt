@@ -1,4 +1,4 @@
--- `threshold::threshold_row` meets its contract: missing, or by the text.
+-- `rows_threshold::threshold_row` meets its contract: missing, or by the text.
 -- Assumes nothing.
 use mathlib.Core.Path.{sym, _∙_, ap}
 use Rattle.rows_threshold.specs.Threshold.{thresholdRow, row12}

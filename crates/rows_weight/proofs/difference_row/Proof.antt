@@ -1,4 +1,4 @@
--- `weight_rows::difference_row` meets its contract: each arm is a case of `differenceRow`.
+-- `rows_weight::difference_row` meets its contract: each arm is a case of `differenceRow`.
 -- Assumes nothing.
 use native.Mathlib.Omega.{arith}
 use mathlib.Core.Path.{_≡_, sym, ap, subst, _∙_}

@@ -1,4 +1,4 @@
--- `weight_rows::is_far_apart` meets its contract: below zero, above the sum, or below it.
+-- `rows_weight::is_far_apart` meets its contract: below zero, above the sum, or below it.
 -- Assumes nothing.
 use native.Mathlib.Omega.{arith}
 use mathlib.Core.Path.{_≡_, sym, _∙_, ap}

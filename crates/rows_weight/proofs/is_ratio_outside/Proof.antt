@@ -1,4 +1,4 @@
--- `weight_rows::is_ratio_outside` meets its contract: below or above, by cross-multiplication.
+-- `rows_weight::is_ratio_outside` meets its contract: below or above, by cross-multiplication.
 -- Assumes nothing.
 use native.Mathlib.Omega.{arith}
 use mathlib.Core.Path.{sym, ap}

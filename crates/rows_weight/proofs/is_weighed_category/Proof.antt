@@ -1,4 +1,4 @@
--- `weight_rows::is_weighed_category` meets its contract: organic or metal-organic.
+-- `rows_weight::is_weighed_category` meets its contract: organic or metal-organic.
 -- Assumes nothing.
 use mathlib.Core.Path.{sym, _∙_}
 use Rattle.rows_weight.specs.WeightRows.{isWeighedCategory}

@@ -1,4 +1,4 @@
--- `weight_rows::ratio_row` meets its contract: each arm is a case of `ratioRow`.
+-- `rows_weight::ratio_row` meets its contract: each arm is a case of `ratioRow`.
 -- Assumes nothing.
 use native.Mathlib.Omega.{arith}
 use mathlib.Core.Path.{_≡_, sym, ap, subst, _∙_}

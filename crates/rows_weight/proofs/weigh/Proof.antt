@@ -1,4 +1,4 @@
--- `weight_rows::weigh` meets its contract: each return is a case of `weighedOf`.
+-- `rows_weight::weigh` meets its contract: each return is a case of `weighedOf`.
 -- Assumes nothing.
 use native.Mathlib.Omega.{arith}
 use mathlib.Core.Path.{_≡_, sym, ap, subst, _∙_}

@@ -1,4 +1,4 @@
--- `weight_rows::weight_rows` meets its contract: each return is a case of `row4` and of `row5`.
+-- `rows_weight::weight_rows` meets its contract: each return is a case of `row4` and of `row5`.
 -- Assumes nothing.
 use mathlib.Core.Path.{_≡_, sym, ap, _∙_}
 use mathlib.Core.Bool.{false}

@@ -1,4 +1,4 @@
--- `probe::probe_item` meets its contract: the item is found or not.
+-- `test_probe::probe_item` meets its contract: the item is found or not.
 -- Assumes nothing.
 use mathlib.Core.Path.{sym, _∙_, ap}
 use Rattle.test_probe.specs.Probe.{itemTold}

@@ -1,4 +1,4 @@
--- `probe::probe_line` meets its contract: the line is split or not.
+-- `test_probe::probe_line` meets its contract: the line is split or not.
 -- Assumes nothing.
 use mathlib.Core.Path.{sym, _∙_, ap}
 use Rattle.test_probe.specs.Probe.{lineTold}

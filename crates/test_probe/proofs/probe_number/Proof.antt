@@ -1,4 +1,4 @@
--- `probe::probe_number` meets its contract: the number is found or not.
+-- `test_probe::probe_number` meets its contract: the number is found or not.
 -- Assumes nothing.
 use native.Mathlib.Omega.{arith}
 use mathlib.Core.Path.{_≡_, sym, _∙_, ap}

@@ -1,4 +1,4 @@
--- `probe::probe_value` meets its contract: each return has the tests of `formTold` on its way.
+-- `test_probe::probe_value` meets its contract: each return has the tests of `formTold` on its way.
 -- Assumes nothing.
 use mathlib.Core.Path.{sym, _∙_}
 use Rattle.test_probe.specs.Probe.{formTold}

@@ -1,4 +1,4 @@
--- `copies::copy_fitting` meets its contract. The loop's invariant: j bytes are copied, and the length stays.
+-- `text_copies::copy_fitting` meets its contract. The loop's invariant: j bytes are copied, and the length stays.
 -- The measure is what is left of the source. Assumes nothing.
 use native.Mathlib.Omega.{arith}
 use mathlib.Core.Path.{_≡_, refl}

@@ -1,4 +1,4 @@
--- `copies::copy_in` meets its contract: the two tests are the one of `copied`.
+-- `text_copies::copy_in` meets its contract: the two tests are the one of `copied`.
 -- Assumes nothing.
 use native.Mathlib.Omega.{arith}
 use mathlib.Core.Path.{sym, _∙_}

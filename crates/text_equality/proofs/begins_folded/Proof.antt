@@ -1,4 +1,4 @@
--- `equality::begins_folded` meets its contract: a text shorter than p does not begin with it.
+-- `text_equality::begins_folded` meets its contract: a text shorter than p does not begin with it.
 -- Assumes nothing.
 use native.Mathlib.Omega.{arith}
 use mathlib.Core.Path.{sym}

@@ -1,4 +1,4 @@
--- `equality::same` meets its contract. The loop's invariant: the bytes compared agree, so the rests decide.
+-- `text_equality::same` meets its contract. The loop's invariant: the bytes compared agree, so the rests decide.
 -- The measure is what is left of the text. Assumes nothing.
 use native.Mathlib.Omega.{arith}
 use Prim.Native.Nat.{_-_}

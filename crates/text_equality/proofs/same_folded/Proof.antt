@@ -1,4 +1,4 @@
--- `equality::same_folded` meets its contract. The loop's invariant: whether the bytes passed agree once folded.
+-- `text_equality::same_folded` meets its contract. The loop's invariant: whether the bytes passed agree once folded.
 -- The measure is what is left of the text. Assumes nothing.
 use native.Mathlib.Omega.{arith}
 use Prim.Native.Nat.{_-_}

@@ -1,4 +1,4 @@
--- `equality::to_lower` meets its contract: each return is a case of `lower`.
+-- `text_equality::to_lower` meets its contract: each return is a case of `lower`.
 -- Assumes nothing.
 use borrow.Author.Tests.{le-leb, lt-leb}
 use Rattle.text.specs.Run.{between}

@@ -1,4 +1,4 @@
--- `formula::recognised::all_recognised` meets its contract. The loop's invariant: the terms passed are recognised, so the rest decides.
+-- `formula_sum::recognised::all_recognised` meets its contract. The loop's invariant: the terms passed are recognised, so the rest decides.
 -- The measure is what is left of the text. Assumes nothing.
 use borrow.Author.Needs.{needs}
 use mathlib.Core.Path.{_≡_, sym, ap, _∙_}

@@ -1,4 +1,4 @@
--- `formula::recognised::is_recognised` meets its contract: each arm is a case of `isRecognised`.
+-- `formula_sum::recognised::is_recognised` meets its contract: each arm is a case of `isRecognised`.
 -- Assumes nothing.
 use mathlib.Core.Path.{sym, ap, _∙_}
 use Rattle.formula_sum.specs.Recognised.{isRecognised}

@@ -1,4 +1,4 @@
--- `formula::sum::sum_of` meets its contract. The loop's invariant: the sum and the weights of the terms left are the total, and the sum
+-- `formula_sum::sum::sum_of` meets its contract. The loop's invariant: the sum and the weights of the terms left are the total, and the sum
 -- is small, by the bytes passed. The measure is what is left of the text. Assumes nothing.
 use borrow.Author.Needs.{needs}
 use native.Mathlib.Omega.{arith}

@@ -1,4 +1,4 @@
--- `formula::sum::term_weight` meets its contract: a count of at most 9999 and a light weight have a small product.
+-- `formula_sum::sum::term_weight` meets its contract: a count of at most 9999 and a light weight have a small product.
 -- Assumes nothing.
 use native.Mathlib.Omega.{arith}
 use mathlib.Core.Path.{_≡_, sym, ap, subst, _∙_}

@@ -1,4 +1,4 @@
--- `terms::term::between_at` meets its contract: each return has the tests of `kindAt` on its way.
+-- `formula_terms::term::between_at` meets its contract: each return has the tests of `kindAt` on its way.
 -- Assumes nothing.
 use borrow.Author.Tests.{lt-ltb, le-ltb, le-leb, lt-leb}
 use Rattle.text.specs.Run.{between, kindAt}

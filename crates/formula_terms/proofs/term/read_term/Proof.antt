@@ -1,4 +1,4 @@
--- `terms::term::read_term` meets its contract: each return is a case of `termOf`.
+-- `formula_terms::term::read_term` meets its contract: each return is a case of `termOf`.
 -- Assumes nothing.
 use native.Mathlib.Omega.{arith}
 use mathlib.Core.Path.{_≡_, sym, ap, _∙_}

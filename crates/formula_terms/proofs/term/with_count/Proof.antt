@@ -1,4 +1,4 @@
--- `terms::term::with_count` meets its contract: each arm is a case of `counted`.
+-- `formula_terms::term::with_count` meets its contract: each arm is a case of `counted`.
 -- Assumes nothing.
 use mathlib.Core.Path.{sym, ap}
 use Rattle.formula_terms.specs.Term.{counted}

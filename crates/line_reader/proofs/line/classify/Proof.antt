@@ -1,4 +1,4 @@
--- `cif::line::classify` meets its contract: each return has the tests of `classOf` on its way.
+-- `line_reader::line::classify` meets its contract: each return has the tests of `classOf` on its way.
 -- Assumes nothing.
 use mathlib.Core.Path.{sym, _∙_}
 use borrow.Author.Tests.{le-leb, lt-leb}

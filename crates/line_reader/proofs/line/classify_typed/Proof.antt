@@ -1,4 +1,4 @@
--- `cif::line::classify_typed` meets its contract: the parts, the item and the kind are the cases of `splitClass`.
+-- `line_reader::line::classify_typed` meets its contract: the parts, the item and the kind are the cases of `splitClass`.
 -- Assumes nothing.
 use native.Mathlib.Omega.{arith}
 use mathlib.Core.Path.{_≡_, sym, _∙_, ap}

@@ -1,4 +1,4 @@
--- `cif::line::split_line` meets its contract: each return has the tests of `splitOf` on its way.
+-- `line_reader::line::split_line` meets its contract: each return has the tests of `splitOf` on its way.
 -- Assumes nothing.
 use mathlib.Core.Path.{_≡_, sym, _∙_, ap}
 use mathlib.Core.Bool.{true}
