@@ -1,6 +1,6 @@
 -- The round trip of the CIF file (document 02, No. 1): "Type the item lines into a fresh desk from one bench, with room in the log, and every value is
 -- there again." `RoundTrip d file bench log` is the claim about a desk and its file; that it holds of every file that is written is `round-trip`, in
--- proofs/Trip.antt. The file's bytes are read in specs/File.antt of cif_file, the calls and the fresh desk in specs/Calls.antt of sequence.
+-- proofs/Trip.antt. The file's bytes are read in specs/File.antt of file_cif, the calls and the fresh desk in specs/Calls.antt of theorem_sequences.
 -- Assumes nothing.
 use Prim.Native.Nat.{ℕ, _+_, _≤_}
 use mathlib.Core.Path.{_≡_}
