@@ -13,6 +13,10 @@ use reference::value;
 
 /// What stands for an item without a value.
 pub const MISSING: [&str; 3] = ["", "?", "."];
+/// Symbols for formulas of every order: some before C and H, between and after them, and some that
+/// are not recognised.
+const ORDERED: [&str; 14] =
+    ["C", "H", "Ag", "B", "Br", "Ca", "Cl", "D", "F", "He", "N", "O", "Xx", "Zn"];
 /// Counts that no term may have, and words that are no symbol.
 const BAD_COUNTS: [&str; 8] = ["0", "01", "007", "10000", "99999", "1.5", "-1", "2+"];
 const BAD_SYMBOLS: [&str; 8] = ["D", "T", "Xx", "Uuo", "CL", "cl", "h", "2H"];
@@ -158,6 +162,37 @@ impl Sheets {
                 format!("{symbol}{}", self.random.pick(&[1, 9, 10, 99, 100, 999, 1000, 9998, 9999]))
             }
         }
+    }
+
+    /// A formula for row 2: some symbols, with C or without, most often in the order that is right
+    /// then, now and then with a symbol twice, two that have changed places, or an ill-formed term.
+    pub fn ordered_formula(&mut self) -> Vec<u8> {
+        let carbon = self.random.once_in(2);
+        let mut symbols: Vec<&str> = vec![];
+        for _ in 0..1 + self.random.below(5) {
+            symbols.push(self.random.pick(&ORDERED));
+        }
+        symbols.retain(|&symbol| symbol != "C");
+        symbols.sort();
+        symbols.dedup();
+        if carbon {
+            symbols.sort_by_key(|&symbol| symbol != "H");
+            symbols.insert(0, "C");
+        }
+        let mut terms: Vec<String> = symbols.iter().map(|symbol| self.term(symbol)).collect();
+        if terms.is_empty() || self.random.once_in(2) {
+            let symbol = self.random.pick(&["H", "H", "Br", "O"]);
+            terms.insert(self.random.below(terms.len() + 1), self.term(symbol));
+        }
+        match self.random.below(8) {
+            0 | 1 => {
+                let (at, other) = (self.random.below(terms.len()), self.random.below(terms.len()));
+                terms.swap(at, other);
+            }
+            2 => terms.insert(self.random.below(terms.len() + 1), "C0".into()),
+            _ => {}
+        }
+        self.inputs.quoted(terms.join(" ").as_bytes())
     }
 
     /// One thing that a formula may have wrong.

@@ -7,8 +7,31 @@ use reference::rows::{NAMES, ROWS};
 
 const GRADES: &[&str] = &["0 0", "0 2", "0 3", "0 4", "7 0"];
 
-/// Each question with its possible answers.
-const QUESTIONS: [(&str, &[&str]); 27] = [
+/// Where H stands in a formula, and whether its symbols are in order; with C none is in order where
+/// H is first.
+const WITH_CARBON: &[&str] = &[
+    "none, in order",
+    "none, not",
+    "",
+    "first, not",
+    "middle, in order",
+    "middle, not",
+    "last, in order",
+    "last, not",
+];
+const WITHOUT_CARBON: &[&str] = &[
+    "none, in order",
+    "none, not",
+    "first, in order",
+    "first, not",
+    "middle, in order",
+    "middle, not",
+    "last, in order",
+    "last, not",
+];
+
+/// Each question with its possible answers; an answer without a name is none.
+const QUESTIONS: [(&str, &[&str]); 30] = [
     ("line", &["0", "5", "6", "7"]),
     ("row 6", GRADES),
     ("row 8", GRADES),
@@ -36,6 +59,9 @@ const QUESTIONS: [(&str, &[&str]); 27] = [
     ("room for it", &["0", "less", "one less", "exact", "one more", "more"]),
     ("log typed into", &["exact", "one more", "longer", "of the limit"]),
     ("typed by bench", &["0", "1", "2", "3"]),
+    ("H, with C", WITH_CARBON),
+    ("H, without C", WITHOUT_CARBON),
+    ("not recognised", &["C, in order", "C, not", "no C, in order", "no C, not"]),
 ];
 /// The most answers of a question.
 const MOST: usize = ITEMS.len() + 1;
@@ -76,6 +102,9 @@ pub enum Question {
     Room,
     TypedLog,
     TypedBench,
+    WithCarbon,
+    WithoutCarbon,
+    NotRecognised,
 }
 
 const GRADED: &[(u8, u8)] = &[(0, 0), (2, 0), (3, 0), (4, 0), (2, 1)];
@@ -170,7 +199,8 @@ impl Tally {
 
     fn counted(&self) -> Vec<Counted> {
         let questions = QUESTIONS.iter().zip(&self.counts).map(|((name, all), counts)| {
-            let row = all.iter().map(|answer| answer.to_string()).zip(*counts).collect();
+            let row = all.iter().map(|answer| answer.to_string()).zip(*counts);
+            let row = row.filter(|(answer, _)| !answer.is_empty()).collect();
             (name.to_string(), row)
         });
         let ways = CALLS.iter().zip(self.ways).map(|((call, ways), counts)| {

@@ -101,9 +101,14 @@ pub fn all_recognised(text: &[u8]) -> bool {
     terms(text).all(|term| term.is_some_and(|term| is_among(&SYMBOLS, term.symbol)))
 }
 
-/// "C first, then H, then the others in rising ASCII order, none twice"
+/// "C first, then H, then the others in rising ASCII order, none twice" with C among the symbols;
+/// "without C plain rising ASCII order, none twice there either" (document 02, No. 2).
 pub fn in_order(text: &[u8]) -> bool {
-    symbols(text).is_sorted_by(|&before, &after| (rank(before), before) < (rank(after), after))
+    if symbols(text).any(|symbol| symbol == b"C") {
+        symbols(text).is_sorted_by(|&before, &after| (rank(before), before) < (rank(after), after))
+    } else {
+        symbols(text).is_sorted_by(|before, after| before < after)
+    }
 }
 
 fn rank(symbol: &[u8]) -> u8 {
@@ -206,13 +211,20 @@ mod tests {
 
     #[test]
     fn order() {
-        for text in ["", "C H", "C H Ag Br", "H Br", "C Br", "C", "Al Br", "N O", "C x H", "C H D"]
-        {
+        for text in ["", "C H", "C H Ag Br", "C Br", "C", "Al Br", "N O", "C x H", "C H D"] {
             assert!(in_order(text.as_bytes()), "{text}");
         }
-        for text in
-            ["Br H", "C H H", "H C", "C Br H", "C H O N", "C H B Al", "C10 C", "Cl C", "C D H"]
-        {
+        for text in ["C H H", "H C", "C Br H", "C H O N", "C H B Al", "C10 C", "Cl C", "C D H"] {
+            assert!(!in_order(text.as_bytes()), "{text}");
+        }
+    }
+
+    #[test]
+    fn order_without_carbon() {
+        for text in ["Br H", "H", "D H", "H H1x O", "Al H Na", "C0 Br H", "Cl H", "Ca H"] {
+            assert!(in_order(text.as_bytes()), "{text}");
+        }
+        for text in ["H Br", "H H", "Br Br H", "Br C", "H Al", "C0 H Br", "H Cl", "O H2 O"] {
             assert!(!in_order(text.as_bytes()), "{text}");
         }
     }

@@ -236,8 +236,8 @@ mod tests {
     #[test]
     fn formulas_of_the_measured_examples() {
         for (formula, number, level) in [
-            ("'H Br'", 2, NONE),
-            ("'Br H'", 2, B),
+            ("'H Br'", 2, B),
+            ("'Br H'", 2, NONE),
             ("'C H H'", 2, B),
             ("'C10H20'", 1, A),
             ("'C10 H20'", 1, NONE),

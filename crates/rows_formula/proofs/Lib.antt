@@ -1,1 +1,2 @@
 mod ClassCases
+pub mod AsBefore

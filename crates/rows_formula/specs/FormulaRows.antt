@@ -16,6 +16,7 @@ unfoldable pub row1 : List ℕ → Row
 row1 formula = cond (missing formula) (rowOf 2 1) (cond (allRecognised (textOf formula)) noAlert (rowOf 4 0))
 
 -- "2. CHEMS_01o (000): over the symbols of well-formed terms, C first, then H, then the others in rising ASCII order, none twice; otherwise B. Missing: C, reason 1 (house)."
+-- Document 02, No. 2: "with C present as now, without C plain rising ASCII order, none twice there either".
 unfoldable pub row2 : List ℕ → Row
 row2 formula = cond (missing formula) (rowOf 2 1) (cond (inOrder (textOf formula)) noAlert (rowOf 3 0))
 

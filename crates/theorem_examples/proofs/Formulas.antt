@@ -12,7 +12,8 @@ use Rattle.formula_terms.specs.Terms.{cut, some}
 use Rattle.formula_elements.specs.Elements.{sameSymbol, placeOf, symbols, elementOf, isElement, notMetals, isMetal, weights, weightIn, weightOf}
 use Rattle.formula_sum.specs.Recognised.{allRecognised}
 use Rattle.formula_order.specs.Order.{rank, orderKey, rising, inOrder}
-use Rattle.formula_class.specs.Class.{hasTerm, formulaClass}
+use Rattle.formula_symbols.specs.Symbols.{hasTerm}
+use Rattle.formula_class.specs.Class.{formulaClass}
 use Rattle.formula_sum.specs.Sum.{total, sumOf}
 use Rattle.line_categories.specs.declared.Class.{Class}
 use Rattle.line_categories.specs.declared.Class.the-variants.{Inorganic, MetalOrganic, Organic}
@@ -39,8 +40,8 @@ examples =
     example "C10 H20" true true Organic (Thousandths 140270) ∷
     example "C10 H8 Fe" true true MetalOrganic (Thousandths 184019) ∷
     example "C O2" true true Inorganic (Thousandths 44009) ∷
-    example "H Br" true true Inorganic (Thousandths 80912) ∷
-    example "Br H" true false Inorganic (Thousandths 80912) ∷
+    example "H Br" true false Inorganic (Thousandths 80912) ∷
+    example "Br H" true true Inorganic (Thousandths 80912) ∷
     example "C H H" true false Organic (Thousandths 14027) ∷
     example "N Na" true true Inorganic (Thousandths 36997) ∷
     example "Na N" true false Inorganic (Thousandths 36997) ∷

@@ -15,7 +15,8 @@ use Rattle.formula_terms.specs.Terms.{cut, some}
 use Rattle.formula_elements.specs.Elements.{sameSymbol, placeOf, symbols, elementOf, isElement, notMetals, isMetal, weights, weightIn, weightOf}
 use Rattle.formula_sum.specs.Recognised.{allRecognised}
 use Rattle.formula_order.specs.Order.{rank, orderKey, rising, inOrder}
-use Rattle.formula_class.specs.Class.{hasTerm, formulaClass}
+use Rattle.formula_symbols.specs.Symbols.{hasTerm}
+use Rattle.formula_class.specs.Class.{formulaClass}
 use Rattle.formula_sum.specs.Sum.{total, sumOf}
 use Rattle.rows_levels.specs.Bounds.{bounds, judgedOf, gradeOf, gradedOf}
 use Rattle.desk_state.specs.Lines.{appended, erased}

@@ -89,8 +89,10 @@ examples =
     -- "'F > 6\s(F)' none; 'F^2^ > 6\s(F^2^)' A"
     example (row 12 (typed 10 "'F > 6\\s(F)'" ∷ [])) (0 ∷ 0 ∷ []) ∷
     example (row 12 (typed 10 "'F^2^ > 6\\s(F^2^)'" ∷ [])) (4 ∷ 0 ∷ []) ∷
-    -- "'H Br' row 2 none .. 'C10H20' row 1 A"
-    example (row 2 (typed 1 "'H Br'" ∷ [])) (0 ∷ 0 ∷ []) ∷
+    -- document 02, No. 2: "'H Br' earns B and 'Br H' none, and that [P] case changes with it"
+    example (row 2 (typed 1 "'H Br'" ∷ [])) (3 ∷ 0 ∷ []) ∷
+    example (row 2 (typed 1 "'Br H'" ∷ [])) (0 ∷ 0 ∷ []) ∷
+    -- "'C10H20' row 1 A"
     example (row 1 (typed 1 "'C10H20'" ∷ [])) (4 ∷ 0 ∷ []) ∷
     -- "_refine_ls_R_factor_gt 0.16 from bench 0 logs 0A 00 01 00 00 04 30 2E 31 36 (hexadecimal)"
     example (played (entering "_refine_ls_R_factor_gt 0.16")) (10 ∷ 0 ∷ 1 ∷ 0 ∷ 0 ∷ 4 ∷ 48 ∷ 46 ∷ 49 ∷ 54 ∷ []) ∷

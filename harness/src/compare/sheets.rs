@@ -2,15 +2,19 @@
 
 use super::calls::Both;
 use super::{from_seeds, hex, Comparison, Plan};
-use crate::desks::in_memory;
+use crate::desks::{in_memory, sheet};
 use crate::program::Call;
 use crate::sheet_lists;
 use crate::sheets::Sheets;
+use crate::tally::Question;
 use reference::desk::{values, Desk};
+use reference::{formula, value};
 use std::fmt::{Display, Formatter, Result};
 
 /// One sheet for each two lines.
 const ONE_IN: u64 = 2;
+/// One formula for its order for each five: 200,000 in a whole comparison.
+const ORDERS_ONE_IN: u64 = 5;
 
 /// A desk told by its values.
 struct Told<'a>(&'a Desk);
@@ -21,9 +25,15 @@ impl Display for Told<'_> {
     }
 }
 
+/// A desk that holds a formula alone.
+fn with_formula(formula: &[u8]) -> Desk {
+    sheet(std::array::from_fn(|place| if place == 0 { formula } else { b"" }))
+}
+
 impl Comparison<'_> {
     pub(super) fn some_sheets(&mut self, plan: &Plan) {
         self.seeded(plan, from_seeds!("sheets"), ONE_IN, Self::generated_sheets);
+        self.seeded(plan, from_seeds!("orders"), ORDERS_ONE_IN, Self::generated_orders);
         self.sheets("measured examples", sheet_lists::measured_examples());
     }
 
@@ -42,6 +52,33 @@ impl Comparison<'_> {
     fn generated_sheets(&mut self, name: &'static str, seed: u64, count: u64) {
         let mut sheets = Sheets::new(seed);
         self.sheets(name, (0..count).map(|_| sheets.sheet()));
+    }
+
+    fn generated_orders(&mut self, name: &'static str, seed: u64, count: u64) {
+        let mut sheets = Sheets::new(seed);
+        let formulas: Vec<Vec<u8>> = (0..count).map(|_| sheets.ordered_formula()).collect();
+        for formula in &formulas {
+            self.note_order(value::text(formula));
+        }
+        self.sheets(name, formulas.iter().map(|formula| with_formula(formula)));
+    }
+
+    /// Counts where H stands in a formula, with C and without, and whether the symbols are in order.
+    fn note_order(&mut self, text: &[u8]) {
+        let symbols: Vec<&[u8]> = formula::symbols(text).collect();
+        let carbon = symbols.contains(&&b"C"[..]);
+        let place = match symbols.iter().position(|symbol| symbol == b"H") {
+            None => 0,
+            Some(0) => 1,
+            Some(at) if at + 1 < symbols.len() => 2,
+            Some(_) => 3,
+        };
+        let out = usize::from(!formula::in_order(text));
+        let question = if carbon { Question::WithCarbon } else { Question::WithoutCarbon };
+        self.tally.note(question, 2 * place + out);
+        if !formula::all_recognised(text) {
+            self.tally.note(Question::NotRecognised, 2 * usize::from(!carbon) + out);
+        }
     }
 
     fn sheets(&mut self, name: &'static str, desks: impl IntoIterator<Item = Desk>) {

@@ -1,10 +1,11 @@
--- `formula_class::class_of` meets its contract: each return has the tests of `classOf` on its way.
+-- `formula_class::class_of` meets its contract: each return has the tests of `formulaClass` on its way.
 -- Assumes nothing.
 use mathlib.Core.Path.{_≡_, sym, _∙_}
 use mathlib.Core.Bool.{true}
 use borrow.Author.Tests.{not-true, not-false}
-use Rattle.formula_class.specs.Class.{hasTerm, formulaClass}
-use Rattle.formula_class.specs.declared.Wanted.the-variants.{Symbol}
+use Rattle.formula_symbols.specs.Symbols.{hasTerm}
+use Rattle.formula_symbols.specs.declared.Wanted.the-variants.{Symbol}
+use Rattle.formula_class.specs.Class.{formulaClass}
 use borrow.Author.Needs.{needs}
 use Rattle.formula_class.proofs.class_of.Statement.{statement}
 use Rattle.formula_class.proofs.class_of.Tie as tie

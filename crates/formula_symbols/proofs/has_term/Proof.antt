@@ -1,4 +1,4 @@
--- `formula_class::has_term` meets its contract. The loop's invariant: no term passed is looked for, so the rest decides.
+-- `formula_symbols::has_term` meets its contract. The loop's invariant: no term passed is looked for, so the rest decides.
 -- The measure is what is left of the text. Assumes nothing.
 use borrow.Author.Needs.{needs}
 use mathlib.Core.Path.{_≡_, sym, ap, _∙_}
@@ -6,10 +6,10 @@ use mathlib.Core.Bool.{true, false}
 use Prim.Native.Nat.{_+_, _-_}
 use lib.ListN.{length}
 use Rattle.formula_terms.specs.Terms.{some}
-use Rattle.formula_class.specs.Class.{isWanted, hasTerm}
+use Rattle.formula_symbols.specs.Symbols.{isWanted, hasTerm}
 use Rattle.formula_terms.proofs.Steps.{termsFrom, from-start, Stepped, step-next, step-end, falls, some-next, some-end}
-use Rattle.formula_class.proofs.has_term.Statement.{statement}
-use Rattle.formula_class.proofs.has_term.Tie as tie
+use Rattle.formula_symbols.proofs.has_term.Statement.{statement}
+use Rattle.formula_symbols.proofs.has_term.Tie as tie
 
 abbrev Inv-loop : tie.InvT-loop
 Inv-loop s w from₀ from = hasTerm w s ≡ some (isWanted w) (termsFrom s from)

@@ -1,9 +1,9 @@
--- `formula_class::is_wanted` meets its contract: each arm is a case of `isWanted`.
+-- `formula_symbols::is_wanted` meets its contract: each arm is a case of `isWanted`.
 -- Assumes nothing.
 use mathlib.Core.Path.{_∙_}
 use borrow.Author.Needs.{needs}
-use Rattle.formula_class.proofs.is_wanted.Statement.{statement}
-use Rattle.formula_class.proofs.is_wanted.Tie as tie
+use Rattle.formula_symbols.proofs.is_wanted.Statement.{statement}
+use Rattle.formula_symbols.proofs.is_wanted.Tie as tie
 
 returns-2 : tie.Need-returns-2
 returns-2 c =
