@@ -9,6 +9,7 @@
 #include <string.h>
 
 #include "desk.h"
+#include "probe.h"
 #include "wall.h"
 
 enum { STACK = 1 << 20, PAINT = 0xA5 };
@@ -38,6 +39,11 @@ static uint8_t key(uint64_t bench, char byte) {
 }
 
 static void nothing(void) {}
+
+/* The longest way through the lookup, its stack alone: no name. */
+static void look_up(void) {
+    sink += (unsigned)probe_item((const uint8_t *)"_refine_ls_R_factor_xx", 22);
+}
 
 static void classify(void) {
     sink += wall_classify((const uint8_t *)"_refine_ls_R_factor_gt 0.16", 27);
@@ -108,6 +114,7 @@ static void print(const char *name, void (*call)(void), size_t base) {
 
 int main(void) {
     size_t base = touched(nothing);
+    print("probe_item, the lookup of a name", look_up, base);
     print("wall_classify", classify, base);
     print("wall_grade", grade, base);
     print("desk_fresh", fresh, base);

@@ -1,3 +1,2 @@
 pub mod NameTable
 pub mod Names
-pub mod Likely

@@ -1,49 +1,37 @@
--- The code's table of names: a row of 32 bytes for each item, and an empty one for item 0. That it is the table of items is a test that antt computes.
+-- The code's table of names: a constant for each item, which a `match` on the item's number lends. That it is the table of items antt computes, arm by arm.
 -- Assumes nothing.
-use mathlib.Core.Path.{_≡_, refl, ap, _∙_}
-use mathlib.Core.List.{List, [], _∷_, _++_}
-use Prim.Native.Nat.{ℕ, _+_, _-_, _*_, _≤_, _<_}
+use mathlib.Core.Path.{_≡_, refl, sym, ap, _∙_}
+use mathlib.Core.List.{List, []}
+use Prim.Native.Nat.{ℕ, zero, suc, _+_, _≤_, _<_}
 use native.Mathlib.Omega.{arith}
 use borrow.Author.Tests.{le-leb, lt-leb}
-use lib.ListN.{length, getD, take, drop, replicate}
-use Rattle.text.proofs.Tables.{agree, nowhere-above}
-use Rattle.line_items.specs.Items.{ItemRow, items, itemCount, nameMost, noRow, itemRow, nameOf}
+use Rattle.text.proofs.Tables.{nowhere-above}
+use lib.ListN.{length}
+use Rattle.line_items.specs.Items.{items, itemCount, nameMost, itemRow, nameOf}
 
--- the names, each filled up with points
-filled : List ItemRow → List ℕ
-filled [] = []
-filled (r ∷ rs) = take 32 (r .name ++ replicate 32 46) ++ filled rs
+-- what an arm makes of the name of its item is made of the name of the item that is asked for
+pub arm : {A : Type 0} (f : List ℕ → A) {item k : ℕ} {r : A} → item ≡ k → r ≡ f (nameOf k) → r ≡ f (nameOf item)
+arm f e h = h ∙ sym (ap (λ (k : ℕ). f (nameOf k)) e)
 
-unfoldable pub flat : List ℕ
-unfolding filled items
-flat = filled (noRow ∷ items)
-
-unfoldable pub lengths : List ℕ
-lengths = 0 ∷ 21 ∷ 24 ∷ 24 ∷ 22 ∷ 23 ∷ 24 ∷ 24 ∷ 23 ∷ 24 ∷ 28 ∷ []
-
-module _ (item : ℕ) (known : item ≤ itemCount) where
-  below : item < itemCount + 1
-  below = omega arith
-
-  pub name-length : getD lengths item 0 ≡ length (nameOf item)
-  unfolding lengths items nameOf
-  name-length = agree (λ (k : ℕ). getD lengths k 0) (λ (k : ℕ). length (nameOf k)) 0 (itemCount + 1) refl item below
-
-  pub name-short : length (nameOf item) ≤ nameMost
-  unfolding items nameOf
-  name-short = nowhere-above (λ (k : ℕ). length (nameOf k)) (λ (k : ℕ). nameMost) (itemCount + 1) refl item below
-
-  -- the part of the table from the item's row on, as long as its name
-  pub name-part : (n : ℕ) → n ≡ length (nameOf item) → take (32 * item + n - 32 * item) (drop (32 * item) flat) ≡ nameOf item
-  unfolding flat items nameOf
-  name-part n e =
-      let size : 32 * item + n - 32 * item ≡ length (nameOf item) = omega arith in
-      ap (λ (m : ℕ). take m (drop (32 * item) flat)) size ∙ agree (λ (k : ℕ). take (length (nameOf k)) (drop (32 * k) flat)) nameOf [] (itemCount + 1) refl item below
+pub name-short : (item : ℕ) → item ≤ itemCount → length (nameOf item) ≤ nameMost
+unfolding items nameOf
+name-short item known = nowhere-above (λ (k : ℕ). length (nameOf k)) (λ (k : ℕ). nameMost) (itemCount + 1) refl item (omega arith)
 
 pub name-of : (item : ℕ) → 1 ≤ item → item ≤ itemCount → nameOf item ≡ itemRow item .name
 unfolding nameOf
 name-of item some known = simp (le-leb 1 item some, le-leb item itemCount known)
 
-pub no-name-after : (item : ℕ) → itemCount < item → nameOf item ≡ []
+-- no arm of the items 1 to n was taken
+abbrev pub Others : ℕ → ℕ → Type 0
+Others item zero = Unit {0}
+Others item (suc n) = Others item n × (item ≡ suc n → ⊥)
+
+pub past : (item n : ℕ) → 1 ≤ item → Others item n → n < item
+past item zero some none = some
+past item (suc n) some none = let h = past item n some (none .0) in let other = none .1 in omega arith
+
+-- where no arm was taken there is no name
+pub no-name : (item : ℕ) → Others item itemCount → nameOf item ≡ []
 unfolding nameOf
-no-name-after item h = simp (le-leb 1 item (omega arith), lt-leb item itemCount h)
+no-name zero none = refl
+no-name (suc j) none = simp (le-leb 1 (suc j) (omega arith), lt-leb (suc j) itemCount (past (suc j) itemCount (omega arith) none))

@@ -4,17 +4,21 @@ use mathlib.Core.Path.{_≡_, refl, sym, ap, _∙_}
 use mathlib.Core.Bool.{Bool, true, false, cond}
 use mathlib.Core.List.{List, [], _∷_, map}
 use Prim.Native.Nat.{ℕ, suc, _+_, _-_, _≤_, _<_}
+use native.Mathlib.Numerals.{add-one}
 use native.Mathlib.Omega.{arith}
 use borrow.Author.Tests.{leb-true}
 use lib.Dec.{leb}
-use lib.ListN.{length, getD, replicate, getD-replicate, List·getD-map}
+use lib.ListN.{length, getD, drop, replicate, getD-replicate, List·getD-map}
+use lib.Seq.{drop-cons}
 use Rattle.text.specs.Run.{all, between, other, hasAt, kindAt}
 use Rattle.text_equality.specs.Same.{lower, sameBy, sameFolded}
 use Rattle.text_equality.proofs.Sames.{same→map, same-cong}
 use Rattle.text.proofs.Tables.{agree}
-use Rattle.line_items.specs.Items.{ItemRow, items, itemCount, noRow, itemRow, findFrom, itemOf, IsName}
+use Rattle.line_items.specs.Items.{ItemRow, items, itemCount, noRow, itemRow, nameOf, findFrom, itemOf, IsName}
 use Rattle.line_items.specs.Typed.{isTyped}
+use Rattle.line_items.specs.declared.Named.{Named}
 use Rattle.line_items.specs.declared.Named.the-variants.{Item, Unknown}
+use Rattle.line_items.proofs.NameTable.{name-of}
 
 items-length : length items ≡ itemCount
 unfolding items
@@ -43,6 +47,22 @@ found : (rs : List ItemRow) (n : ℕ) (s : List ℕ) (k : ℕ) → findFrom n rs
 unfolding findFrom
 found [] n s k q = let z : _≡_ {A = ℕ} 0 1 = cc in absurd (omega arith)
 found (r ∷ rs) n s k q = found-by (sameFolded s (r .name)) r rs n s k refl (found rs (suc n) s k) q
+
+-- the search from item k on
+abbrev pub searchFrom : List ℕ → ℕ → Named
+searchFrom s k = findFrom k (drop (k - 1) items) s
+
+pub search-turn : (s : List ℕ) (k : ℕ) → 1 ≤ k → k ≤ itemCount → searchFrom s k ≡ cond (sameFolded s (nameOf k)) (Item k) (searchFrom s (k + 1))
+unfolding findFrom
+search-turn s k some known =
+    let within : k - 1 < length items = omega (arith, items-length) in
+    let rest : suc (k - 1) ≡ k + 1 - 1 = omega arith in
+    let name = ap (λ (n : List ℕ). sameFolded s n) (name-of k some known) in
+    rw (← rest, drop-cons items (k - 1) noRow within, name, add-one k) refl
+
+pub search-end : (s : List ℕ) → searchFrom s (itemCount + 1) ≡ Unknown
+unfolding items findFrom
+search-end s = refl
 
 -- a text that is found as item k is its name
 pub name-found : (s : List ℕ) (k : ℕ) → itemOf s ≡ Item k → IsName s k

@@ -29,71 +29,74 @@ pub enum Named {
 
 pub const ITEM_COUNT: usize = 10;
 
-// The names, each in a row of its own, that of item 0 empty, and their lengths.
-const ROW: usize = 32;
+// The table of names. A name is lent from it where it is compared or copied; `match` has the items' numbers.
+const FORMULA_SUM: [u8; 21] = *b"_chemical_formula_sum";
 
-const NAMES: [u8; 352] = *b"................................\
-    _chemical_formula_sum...........\
-    _chemical_formula_weight........\
-    _publ_requested_category........\
-    _refine_ls_R_factor_gt..........\
-    _refine_ls_R_factor_obs.........\
-    _refine_ls_wR_factor_ref........\
-    _refine_ls_wR_factor_obs........\
-    _refine_ls_shift/su_max.........\
-    _refine_ls_shift/esd_max........\
-    _reflns_threshold_expression....";
+const FORMULA_WEIGHT: [u8; 24] = *b"_chemical_formula_weight";
 
-const LENGTHS: [u8; 11] = [0, 21, 24, 24, 22, 23, 24, 24, 23, 24, 28];
+const REQUESTED_CATEGORY: [u8; 24] = *b"_publ_requested_category";
 
-// The item that a text with this mark can name, as a letter: A for item 1, @ for none. No two names have the same mark.
-const LIKELY: [u8; 32] = *b"@@C@@@@J@@@@@@@HEIGD@F@@B@@@@@@A";
+const R_FACTOR_GT: [u8; 22] = *b"_refine_ls_R_factor_gt";
 
-// The item that s names, if it names one. A text's mark is made of its length and its last byte but one, whose case does not tell.
-fn likely_item(s: &[u8]) -> usize
-    ensures { λ r. ⌜ (r ≤ itemCount) × ((k : ℕ) → IsName (now (s .entry)) k → r ≡ k) ⌝ }
-{
-    if s.len() < 2 {
-        return 0;
-    }
-    let byte = s[s.len() - 2] as usize;
-    let mark = (2 * (s.len() % 16) + byte) % 32;
-    (LIKELY[mark] - b'@') as usize
-}
+const R_FACTOR_OBS: [u8; 23] = *b"_refine_ls_R_factor_obs";
+
+const WR_FACTOR_REF: [u8; 24] = *b"_refine_ls_wR_factor_ref";
+
+const WR_FACTOR_OBS: [u8; 24] = *b"_refine_ls_wR_factor_obs";
+
+const SHIFT_SU_MAX: [u8; 23] = *b"_refine_ls_shift/su_max";
+
+const SHIFT_ESD_MAX: [u8; 24] = *b"_refine_ls_shift/esd_max";
+
+const THRESHOLD_EXPRESSION: [u8; 28] = *b"_reflns_threshold_expression";
 
 // The length of an item's name; 0 where there is no such item.
 pub fn name_length(item: usize) -> usize
     ensures { λ r. ⌜ r ≡ length (nameOf item) ⌝ }
 {
-    if ITEM_COUNT < item {
-        return 0;
+    match item {
+        1 => FORMULA_SUM.len(),
+        2 => FORMULA_WEIGHT.len(),
+        3 => REQUESTED_CATEGORY.len(),
+        4 => R_FACTOR_GT.len(),
+        5 => R_FACTOR_OBS.len(),
+        6 => WR_FACTOR_REF.len(),
+        7 => WR_FACTOR_OBS.len(),
+        8 => SHIFT_SU_MAX.len(),
+        9 => SHIFT_ESD_MAX.len(),
+        10 => THRESHOLD_EXPRESSION.len(),
+        _ => 0,
     }
-    LENGTHS[item] as usize
 }
 
-// Whether s is the name of an item, without regard to the case of A to Z. The table of names is not touched for a text of another length.
+// Whether s is the name of an item, without regard to the case of A to Z. They are compared in place.
 fn is_name(item: usize, s: &[u8]) -> bool
-    requires { ⌜ item ≤ itemCount ⌝ }
+    requires { ⌜ (1 ≤ item) × (item ≤ itemCount) ⌝ }
     ensures { λ r. ⌜ r ≡ sameFolded (now (s .entry)) (nameOf item) ⌝ }
 {
-    let len = name_length(item);
-    if s.len() != len {
-        return false;
+    match item {
+        1 => text_equality::same_folded(s, &FORMULA_SUM),
+        2 => text_equality::same_folded(s, &FORMULA_WEIGHT),
+        3 => text_equality::same_folded(s, &REQUESTED_CATEGORY),
+        4 => text_equality::same_folded(s, &R_FACTOR_GT),
+        5 => text_equality::same_folded(s, &R_FACTOR_OBS),
+        6 => text_equality::same_folded(s, &WR_FACTOR_REF),
+        7 => text_equality::same_folded(s, &WR_FACTOR_OBS),
+        8 => text_equality::same_folded(s, &SHIFT_SU_MAX),
+        9 => text_equality::same_folded(s, &SHIFT_ESD_MAX),
+        10 => text_equality::same_folded(s, &THRESHOLD_EXPRESSION),
+        _ => false,
     }
-    let from = ROW * item;
-    text_equality::same_folded(s, &NAMES[from..from + len])
 }
 
-// The item of a name.
+// The item of a name, the first whose name it is.
 pub fn item_named(s: &[u8]) -> Named
     ensures { λ r. ⌜ r ≡ itemOf (now (s .entry)) ⌝ }
 {
-    let item = likely_item(s);
-    if item < 1 {
-        return Named::Unknown;
-    }
-    if is_name(item, s) {
-        return Named::Item(item);
+    for item in 1..=ITEM_COUNT {
+        if is_name(item, s) {
+            return Named::Item(item);
+        }
     }
     Named::Unknown
 }
@@ -102,10 +105,17 @@ pub fn item_named(s: &[u8]) -> Named
 pub fn copy_name(out: &mut [u8], at: usize, item: usize)
     ensures { λ _. ⌜ now (out .exit) ≡ copied (now (out .entry)) at (nameOf item) ⌝ }
 {
-    if ITEM_COUNT < item {
-        return;
+    match item {
+        1 => text_copies::copy_in(out, at, &FORMULA_SUM),
+        2 => text_copies::copy_in(out, at, &FORMULA_WEIGHT),
+        3 => text_copies::copy_in(out, at, &REQUESTED_CATEGORY),
+        4 => text_copies::copy_in(out, at, &R_FACTOR_GT),
+        5 => text_copies::copy_in(out, at, &R_FACTOR_OBS),
+        6 => text_copies::copy_in(out, at, &WR_FACTOR_REF),
+        7 => text_copies::copy_in(out, at, &WR_FACTOR_OBS),
+        8 => text_copies::copy_in(out, at, &SHIFT_SU_MAX),
+        9 => text_copies::copy_in(out, at, &SHIFT_ESD_MAX),
+        10 => text_copies::copy_in(out, at, &THRESHOLD_EXPRESSION),
+        _ => (),
     }
-    let len = name_length(item);
-    let from = ROW * item;
-    text_copies::copy_in(out, at, &NAMES[from..from + len]);
 }

@@ -10,7 +10,7 @@ use reference::names::{item, ITEMS};
 use reference::number::{number, DIGITS};
 use reference::value;
 
-pub const FAULTS: [(&str, Wrong); 9] = [
+pub const FAULTS: [(&str, Wrong); 11] = [
     (
         "spaces at the end are passed over",
         Wrong::Classify(|line| line::classify(line.trim_ascii_end())),
@@ -23,6 +23,8 @@ pub const FAULTS: [(&str, Wrong); 9] = [
     ("the sign is lost below one", Wrong::Number(sign_lost)),
     ("a quoted mark is unassigned", Wrong::Value(quoted_mark)),
     ("names are folded by one bit", Wrong::Item(folded_by_one_bit)),
+    ("the case of a name tells", Wrong::Item(|name| first_item(|known| known == name))),
+    ("a name is found by its beginning", Wrong::Item(found_by_beginning)),
 ];
 
 fn name_first(line: &[u8]) -> u8 {
@@ -76,8 +78,17 @@ fn quoted_mark(text: &[u8]) -> u64 {
     }
 }
 
+/// The first item whose name passes a test, or 0.
+fn first_item(passes: impl Fn(&[u8]) -> bool) -> u64 {
+    let place = ITEMS.iter().position(|(known, _)| passes(known.as_bytes()));
+    place.map_or(0, |place| place as u64 + 1)
+}
+
 fn folded_by_one_bit(name: &[u8]) -> u64 {
     let folded = |text: &[u8]| text.iter().map(|byte| byte | 32).collect::<Vec<u8>>();
-    let same = |(known, _): &(&str, _)| folded(known.as_bytes()) == folded(name);
-    ITEMS.iter().position(same).map_or(0, |place| place as u64 + 1)
+    first_item(|known| folded(known) == folded(name))
+}
+
+fn found_by_beginning(name: &[u8]) -> u64 {
+    first_item(|known| known.get(..name.len()).is_some_and(|part| part.eq_ignore_ascii_case(name)))
 }

@@ -1,43 +1,61 @@
--- `line_items::copy_name` meets its contract: the item's part of the table is its name.
+-- `line_items::copy_name` meets its contract: each arm copies the name of its item.
 -- Assumes nothing.
-use native.Mathlib.Omega.{arith}
 use mathlib.Core.Path.{sym, ap, _∙_}
 use denote.Ref.{now}
 use Rattle.text_copies.specs.Copy.{copied}
 use Rattle.text_copies.proofs.Copies.{copied-none}
-use Rattle.line_items.proofs.NameTable.{flat, name-short, name-part, no-name-after}
+use Rattle.line_items.specs.Items.{items, nameOf}
+use Rattle.line_items.proofs.NameTable.{arm, no-name}
 use borrow.Author.Needs.{needs}
 use Rattle.line_items.proofs.copy_name.Statement.{statement}
 use Rattle.line_items.proofs.copy_name.Tie as tie
 
-returns : tie.Need-returns
-returns c = let a = c .before .before .args in sym (ap (copied (now (a .out)) (a .at)) (no-name-after (a .item) (c .if1 .taken)) ∙ copied-none (now (a .out)) (a .at))
-
-add-copy-in : tie.Need-add-copy-in
-add-copy-in c = omega (arith, c .before .name-length .ensures, name-short _ (c .before .before .if1 .left))
-
-part-copy-in-end : tie.Need-part-copy-in-end
-part-copy-in-end c = let l = c .before .before in omega (arith, l .name-length .ensures, name-short _ (l .before .if1 .left))
-
-returns-2 : tie.Need-returns-2
-unfolding flat
-returns-2 c =
-    let k = c .before .before in
-    let l = k .before .before .before .before in
-    let a = l .before .before .before .args in
-    k .copy-in .ensures ∙ ap (copied (now (a .out)) (a .at)) (name-part _ (l .before .if1 .left) _ (l .name-length .ensures))
+returns-11 : tie.Need-returns-11
+returns-11 c = let a = c .before .before .args in sym (ap (copied (now (a .out)) (a .at)) (no-name (a .item) (c .match .rest)) ∙ copied-none (now (a .out)) (a .at))
 
 pub copy-name-spec : {M : Type 1} → statement M
+unfolding items nameOf
 copy-name-spec =
     tie.close
     (tie.spec
-    returns
+    (λ c. search needs)
     (λ c κs. search needs)
     (λ c. search needs)
-    add-copy-in
-    (λ c. search needs)
-    (λ c. search needs)
-    part-copy-in-end
     (λ c κs. search needs)
     (λ c. search needs)
-    returns-2)
+    (λ c κs. search needs)
+    (λ c. search needs)
+    (λ c κs. search needs)
+    (λ c. search needs)
+    (λ c κs. search needs)
+    (λ c. search needs)
+    (λ c κs. search needs)
+    (λ c. search needs)
+    (λ c κs. search needs)
+    (λ c. search needs)
+    (λ c κs. search needs)
+    (λ c. search needs)
+    (λ c κs. search needs)
+    (λ c. search needs)
+    (λ c κs. search needs)
+    (λ c. search needs)
+    (λ c. let k = c .before .before in arm (copied _ _) (k .before .before .before .match .keys1) (k .copy-in .ensures))
+    (λ c. search needs)
+    (λ c. let k = c .before .before in arm (copied _ _) (k .before .before .before .match .keys2) (k .copy-in2 .ensures))
+    (λ c. search needs)
+    (λ c. let k = c .before .before in arm (copied _ _) (k .before .before .before .match .keys3) (k .copy-in3 .ensures))
+    (λ c. search needs)
+    (λ c. let k = c .before .before in arm (copied _ _) (k .before .before .before .match .keys4) (k .copy-in4 .ensures))
+    (λ c. search needs)
+    (λ c. let k = c .before .before in arm (copied _ _) (k .before .before .before .match .keys5) (k .copy-in5 .ensures))
+    (λ c. search needs)
+    (λ c. let k = c .before .before in arm (copied _ _) (k .before .before .before .match .keys6) (k .copy-in6 .ensures))
+    (λ c. search needs)
+    (λ c. let k = c .before .before in arm (copied _ _) (k .before .before .before .match .keys7) (k .copy-in7 .ensures))
+    (λ c. search needs)
+    (λ c. let k = c .before .before in arm (copied _ _) (k .before .before .before .match .keys8) (k .copy-in8 .ensures))
+    (λ c. search needs)
+    (λ c. let k = c .before .before in arm (copied _ _) (k .before .before .before .match .keys9) (k .copy-in9 .ensures))
+    (λ c. search needs)
+    (λ c. let k = c .before .before in arm (copied _ _) (k .before .before .before .match .keys10) (k .copy-in10 .ensures))
+    returns-11)

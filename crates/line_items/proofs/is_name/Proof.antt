@@ -1,39 +1,49 @@
--- `line_items::is_name` meets its contract: the item's part of the table is its name, and a text of another length is not.
+-- `line_items::is_name` meets its contract: each arm lends the name of its item.
 -- Assumes nothing.
 use native.Mathlib.Omega.{arith}
-use mathlib.Core.Path.{sym, ap, _∙_}
-use Rattle.text_equality.specs.Same.{lower, sameFolded}
-use Rattle.text_equality.proofs.Sames.{other-length}
-use Rattle.line_items.proofs.NameTable.{flat, name-short, name-part}
+use Rattle.text_equality.specs.Same.{sameFolded}
+use Rattle.line_items.specs.Items.{items, itemCount, nameOf}
+use Rattle.line_items.proofs.NameTable.{arm, past}
 use borrow.Author.Needs.{needs}
 use Rattle.line_items.proofs.is_name.Statement.{statement}
 use Rattle.line_items.proofs.is_name.Tie as tie
 
-returns : tie.Need-returns
-returns c = sym (other-length lower _ _ (λ e. c .if1 .taken (e ∙ sym (c .before .name-length .ensures))))
-
-part-same-folded-end : tie.Need-part-same-folded-end
-part-same-folded-end c =
-    let l = c .before .before in
-    omega (arith, l .name-length .ensures, name-short _ (l .before .before .pre))
-
-returns-2 : tie.Need-returns-2
-unfolding flat
-returns-2 c =
-    let l = c .before .before .before .before in
-    let s = l .before .before in
-    c .same-folded .ensures ∙ ap (sameFolded (s .args .s .now)) (name-part _ (s .pre) _ (l .name-length .ensures))
+returns-11 : tie.Need-returns-11
+returns-11 c = let some = c .before .before .pre in absurd (omega (arith, past _ itemCount (some .0) (c .match .rest), some .1))
 
 pub is-name-spec : {M : Type 1} → statement M
+unfolding items nameOf
 is-name-spec =
     tie.close
     (tie.spec
+    (λ c. search needs)
     (λ c κs. search needs)
-    returns
     (λ c. search needs)
-    (λ c. search needs)
-    (λ c. search needs)
-    (λ c. search needs)
-    part-same-folded-end
     (λ c κs. search needs)
-    returns-2)
+    (λ c. search needs)
+    (λ c κs. search needs)
+    (λ c. search needs)
+    (λ c κs. search needs)
+    (λ c. search needs)
+    (λ c κs. search needs)
+    (λ c. search needs)
+    (λ c κs. search needs)
+    (λ c. search needs)
+    (λ c κs. search needs)
+    (λ c. search needs)
+    (λ c κs. search needs)
+    (λ c. search needs)
+    (λ c κs. search needs)
+    (λ c. search needs)
+    (λ c κs. search needs)
+    (λ c. arm (sameFolded _) (c .before .before .match .keys1) (c .same-folded .ensures))
+    (λ c. arm (sameFolded _) (c .before .before .match .keys2) (c .same-folded2 .ensures))
+    (λ c. arm (sameFolded _) (c .before .before .match .keys3) (c .same-folded3 .ensures))
+    (λ c. arm (sameFolded _) (c .before .before .match .keys4) (c .same-folded4 .ensures))
+    (λ c. arm (sameFolded _) (c .before .before .match .keys5) (c .same-folded5 .ensures))
+    (λ c. arm (sameFolded _) (c .before .before .match .keys6) (c .same-folded6 .ensures))
+    (λ c. arm (sameFolded _) (c .before .before .match .keys7) (c .same-folded7 .ensures))
+    (λ c. arm (sameFolded _) (c .before .before .match .keys8) (c .same-folded8 .ensures))
+    (λ c. arm (sameFolded _) (c .before .before .match .keys9) (c .same-folded9 .ensures))
+    (λ c. arm (sameFolded _) (c .before .before .match .keys10) (c .same-folded10 .ensures))
+    returns-11)
