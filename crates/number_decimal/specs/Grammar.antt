@@ -1,5 +1,6 @@
--- A number in document 01's words ("A line, a number"): "an optional sign, 1 to 9 digits before any bracket, an optional point with at
+-- A number in the documents' words. Document 01, "A line, a number": "an optional sign, 1 to 9 digits before any bracket, an optional point with at
 -- least one digit on each side and at most 6 after it, then optionally 1 to 4 digits of uncertainty in round brackets".
+-- Document 02, No. 4: "Numbers shall allow a point with digits on one side only".
 -- Assumes nothing.
 use Prim.Native.Nat.{ℕ, _+_, _*_, _≤_}
 use mathlib.Core.Path.{_≡_}
@@ -18,10 +19,13 @@ pub data SignText : Bool → List ℕ → Type 0 where
   plus : SignText false (43 ∷ [])
   minus : SignText true (45 ∷ [])
 
--- "an optional point with at least one digit on each side": the text, and the digits after the point
-pub data PointText : List ℕ → List ℕ → Type 0 where
-  whole : PointText [] []
-  point : (fraction : List ℕ) → 1 ≤ length fraction → PointText (46 ∷ fraction) fraction
+-- "an optional point with at least one digit on each side", and "a point with digits on one side only": the digits before it, those after it, and the
+-- text that follows the digits before it
+pub data PointText : List ℕ → List ℕ → List ℕ → Type 0 where
+  whole : (before : List ℕ) → 1 ≤ length before → PointText before [] []
+  each-side : (before fraction : List ℕ) → 1 ≤ length before → 1 ≤ length fraction → PointText before fraction (46 ∷ fraction)
+  before-only : (before : List ℕ) → 1 ≤ length before → PointText before [] (46 ∷ [])
+  after-only : (fraction : List ℕ) → 1 ≤ length fraction → PointText [] fraction (46 ∷ fraction)
 
 -- "then optionally 1 to 4 digits of uncertainty in round brackets"
 pub data UncertaintyText : List ℕ → Type 0 where
@@ -37,10 +41,9 @@ pub record IsSize (t : List ℕ) (m : ℕ) : Type 0 where
   pub text : t ≡ before ++ (pointed ++ tail)
   pub before-digits : all isDigit before ≡ true
   pub fraction-digits : all isDigit fraction ≡ true
-  pub some : 1 ≤ length before
   pub places : length fraction ≤ mostPlaces
   pub few : length before + length fraction ≤ mostDigits
-  pub is-point : PointText pointed fraction
+  pub is-point : PointText before fraction pointed
   pub is-uncertainty : UncertaintyText tail
   pub worth : m ≡ valueOf before * scaleOf 0 + valueOf fraction * scaleOf (length fraction)
 
