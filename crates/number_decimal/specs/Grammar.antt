@@ -32,8 +32,8 @@ pub data UncertaintyText : List ℕ → Type 0 where
   none : UncertaintyText []
   bracket : (u : List ℕ) → all isDigit u ≡ true → 1 ≤ length u → length u ≤ mostUncertain → UncertaintyText (40 ∷ (u ++ (41 ∷ [])))
 
--- the text after the sign, and how many millionths it is worth; the uncertainty does not count
-pub record IsSize (t : List ℕ) (m : ℕ) : Type 0 where
+-- the text after the sign, and how many millionths it is worth; the uncertainty does not count. Where its point may stand is told apart.
+pub record SizeBy (Point : List ℕ → List ℕ → List ℕ → Type 0) (t : List ℕ) (m : ℕ) : Type 0 where
   pub before : List ℕ
   pub fraction : List ℕ
   pub pointed : List ℕ
@@ -43,20 +43,26 @@ pub record IsSize (t : List ℕ) (m : ℕ) : Type 0 where
   pub fraction-digits : all isDigit fraction ≡ true
   pub places : length fraction ≤ mostPlaces
   pub few : length before + length fraction ≤ mostDigits
-  pub is-point : PointText before fraction pointed
+  pub is-point : Point before fraction pointed
   pub is-uncertainty : UncertaintyText tail
   pub worth : m ≡ valueOf before * scaleOf 0 + valueOf fraction * scaleOf (length fraction)
 
 -- a number, and the signed decimal that it denotes, in millionths
-pub record IsNumber (t : List ℕ) (z : ℤ) : Type 0 where
+pub record NumberBy (Point : List ℕ → List ℕ → List ℕ → Type 0) (t : List ℕ) (z : ℤ) : Type 0 where
   pub negative : Bool
   pub sign : List ℕ
   pub rest : List ℕ
   pub size : ℕ
   pub text : t ≡ sign ++ rest
   pub is-sign : SignText negative sign
-  pub is-size : IsSize rest size
+  pub is-size : SizeBy Point rest size
   pub worth : z ≡ cond negative (negℤ (pos size)) (pos size)
+
+abbrev pub IsSize : List ℕ → ℕ → Type 0
+IsSize = SizeBy PointText
+
+abbrev pub IsNumber : List ℕ → ℤ → Type 0
+IsNumber = NumberBy PointText
 
 -- "The reading of a number answers either the number or that there is none"
 abbrev pub ReadAs : List ℕ → Reading → Type 0

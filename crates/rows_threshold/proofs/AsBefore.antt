@@ -7,11 +7,11 @@ use Prim.Native.Nat.{ℕ}
 use native.Mathlib.Omega.{arith}
 use lib.ListN.{length}
 use lib.IntN.{pos, negℤ}
-use Rattle.number_decimal.specs.Grammar.{SignText, IsSize}
+use Rattle.number_decimal.specs.Grammar.{SignText}
 use Rattle.number_decimal.specs.Before.{NumberBefore}
-use Rattle.number_decimal.proofs.AsBefore.{point-stays}
+use Rattle.number_decimal.proofs.AsBefore.{resize, point-stays}
 use Rattle.rows_threshold.specs.Threshold.{multiplierRow, thresholdRow}
-use Rattle.rows_threshold.specs.Wording.{Expression}
+use Rattle.rows_threshold.specs.Wording.{Expression, IsMultiplier}
 use Rattle.rows_threshold.specs.declared.Multiplier.the-variants.{Times}
 use Rattle.rows_threshold.proofs.Wording.{threshold-taken}
 
@@ -21,22 +21,10 @@ size-alone m n SignText.unsigned e w = cc
 size-alone m n SignText.plus e w = let long : length {A = ℕ} (43 ∷ []) ≡ 0 = ap length e in absurd (omega arith)
 size-alone m n SignText.minus e w = let long : length {A = ℕ} (45 ∷ []) ≡ 0 = ap length e in absurd (omega arith)
 
-pub row-12-as-before : (t x : List ℕ) (alone : Bool) (m : ℕ) → Expression t alone x → (h : NumberBefore x (pos m)) → h .sign ≡ [] → h .tail ≡ []
+pub row-12-as-before : (t x : List ℕ) (alone : Bool) (m : ℕ) → Expression t alone x → (h : NumberBefore x (pos m)) → h .sign ≡ [] → h .is-size .tail ≡ []
     → thresholdRow t ≡ multiplierRow alone (Times m)
 row-12-as-before t x alone m e h unsigned certain =
-    let size : IsSize x m
-    = record {
-      before = h .before;
-      fraction = h .fraction;
-      pointed = h .pointed;
-      tail = h .tail;
-      text = h .text ∙ ap (λ (l : List ℕ). l ++ (h .before ++ (h .pointed ++ h .tail))) unsigned;
-      before-digits = h .before-digits;
-      fraction-digits = h .fraction-digits;
-      places = h .places;
-      few = h .few;
-      is-point = point-stays (h .some) (h .is-point);
-      is-uncertainty = h .is-uncertainty;
-      worth = sym (size-alone m (h .size) (h .is-sign) unsigned (h .signed)) ∙ h .worth;
-    } in
-    threshold-taken t alone m (record { x = x; expression = e; multiplier = record { is-size = size; certain = certain } })
+    let text : x ≡ h .rest = h .text ∙ ap (λ (l : List ℕ). l ++ h .rest) unsigned in
+    let worth : h .size ≡ m = size-alone m (h .size) (h .is-sign) unsigned (h .worth) in
+    let multiplier : IsMultiplier (h .rest) (h .size) = record { is-size = resize (h .is-size) (point-stays (h .is-size .is-point)); certain = certain } in
+    threshold-taken t alone m (record { x = x; expression = e; multiplier = rw (text, sym worth) multiplier })
