@@ -4,14 +4,13 @@ use mathlib.Core.Path.{_≡_, sym, ap, _∙_}
 use mathlib.Core.Bool.{Bool, true, false, cond}
 use mathlib.Core.List.{List, [], _∷_, _++_}
 use Prim.Native.Nat.{ℕ, zero, suc, _+_, _-_, _*_, _^_, _≤_, _<_}
-use native.Mathlib.Nat.{pow-succ', mul-le-mul-right, mul-lt-mul-of-pos-right, add-sub-of-le, one-le-pow}
+use native.Mathlib.Nat.{mul-lt-mul-of-pos-right, add-sub-of-le, one-le-pow}
 use native.Mathlib.Omega.{arith}
 use lib.Dec.{lit<}
 use lib.ListN.{length, length-append}
 use lib.Pow.{pow-add}
 use lib.IntN.{ℤ, pos, negℤ}
 use lib.Signed.{mag}
-use Rattle.text.specs.Run.{all, isDigit}
 use Rattle.number_decimal.specs.Digits.{mostDigits, mostPlaces, mostUncertain, mostBytes, valueOf, scaleOf}
 use Rattle.number_decimal.specs.Reading.{readingOf}
 use Rattle.number_decimal.specs.Grammar.{SignText, PointText, UncertaintyText, IsSize, IsNumber}

@@ -4,8 +4,8 @@ use native.Mathlib.Omega.{arith}
 use mathlib.Core.Path.{_≡_, refl, sym, ap, subst, _∙_}
 use mathlib.Core.Bool.{Bool, true, false, cond}
 use mathlib.Core.List.{List, _++_}
-use Prim.Native.Nat.{ℕ, _+_, _-_, _*_, _^_, _≤_, _<_}
-use native.Mathlib.Nat.{mul-le-mul-right, add-comm}
+use Prim.Native.Nat.{ℕ, _+_, _*_, _^_, _≤_, _<_}
+use native.Mathlib.Nat.{mul-le-mul-right}
 use lib.ListN.{length, take, drop, length-drop, length-append}
 use lib.Pow.{pow-add}
 use lib.Seq.{drop-drop}
@@ -13,7 +13,7 @@ use Rattle.text.specs.Run.{runOf, hasAt, isDigit}
 use Rattle.text.proofs.Parts.{rest-part}
 use Rattle.text.proofs.Runs.{run-short, run-length, run-taken, has-within, all-append}
 use Rattle.number_decimal.specs.Digits.{mostBytes, valueFrom}
-use Rattle.number_decimal.specs.Reading.{sizeOf, digitsOf, pointLength, fractionAt, unsignedOf}
+use Rattle.number_decimal.specs.Reading.{sizeOf, digitsOf, fractionAt, unsignedOf}
 use Rattle.number_decimal.proofs.Values.{ten-le, value-append, value-below}
 use borrow.Author.Needs.{needs}
 use Rattle.number_decimal.proofs.unsigned.Statement.{statement}
