@@ -50,6 +50,7 @@ fn millionths(whole: &[u8], fraction: &[u8]) -> i64 {
 #[cfg(test)]
 mod tests {
     use super::number;
+    use std::collections::HashSet;
 
     fn reads(text: &str, millionths: i64) {
         assert_eq!(number(text.as_bytes()), Some(millionths), "{text}");
@@ -89,6 +90,40 @@ mod tests {
     #[test]
     fn no_digits_beside_the_point() {
         none(&[".", "-.", "+.", ".(3)", "-.(3)", "+.(3)"]);
+    }
+
+    /// Every text up to a length over some bytes.
+    fn texts(bytes: &str, longest: usize) -> Vec<String> {
+        let longer = |texts: &Vec<String>| {
+            let longer =
+                texts.iter().flat_map(|text| bytes.chars().map(move |c| format!("{text}{c}")));
+            Some(longer.collect::<Vec<_>>())
+        };
+        let lengths = std::iter::successors(Some(vec![String::new()]), longer);
+        lengths.take(longest + 1).flatten().collect()
+    }
+
+    #[test]
+    fn exactly_the_texts_that_the_wording_makes() {
+        let digits = texts("04", 5);
+        let sizes = digits.iter().flat_map(|whole| {
+            let pointed = digits.iter().map(move |places| format!("{whole}.{places}"));
+            pointed.chain([whole.clone()]).filter(|size| size.contains(['0', '4']))
+        });
+        let numbers: HashSet<String> = sizes
+            .filter(|size| size.len() <= 5)
+            .flat_map(|size| ["", "+", "-"].map(|sign| format!("{sign}{size}")))
+            .flat_map(|plain| {
+                let uncertain = texts("04", 4).into_iter().skip(1);
+                uncertain
+                    .map(|su| format!("{plain}({su})"))
+                    .chain([plain.clone()])
+                    .collect::<Vec<_>>()
+            })
+            .collect();
+        for text in texts("04+-.()", 5) {
+            assert_eq!(number(text.as_bytes()).is_some(), numbers.contains(&text), "{text}");
+        }
     }
 
     #[test]
