@@ -2,8 +2,9 @@
 
 use super::calls::Both;
 use super::{from_seeds, hex, Comparison, Plan};
+use crate::boundary::Reported;
 use crate::desks::{in_memory, sheet};
-use crate::program::Call;
+use crate::program::{Answer, Call};
 use crate::sheet_lists;
 use crate::sheets::Sheets;
 use crate::tally::Question;
@@ -45,6 +46,7 @@ impl Comparison<'_> {
         self.sheets("weights at the bounds", sheet_lists::weights_at_bounds());
         self.sheets("numbers on sheets", sheet_lists::numbers());
         self.sheets("thresholds at the bounds", sheet_lists::thresholds_at_bounds());
+        self.sheets("short multipliers", sheet_lists::short_multipliers());
         self.sheets("texts one byte off", sheet_lists::texts_one_byte_off());
         self.sheets("mixtures of missing items", sheet_lists::missing_mixtures());
     }
@@ -85,7 +87,10 @@ impl Comparison<'_> {
         self.begin(name);
         for desk in desks {
             self.group().inputs += 1;
-            self.call(&mut Both::new(in_memory(&desk)), &Call::Report, &Told(&desk));
+            let answer = self.call(&mut Both::new(in_memory(&desk)), &Call::Report, &Told(&desk));
+            if let Some(Answer::Report(Reported { rows, .. })) = answer {
+                self.note_multiplier(value::text(values(&desk)[9]), &rows[11]);
+            }
         }
     }
 }
