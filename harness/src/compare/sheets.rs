@@ -9,6 +9,7 @@ use crate::sheet_lists;
 use crate::sheets::Sheets;
 use crate::tally::Question;
 use reference::desk::{values, Desk};
+use reference::line::ACCEPTED;
 use reference::{formula, value};
 use std::fmt::{Display, Formatter, Result};
 
@@ -88,7 +89,7 @@ impl Comparison<'_> {
         for desk in desks {
             self.group().inputs += 1;
             let answer = self.call(&mut Both::new(in_memory(&desk)), &Call::Report, &Told(&desk));
-            if let Some(Answer::Report(Reported { rows, .. })) = answer {
+            if let Some(Answer::Report(Reported { answer: ACCEPTED, rows })) = answer {
                 self.note_multiplier(value::text(values(&desk)[9]), &rows[11]);
             }
         }
