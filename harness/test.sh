@@ -148,6 +148,14 @@ grade 6|'0.3'|7 0
 grade 6||7 0
 grade 7|0.3|6 0
 grade 7|?|6 0
+grade 6|.16|0 3
+grade 6|.200001(7)|0 4
+grade 8|1.|0 4
+grade 10|-.05(3)|0 0
+grade 10|-1.(3)|0 4
+grade 6|-.|7 0
+grade 6|.(3)|7 0
+grade 6|-.(3)|7 0
 line|_refine_ls_R_factor_gt 0.16|0
 line|_refine_ls_wR_factor_obs 0.2|0
 line|_chemical_formula_sum 'C18 H19 N7 O8 S'|0
@@ -159,8 +167,18 @@ line|_refine_ls_R_factor_gt LOOP_|5
 line|_refine_ls_R_factor 0.16|6
 line|_refine_ls_R_factor_gt '?'|7
 line|_chemical_formula_weight 1234567890|7
+line|_refine_ls_R_factor_gt .045|0
+line|_chemical_formula_weight 45.|0
+line|_refine_ls_shift/su_max -.5(3)|0
+line|_chemical_formula_weight 123456789.|0
+line|_refine_ls_R_factor_gt .|0
+line|_refine_ls_R_factor_gt +.|7
+line|_refine_ls_R_factor_gt .(3)|7
+line|_chemical_formula_weight 1234567890.|7
+line|_refine_ls_R_factor_gt .1234567|7
 END
-    trace_table "trace: examples of document 01" <"$work/examples"
+    trace_table "reference's trace: examples of the documents" reference-trace <"$work/examples"
+    trace_table "trace: examples of the documents" <"$work/examples"
 }
 
 trace_malformed() {

@@ -1,7 +1,7 @@
 /*
  * The desk: four benches, one sheet of ten items, a count of accepted entries, and a log.
  *
- * Link with libexport_desk.a. The rules are those of document 01 and of document 02, No. 1.
+ * Link with libexport_desk.a. The rules are those of document 01 and of document 02, No. 1, 2 and 4.
  *
  * Memory: a desk lives in two runs that the caller lends to every call, `texts` of DESK_TEXTS bytes
  * and `numbers` of DESK_NUMBERS numbers; zeros in both are a fresh desk. Its log is a run of bytes,

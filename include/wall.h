@@ -1,7 +1,8 @@
 /*
  * The wall screen's two questions.
  *
- * Link with libexport_wall.a. The rules are those of document 01, "A line, a number" and "The twelve rows".
+ * Link with libexport_wall.a. The rules are those of document 01, "A line, a number" and "The twelve rows",
+ * and of document 02, No. 4.
  *
  * Bytes: a run of bytes is a pointer and a length. It may hold any bytes, NUL too, and needs no end
  * mark. The pointer may not be NULL, not even where the length is 0; for an empty run pass the
@@ -37,7 +38,9 @@ typedef struct {
 } wall_graded;
 
 /*
- * The grade of one typed value by one row. The first that applies:
+ * The grade of one typed value by one row. A number is a sign or none, one to nine digits with a
+ * point among, before or after them or none, at most six digits after it, and then, or not, one to
+ * four digits in round brackets. The first that applies:
  *   answer 6, level 0  the row is not 6, 8 or 10
  *   answer 7, level 0  the value is not a number (the unassigned marks ? and . too)
  *   answer 0           the level that the number earns: 0 none, 2 C, 3 B, 4 A

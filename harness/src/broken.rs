@@ -62,7 +62,7 @@ pub const WAYS: [(&str, Break); 39] = [
     }),
     ("number item without a number", |state, random| {
         let item = random.pick(&[2, 4, 5, 6, 7, 8, 9]);
-        let value = random.pick(&["x", "'1'", "1.", "1234567890"]);
+        let value = random.pick(&["x", "'1'", "-.", ".(3)", "1234567890."]);
         set(state, random, item, value.as_bytes());
     }),
     ("category item without a category", |state, random| {

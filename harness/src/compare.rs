@@ -4,12 +4,13 @@ mod calls;
 mod files;
 mod keys;
 mod memories;
+mod points;
 mod sequences;
 mod sheets;
 
 use crate::boundary::{Graded, NumberResult};
 use crate::by_reference::gathered;
-use crate::inputs::{Inputs, ROWS};
+use crate::inputs::{Inputs, ROWS, TELLING};
 use crate::lists;
 use crate::program::{Call, Program};
 use crate::tally::{Question, Tally};
@@ -200,11 +201,14 @@ impl<'a> Comparison<'a> {
         self.lines("names one byte off", lists::names_one_byte_off());
         self.values("reserved words as values", lists::reserved_words());
         self.lines("reserved words in lines", lists::in_lines(lists::reserved_words()));
+        let short_numbers = || lists::short_texts(lists::OF_NUMBERS, lists::SHORT_NUMBER);
+        self.values("short numbers", short_numbers());
+        self.lines("short numbers in lines", lists::in_lines(short_numbers()));
         self.lines(
             "short texts in lines",
-            lists::in_lines(lists::short_texts(lists::SHORT_IN_LINE)),
+            lists::in_lines(lists::short_texts(TELLING, lists::SHORT_IN_LINE)),
         );
-        self.values("short texts as values", lists::short_texts(lists::SHORT_VALUE));
+        self.values("short texts as values", lists::short_texts(TELLING, lists::SHORT_VALUE));
     }
 
     pub fn differences(&self) -> u64 {
@@ -282,6 +286,7 @@ impl<'a> Comparison<'a> {
         let name = line.split(|&byte| byte == b' ').next().unwrap_or(line);
         let item = self.same(&"probe_item", name, tested.item(name), expected.item(name));
         self.tally.note(Question::Item, item as usize);
+        self.note_line(item, &line[form.value_start as usize..], answer);
     }
 
     fn value(&mut self, value: &[u8], other_row: u64) {
@@ -289,6 +294,7 @@ impl<'a> Comparison<'a> {
         let number =
             self.same(&"probe_number", value, tested.number(value), expected.number(value));
         self.tally.note(Question::Number, number_place(number));
+        self.note_number(value, number.found != 0);
 
         let form = self.same(&"probe_value", value, tested.value(value), expected.value(value));
         self.tally.note(Question::Value, form as usize);

@@ -88,6 +88,7 @@ pub fn scripts() -> Vec<Script> {
         ("levels_b", levels_b()),
         ("levels_c", levels_c()),
         ("not_judgeable", not_judgeable()),
+        ("points_at_either_end", points_at_either_end()),
     ]
 }
 
@@ -302,6 +303,27 @@ fn levels_c() -> Vec<u8> {
 
 fn not_judgeable() -> Vec<u8> {
     sheet(&[(1, "'C10H20 Br'"), (2, "140.27"), (3, "FO"), (10, "'I > 2'")])
+}
+
+/// Numbers with a point at either end, and points without digits, which are refused.
+fn points_at_either_end() -> Vec<u8> {
+    [
+        sheet(&[
+            (1, "'C10 H20'"),
+            (2, "140."),
+            (3, "FO"),
+            (4, ".0412(7)"),
+            (6, "+.350001"),
+            (8, "-.06"),
+            (9, "1.(3)"),
+            (10, "'I > 4.\\s(I)'"),
+        ]),
+        typed(b'0', "_refine_ls_R_factor_obs -.\n5(3)\n"),
+        typed(b'1', "_refine_ls_wR_factor_obs .(3)\n\x18_refine_ls_wR_factor_obs .\n"),
+        typed(b'2', "_chemical_formula_weight 1234567890.\n\x18"),
+        typed(b'3', "_chemical_formula_weight .1234567\n"),
+    ]
+    .concat()
 }
 
 /// The block name of the sessions' files.

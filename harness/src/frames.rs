@@ -137,6 +137,9 @@ pub fn write_examples(folder: &Path) -> Result<(), String> {
     }
     frames.wall(b"0.200001", ROWS[0]);
     frames.wall(b"-0.06", ROWS[2]);
+    frames.wall(b"-.06(3)", ROWS[2]);
+    frames.wall(b"1.", ROWS[1]);
+    frames.wall(b"-.", ROWS[0]);
     frames.wall(b"_refine_ls_R_factor_gt 0.16", NO_ROW);
     frames.write(folder)
 }

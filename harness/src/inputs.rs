@@ -1,5 +1,6 @@
 //! Generated lines and values: well formed, nearly so, and random.
 
+use crate::points::writings;
 use crate::random::Random;
 use reference::grade::bounds;
 use reference::line::LIMIT;
@@ -158,7 +159,7 @@ impl Inputs {
     pub fn number_near_limits(&mut self) -> Vec<u8> {
         let total = self.random.pick(&[1, 2, 3, DIGITS - 1, DIGITS, DIGITS + 1]);
         let places = self.random.pick(&[0, 0, 1, 2, PLACES - 1, PLACES, PLACES + 1]);
-        let point = places > 0 || self.random.once_in(20);
+        let point = places > 0 || self.random.once_in(4);
         let mut number = self.sign();
         number.extend(self.digits(total.saturating_sub(places)));
         number.extend(point.then_some(b'.'));
@@ -174,9 +175,17 @@ impl Inputs {
         let unit = 10_i64.pow((PLACES - places) as u32);
         let mut number = self.sign();
         number.extend(self.random.pick(&["", "", "", "0", "00"]).bytes());
-        number.extend(decimal(bound + unit * self.random.pick(&[-1, 0, 1]), places).bytes());
+        let near = decimal(bound + unit * self.random.pick(&[-1, 0, 1]), places);
+        number.extend(self.written(&near).bytes());
         number.extend(self.uncertainty());
         number
+    }
+
+    /// A decimal, now and then with its point first or last.
+    pub fn written(&mut self, decimal: &str) -> String {
+        let all = writings(decimal);
+        let at = if self.random.once_in(4) { self.random.below(all.len()) } else { 0 };
+        all[at].clone()
     }
 
     fn sign(&mut self) -> Vec<u8> {

@@ -1,6 +1,7 @@
 //! Fixed lists of inputs: every short text, and every place next to a limit or a bound.
 
-use crate::inputs::{decimal, LONGEST, ROWS, TELLING, WORDS};
+use crate::inputs::{decimal, LONGEST, ROWS, WORDS};
+use crate::points::writings;
 use reference::grade::bounds;
 use reference::names::ITEMS;
 use reference::number::{DIGITS, PLACES, UNCERTAINTY_DIGITS};
@@ -9,23 +10,27 @@ use reference::number::{DIGITS, PLACES, UNCERTAINTY_DIGITS};
 pub const SHORT_VALUE: usize = 4;
 /// Every value up to this length in a line.
 pub const SHORT_IN_LINE: usize = 3;
+/// The bytes that numbers are made of, and a foreign one.
+pub const OF_NUMBERS: &[u8] = b"049+-.()x";
+/// Every value up to this length over those bytes, in lines too; as a multiplier of row 12.
+pub const SHORT_NUMBER: usize = 5;
+pub const SHORT_MULTIPLIER: usize = 4;
 /// Lengths that would be short ones if cut down to 16 bits.
 const LONG: [usize; 3] = [65_536, 65_536 + 40, 65_536 + 80];
 /// One name for each kind: text, number, category.
 const NAMES: [&str; 3] =
     ["_chemical_formula_sum", "_refine_ls_R_factor_gt", "_publ_requested_category"];
 
-/// Every text of telling bytes up to `longest`.
-pub fn short_texts(longest: usize) -> impl Iterator<Item = Vec<u8>> {
-    (0..=longest).flat_map(|length| {
-        (0..TELLING.len().pow(length as u32)).map(move |number| spelled(number, length))
+/// Every text of some bytes up to `longest`.
+pub fn short_texts(of: &'static [u8], longest: usize) -> impl Iterator<Item = Vec<u8>> {
+    (0..=longest).flat_map(move |length| {
+        (0..of.len().pow(length as u32)).map(move |number| spelled(of, number, length))
     })
 }
 
-/// A number written with the telling bytes as digits.
-fn spelled(number: usize, length: usize) -> Vec<u8> {
-    let base = TELLING.len();
-    let digit = |place: usize| TELLING[number / base.pow(place as u32) % base];
+/// A number written with some bytes as digits.
+fn spelled(of: &[u8], number: usize, length: usize) -> Vec<u8> {
+    let digit = |place: usize| of[number / of.len().pow(place as u32) % of.len()];
     (0..length).map(digit).collect()
 }
 
@@ -103,7 +108,9 @@ pub fn numbers_at_bounds() -> Vec<Vec<u8>> {
         for places in 1..=PLACES {
             let unit = 10_i64.pow((PLACES - places) as u32);
             for near in [bound - unit, bound, bound + unit, 2 * bound, 10 * bound] {
-                numbers.extend(signed(&decimal(near, places)));
+                for text in writings(&decimal(near, places)) {
+                    numbers.extend(signed(&text));
+                }
             }
         }
     }
@@ -121,8 +128,10 @@ fn signed(text: &str) -> impl Iterator<Item = Vec<u8>> + '_ {
 pub fn items_with_values() -> impl Iterator<Item = Vec<u8>> {
     let letters = "FCIMOfcimoX";
     let pairs = letters.chars().flat_map(|a| letters.chars().map(move |b| format!("{a}{b}")));
-    let others = ["", "?", ".", "1", "-1.5(3)", "x", "F", "FOX", " FO", "loop_", "C10 H20"];
-    let texts: Vec<String> = pairs.chain(others.map(String::from)).collect();
+    let numbers = ["1", "-1.5(3)", ".045", "45.", "-.5(3)", "45.(3)", "-.", "+.", ".(3)", "-.(3)"];
+    let others = ["", "?", ".", "x", "F", "FOX", " FO", "loop_", "C10 H20"];
+    let others = numbers.into_iter().chain(others).map(String::from);
+    let texts: Vec<String> = pairs.chain(others).collect();
     let values =
         texts.into_iter().flat_map(|text| ["", "'", "\""].map(|q| format!("{q}{text}{q}")));
     values.flat_map(|value| ITEMS.map(|(name, _)| format!("{name} {value}").into()))

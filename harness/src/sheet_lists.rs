@@ -3,7 +3,8 @@
 
 use crate::desks;
 use crate::inputs::{decimal, near};
-use crate::lists::numbers_at_bounds;
+use crate::lists::{numbers_at_bounds, short_texts, OF_NUMBERS, SHORT_MULTIPLIER};
+use crate::points::writings;
 use crate::sheets::{fits, most_places, weight_bounds, MISSING};
 use reference::desk::Desk;
 use reference::formula::{self, SYMBOLS, WEIGHTS};
@@ -128,8 +129,14 @@ pub fn weights_at_bounds() -> Vec<Desk> {
                     let weight = near(bound, places, units);
                     let sign = if weight < 0 { "-" } else { "" };
                     let category = CATEGORIES[sheets.len() % CATEGORIES.len()];
-                    let weight = format!("{sign}{}", decimal(weight, places));
-                    sheets.push(sheet(&[(1, &format!("'{text}'")), (2, &weight), (3, category)]));
+                    for size in writings(&decimal(weight, places)) {
+                        let weight = format!("{sign}{size}");
+                        sheets.push(sheet(&[
+                            (1, &format!("'{text}'")),
+                            (2, &weight),
+                            (3, category),
+                        ]));
+                    }
                 }
             }
         }
@@ -156,17 +163,29 @@ pub fn thresholds_at_bounds() -> Vec<Desk> {
             for places in 0..=PLACES {
                 for units in [-1, 0, 1] {
                     let multiplier = decimal(near(1_000_000 * bound, places, units), places);
-                    for (quote, zeros) in [("'", ""), ("\"", ""), ("'", "0")] {
-                        let text = format!(
-                            "{quote}{compared} > {zeros}{multiplier}\\s({compared}){quote}"
-                        );
-                        sheets.push(sheet(&[(10, &text)]));
+                    for multiplier in writings(&multiplier) {
+                        for (quote, zeros) in [("'", ""), ("\"", ""), ("'", "0")] {
+                            let text = format!(
+                                "{quote}{compared} > {zeros}{multiplier}\\s({compared}){quote}"
+                            );
+                            sheets.push(sheet(&[(10, &text)]));
+                        }
                     }
                 }
             }
         }
     }
     sheets
+}
+
+/// Each shape of row 12 with every short text over the bytes of numbers for x.
+pub fn short_multipliers() -> impl Iterator<Item = Desk> {
+    short_texts(OF_NUMBERS, SHORT_MULTIPLIER).flat_map(|multiplier| {
+        let multiplier = String::from_utf8(multiplier).expect("such bytes are text");
+        THRESHOLDS.map(|(compared, _)| {
+            sheet(&[(10, &format!("'{compared} > {multiplier}\\s({compared})'"))])
+        })
+    })
 }
 
 /// Texts of items 1 and 10 with one byte changed into every other byte, removed or doubled.

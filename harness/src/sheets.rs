@@ -108,7 +108,8 @@ impl Sheets {
         let places = self.random.below(most_places(bound) + 1);
         let weight = near(bound, places, self.random.pick(&[-1, 0, 0, 1]));
         let sign = if weight < 0 { "-" } else { self.random.pick(&["", "", "", "", "+", "0"]) };
-        let mut number = [sign, &decimal(weight, places)].concat().into_bytes();
+        let size = self.inputs.written(&decimal(weight, places));
+        let mut number = [sign, &size].concat().into_bytes();
         number.extend(self.inputs.uncertainty());
         number
     }
@@ -221,7 +222,11 @@ impl Sheets {
         let bound = self.random.pick(&[bounds, bounds, other_bounds]);
         let bound = 1_000_000 * self.random.pick(&bound);
         let places = self.random.below(PLACES + 1);
-        let multiplier = decimal(near(bound, places, self.random.pick(&[-1, 0, 0, 1])), places);
+        let multiplier = match self.random.below(12) {
+            0 => near(bound, places, self.random.pick(&[-1, 1])) % 1_000_000,
+            _ => near(bound, places, self.random.pick(&[-1, 0, 0, 1])),
+        };
+        let multiplier = self.inputs.written(&decimal(multiplier, places));
         let mut text = match self.random.below(16) {
             0 => format!("{compared} > {multiplier}\\s({other})"),
             1 => {

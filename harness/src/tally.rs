@@ -30,8 +30,12 @@ const WITHOUT_CARBON: &[&str] = &[
     "last, not",
 ];
 
+/// What stands around a point that lacks digits on a side: numbers where it is first or last, none
+/// where it is alone.
+const AROUND_POINT: &[&str] = &["plain", "signed", "uncertain", "both"];
+
 /// Each question with its possible answers; an answer without a name is none.
-const QUESTIONS: [(&str, &[&str]); 30] = [
+const QUESTIONS: [(&str, &[&str]); 37] = [
     ("line", &["0", "5", "6", "7"]),
     ("row 6", GRADES),
     ("row 8", GRADES),
@@ -62,6 +66,13 @@ const QUESTIONS: [(&str, &[&str]); 30] = [
     ("H, with C", WITH_CARBON),
     ("H, without C", WITHOUT_CARBON),
     ("not recognised", &["C, in order", "C, not", "no C, in order", "no C, not"]),
+    ("point first", AROUND_POINT),
+    ("point last", AROUND_POINT),
+    ("point alone", AROUND_POINT),
+    ("point, limits", &["nine digits", "ten, none", "six places", "seven, none"]),
+    ("point, line", &["first 0", "last 0", "alone 0", "alone 7"]),
+    ("point, entry", &["first", "last"]),
+    ("point, row 12", &["first 0/0", "last 0/0", "last 2/0", "last 3/0", "last 4/0", "alone 2/2"]),
 ];
 /// The most answers of a question.
 const MOST: usize = ITEMS.len() + 1;
@@ -105,6 +116,13 @@ pub enum Question {
     WithCarbon,
     WithoutCarbon,
     NotRecognised,
+    PointFirst,
+    PointLast,
+    PointAlone,
+    PointLimits,
+    PointLine,
+    PointEntry,
+    PointMultiplier,
 }
 
 const GRADED: &[(u8, u8)] = &[(0, 0), (2, 0), (3, 0), (4, 0), (2, 1)];

@@ -106,12 +106,24 @@ mod tests {
     }
 
     #[test]
+    fn points_at_either_end() {
+        level(6, ".2", 3);
+        level(6, ".200001", 4);
+        level(6, "+.1(9999)", 0);
+        level(8, "1.", 4);
+        level(8, "0.", 0);
+        level(10, "-.06", 2);
+        level(10, "-.05(3)", 0);
+        level(10, "-1.(3)", 4);
+    }
+
+    #[test]
     fn refusals() {
         for row in [0, 1, 5, 7, 9, 11, 12, 262, (1 << 32) + 6, u64::MAX] {
             assert_eq!(grade(row, b"0.3"), (6, 0));
             assert_eq!(grade(row, b"x"), (6, 0));
         }
-        for value in ["", "?", ".", "'0.3'", "x", "0.3 "] {
+        for value in ["", "?", ".", "-.", "+.", ".(3)", "-.(3)", "'0.3'", "'.3'", "x", "0.3 "] {
             assert_eq!(grade(6, value.as_bytes()), (7, 0), "{value}");
         }
     }

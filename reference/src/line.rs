@@ -63,6 +63,15 @@ mod tests {
     }
 
     #[test]
+    fn points_at_either_end() {
+        all(&["_refine_ls_R_factor_gt .0412(7)", "_chemical_formula_weight 45."], 0);
+        all(&["_refine_ls_shift/su_max -.5(3)", "_refine_ls_R_factor_gt ."], 0);
+        all(&["_refine_ls_shift/su_max -.", "_refine_ls_R_factor_gt .(3)"], 7);
+        all(&["_publ_requested_category .5", "_publ_requested_category 5."], 7);
+        all(&["_chemical_formula_sum .5", "_chemical_formula_sum -."], 0);
+    }
+
+    #[test]
     fn not_of_the_form() {
         all(&["", " ", "_", "_a", "_a ", "_a   ", "a 1", " _a 1", "_a 1 ", "_a 1 2", "_a\t1"], 5);
         all(&["_a _b", "_a 'x", "_a Data_x", "_a LOOP_", "_refine_ls_R_factor_gt"], 5);

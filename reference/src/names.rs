@@ -72,8 +72,12 @@ mod tests {
     #[test]
     fn kinds() {
         assert!(["?", ".", "''", "x", "1"].iter().all(|value| passes(1, value.as_bytes())));
-        assert!(["?", ".", "1", "-1.5(3)"].iter().all(|value| passes(2, value.as_bytes())));
-        assert!(!["'1'", "x", "''", "'?'"].iter().any(|value| passes(2, value.as_bytes())));
+        assert!(["?", ".", "1", "-1.5(3)", ".5", "45.(3)"]
+            .iter()
+            .all(|value| passes(2, value.as_bytes())));
+        assert!(!["'1'", "x", "''", "'?'", "-.", ".(3)", "'.5'"]
+            .iter()
+            .any(|value| passes(2, value.as_bytes())));
         assert!(["?", ".", "FI", "'CO'", "\"FM\""].iter().all(|value| passes(3, value.as_bytes())));
         assert!(!["fi", "F", "FIX", "''", "'?'", "' FI'"]
             .iter()

@@ -260,6 +260,12 @@ mod tests {
             ("'F > 11.99999\\s(F)'", B),
             ("'F > 12\\s(F)'", A),
             ("'F^2^ > 2\\s(F^2^)'", NONE),
+            ("'I > 4.\\s(I)'", C),
+            ("'I > 3.\\s(I)'", NONE),
+            ("'F > .5\\s(F)'", NONE),
+            ("'F > 12.\\s(F)'", A),
+            ("'F^2^ > 5.\\s(F^2^)'", B),
+            ("'F^2^ > .999999\\s(F^2^)'", NONE),
         ] {
             assert_eq!(row(12, &[(10, expression)]), (level, JUDGED), "{expression}");
         }
@@ -274,8 +280,12 @@ mod tests {
             "'I > -2\\s(I)'",
             "'I > 2(1)\\s(I)'",
             "'I > \\s(I)'",
-            "'I > .5\\s(I)'",
-            "'I > 5.\\s(I)'",
+            "'I > .\\s(I)'",
+            "'I > -.5\\s(I)'",
+            "'I > 5.(1)\\s(I)'",
+            "'I > 4..\\s(I)'",
+            "'I > .1234567\\s(I)'",
+            "'I > 1234567890.\\s(I)'",
             "'I >  2\\s(I)'",
             "'I > 2 \\s(I)'",
             "' I > 2\\s(I)'",
@@ -377,6 +387,15 @@ mod tests {
     }
 
     #[test]
+    fn weights_with_a_point_at_either_end() {
+        assert_eq!(row(4, &[(1, "H"), (2, "1.")]), (NONE, JUDGED));
+        assert_eq!(row(4, &[(1, "H"), (2, ".9072")]), (B, JUDGED));
+        assert_eq!(row(4, &[(1, "H"), (2, ".907199")]), (A, JUDGED));
+        assert_eq!(row(5, &[(1, "H"), (2, ".008"), (3, "FO")]), (NONE, JUDGED));
+        assert_eq!(row(5, &[(1, "H"), (2, ".007999"), (3, "FO")]), (C, JUDGED));
+    }
+
+    #[test]
     fn weights_below_zero() {
         assert_eq!(row(4, &[(1, "H"), (2, "-1.008")]), (A, JUDGED));
         assert_eq!(row(5, &[(1, "H"), (2, "-1.008"), (3, "FO")]), (C, JUDGED));
@@ -393,6 +412,9 @@ mod tests {
             assert_eq!(row(row_number, &[(new, "0.9"), (old, ".")]), (A, JUDGED));
             assert_eq!(row(old_row, &[(new, "0.9"), (old, ".")]), (NONE, JUDGED));
             assert_eq!(row(row_number, &[(new, "."), (old, "?")]), (C, MISSING));
+            assert_eq!(row(row_number, &[(new, "."), (old, ".9")]), (A, JUDGED));
+            assert_eq!(row(row_number, &[(new, "0."), (old, ".9")]), (NONE, JUDGED));
+            assert_eq!(row(old_row, &[(new, "0."), (old, ".9")]), (GENERAL, JUDGED));
         }
         assert_eq!(row(6, &[(5, "0.3")]), (A, JUDGED));
         assert_eq!(row(10, &[(9, "-0.06")]), (C, JUDGED));

@@ -66,7 +66,7 @@ mod tests {
     #[test]
     fn unassigned_is_bare() {
         all(&["?", "."], Some(Form::Unassigned));
-        all(&["??", "..", "?.", "-."], Some(Form::Bare));
+        all(&["??", "..", "?.", "-.", ".5", "5.", ".(3)"], Some(Form::Bare));
         all(&["'?'", "\".\""], Some(Form::Quoted));
     }
 

@@ -7,7 +7,7 @@ use lib.IntN.{pos, negsuc}
 use Rattle.text.specs.Quote.{bytes}
 use Rattle.text.specs.Run.{between, runOf, hasAt, kindAt}
 use Rattle.number_decimal.specs.Digits.{valueFrom}
-use Rattle.number_decimal.specs.Reading.{closes, isTail, sizeOf, pointedOf, unsignedOf, readingOf}
+use Rattle.number_decimal.specs.Reading.{closes, isTail, sizeOf, unsignedOf, readingOf}
 use Rattle.number_decimal.specs.declared.Reading.{Reading}
 use Rattle.number_decimal.specs.declared.Reading.the-variants.{Number, Nothing}
 
@@ -34,14 +34,29 @@ vectors =
     ("-0" reads Number (pos 0)) ∷
     ("999999999" reads Number (pos 999999999000000)) ∷
     ("1234567890" reads Nothing) ∷
-    ("1." reads Nothing) ∷
-    (".5" reads Nothing) ∷
     ("1.2345678" reads Nothing) ∷
     ("1(12345)" reads Nothing) ∷
     ("1()" reads Nothing) ∷
     ("?" reads Nothing) ∷
-    ("" reads Nothing) ∷ []
+    ("" reads Nothing) ∷
+    -- document 02, No. 4
+    (".045" reads Number (pos 45000)) ∷
+    ("45." reads Number (pos 45000000)) ∷
+    ("-.5(3)" reads Number (negsuc 499999)) ∷
+    ("45.(3)" reads Number (pos 45000000)) ∷
+    ("1." reads Number (pos 1000000)) ∷
+    (".0412(7)" reads Number (pos 41200)) ∷
+    ("+.000001" reads Number (pos 1)) ∷
+    ("-999999999.(9999)" reads Number (negsuc 999999998999999)) ∷
+    ("." reads Nothing) ∷
+    ("-." reads Nothing) ∷
+    ("+." reads Nothing) ∷
+    (".(3)" reads Nothing) ∷
+    ("-.(3)" reads Nothing) ∷
+    ("1234567890." reads Nothing) ∷
+    (".1234567" reads Nothing) ∷
+    ("1..2" reads Nothing) ∷ []
 
 pub vectors-hold : map (λ (x : Vector). readingOf (bytes (x .typed))) vectors ≡ map (λ (x : Vector). x .read) vectors
-unfolding vectors readingOf unsignedOf pointedOf sizeOf isTail closes runOf hasAt kindAt between valueFrom
+unfolding vectors readingOf unsignedOf sizeOf isTail closes runOf hasAt kindAt between valueFrom
 vectors-hold = refl

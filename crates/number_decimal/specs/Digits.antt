@@ -1,4 +1,4 @@
--- Digits, what they write, and the limits of a number (document 01, "A line, a number").
+-- Digits, what they write, and the limits of a number (document 01, "A line, a number"), which document 02, No. 4 leaves as they are.
 -- Assumes nothing.
 use Prim.Native.Nat.{ℕ, _+_, _-_, _*_, _^_}
 use mathlib.Core.List.{List, [], _∷_}
@@ -14,6 +14,10 @@ mostPlaces = 6
 -- "1 to 4 digits of uncertainty"
 abbrev pub mostUncertain : ℕ
 mostUncertain = 4
+
+-- no number is longer: a sign, the digits, a point, and the uncertainty in its brackets
+abbrev pub mostBytes : ℕ
+mostBytes = 1 + mostDigits + 1 + mostUncertain + 2
 
 -- the number that acc and then the digits write, in base ten
 unfoldable pub valueFrom : ℕ → List ℕ → ℕ

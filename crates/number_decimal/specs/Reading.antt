@@ -1,8 +1,8 @@
 -- The reading of a number by stages, as the code goes. `Agree` (proofs) shows that it is the grammar's.
 -- Assumes nothing.
-use Prim.Native.Nat.{ℕ, _+_, _*_, _<_}
+use Prim.Native.Nat.{ℕ, _+_, _*_, _^_, _<_}
 use mathlib.Core.Bool.{Bool, true, false, cond, _&&_, _||_}
-use mathlib.Core.List.{List, []}
+use mathlib.Core.List.{List, _++_}
 use lib.Dec.{leb, eqb}
 use lib.ListN.{length, getD, take, drop}
 use lib.IntN.{pos, negℤ}
@@ -27,23 +27,34 @@ closes u = leb 1 (runOf isDigit u) && (leb (runOf isDigit u) mostUncertain && (e
 unfoldable pub isTail : List ℕ → Bool
 isTail s = eqb (length s) 0 || (eqb (getD s 0 0) 40 && closes (drop 1 s))
 
--- the size of the digits before the point, those after it, and what follows, if their numbers are right
-unfoldable pub sizeOf : List ℕ → List ℕ → List ℕ → Size
-sizeOf before fraction tail =
-    cond (leb 1 (length before) && (leb (length fraction) mostPlaces && (leb (length before + length fraction) mostDigits && isTail tail)))
-    (Millionths (valueOf before * scaleOf 0 + valueOf fraction * scaleOf (length fraction)))
-    Neither
+-- the size of so many digits in all, so many of them after the point, that write v, and of what follows them, if their numbers are right
+unfoldable pub sizeOf : ℕ → ℕ → ℕ → List ℕ → Size
+sizeOf digits places v tail =
+    cond (leb 1 digits && (leb digits mostDigits && (leb places mostPlaces && isTail tail))) (Millionths (v * scaleOf places)) Neither
 
--- after the point: at least one digit, and what follows
-unfoldable pub pointedOf : List ℕ → List ℕ → Size
-pointedOf before s =
-    cond (leb 1 (runOf isDigit s)) (sizeOf before (take (runOf isDigit s) s) (drop (runOf isDigit s) s)) Neither
+-- the size of the digits before the point, those after it, and what follows: both together write a number, whose last digit is worth its place
+abbrev pub partsSize : List ℕ → List ℕ → List ℕ → Size
+partsSize before fraction tail = sizeOf (length before + length fraction) (length fraction) (valueOf (before ++ fraction)) tail
 
--- digits, and then a point with more or none
+-- the digits that a text begins with, and what follows them
+abbrev pub digitsOf : List ℕ → List ℕ
+digitsOf s = take (runOf isDigit s) s
+
+abbrev pub afterDigits : List ℕ → List ℕ
+afterDigits s = drop (runOf isDigit s) s
+
+-- the point at a place of a text is one byte long, and none is none
+abbrev pub pointLength : List ℕ → ℕ → ℕ
+pointLength s at = cond (hasAt s at 46) 1 0
+
+-- where the digits after the point begin: after those before it, and the point if there is one
+abbrev pub fractionAt : List ℕ → ℕ
+fractionAt s = runOf isDigit s + pointLength s (runOf isDigit s)
+
+-- digits or none, a point or none, digits or none, and what follows; without a point no digit follows the first ones
 unfoldable pub unsignedOf : List ℕ → Size
 unsignedOf s =
-    cond (hasAt s (runOf isDigit s) 46) (pointedOf (take (runOf isDigit s) s) (drop (runOf isDigit s + 1) s))
-    (sizeOf (take (runOf isDigit s) s) [] (drop (runOf isDigit s) s))
+    partsSize (digitsOf s) (digitsOf (drop (fractionAt s) s)) (afterDigits (drop (fractionAt s) s))
 
 -- the number of that size, below zero or not
 abbrev pub signedOf : Bool → Size → Reading
@@ -51,10 +62,11 @@ signedOf negative (Millionths m) = Number (cond negative (negℤ (pos m)) (pos m
 signedOf negative Neither = Nothing
 
 -- an optional sign, and then the rest
+abbrev pub signLength : List ℕ → ℕ
+signLength s = cond (hasAt s 0 45 || hasAt s 0 43) 1 0
+
 unfoldable pub readingOf : List ℕ → Reading
-readingOf s =
-    cond (hasAt s 0 45) (signedOf true (unsignedOf (drop 1 s)))
-    (cond (hasAt s 0 43) (signedOf false (unsignedOf (drop 1 s))) (signedOf false (unsignedOf s)))
+readingOf s = signedOf (hasAt s 0 45) (unsignedOf (drop (signLength s) s))
 
 -- a text is a number
 abbrev pub isFound : Reading → Bool
@@ -66,5 +78,5 @@ isNumber s = isFound (readingOf s)
 
 -- a size far below what an i64 holds
 abbrev pub Small : Size → Type 0
-Small (Millionths m) = m < 50000000000000000
+Small (Millionths m) = m < 10 ^ 15
 Small Neither = Unit {0}

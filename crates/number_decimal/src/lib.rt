@@ -1,11 +1,11 @@
-// Reads a number (document 01, "A line, a number") as an exact signed decimal in millionths.
-// A client cites Reading (readingOf, isNumber). That this reading is the document's wording (Grammar) is the theorem `agree` of proofs/Agree.antt.
+// Reads a number (documents 01, "A line, a number", and 02, No. 4) as an exact signed decimal in millionths.
+// A client cites Reading (readingOf, isNumber). That this reading is the documents' wording (Grammar) is the theorem `agree` of proofs/Agree.antt.
 ghost use mathlib.Core.Path.{_≡_};
-ghost use Prim.Native.Nat.{_-_, _≤_, _<_};
-ghost use lib.ListN.{length};
+ghost use Prim.Native.Nat.{_+_, _*_, _^_, _≤_, _<_};
+ghost use lib.ListN.{length, take};
 ghost use Rattle.text.specs.Run.{runOf, isDigit};
-ghost use Rattle.number_decimal.specs.Digits.{mostDigits, mostPlaces, valueOf, scaleOf};
-ghost use Rattle.number_decimal.specs.Reading.{Small, wholeOf, closes, isTail, sizeOf, pointedOf, unsignedOf, signedOf, readingOf};
+ghost use Rattle.number_decimal.specs.Digits.{mostBytes, valueFrom, scaleOf};
+ghost use Rattle.number_decimal.specs.Reading.{Small, wholeOf, closes, isTail, sizeOf, pointLength, unsignedOf, signLength, signedOf, readingOf};
 
 // What reading a number finds: the number, in millionths, or that there is none.
 pub enum Reading {
@@ -25,6 +25,12 @@ pub enum Whole {
     NoDigits,
 }
 
+// The digits that a text begins with: how many, and the number that they write.
+struct DigitRun {
+    count: usize,
+    value: u64,
+}
+
 // The limits of a number.
 const MOST_DIGITS: usize = 9;
 
@@ -32,37 +38,25 @@ const MOST_PLACES: usize = 6;
 
 const MOST_UNCERTAIN: usize = 4;
 
-// What the last of n digits after the point is worth, in millionths.
-const SCALES: [u64; 7] = [1000000, 100000, 10000, 1000, 100, 10, 1];
+// No number is longer: a sign, the digits, a point, and the uncertainty in its brackets.
+const MOST_BYTES: usize = 1 + MOST_DIGITS + 1 + MOST_UNCERTAIN + 2;
 
-// How many digits s begins with.
-fn digit_run(s: &[u8]) -> usize
-    ensures { λ r. ⌜ (r ≡ runOf isDigit (now (s .entry))) × (r ≤ length (now (s .entry))) ⌝ }
+// The digits that s begins with, and the number that they write after acc.
+fn read_run(acc: u64, s: &[u8]) -> DigitRun
+    requires { ⌜ (acc + 1) * 10 ^ length (now s) ≤ 10 ^ mostBytes ⌝ }
+    ensures { λ r. ⌜ (r .count ≡ runOf isDigit (now (s .entry))) × (r .value ≡ valueFrom acc (take (runOf isDigit (now (s .entry))) (now (s .entry)))) ⌝ }
 {
-    text::run::run_between(s, b'0', b'9')
-}
-
-fn digit_value(b: u8) -> u64
-    ensures { λ r. ⌜ (r ≡ b - 48) × (r ≤ 207) ⌝ }
-{
-    if b < b'0' {
-        return 0;
-    }
-    (b - b'0') as u64
-}
-
-// The whole number that a few digits write.
-fn digits_value(s: &[u8]) -> u64
-    requires { ⌜ length (now s) ≤ mostDigits ⌝ }
-    ensures { λ r. ⌜ (r ≡ valueOf (now (s .entry))) × (r < 23000000000) ⌝ }
-{
-    let mut acc: u64 = 0;
+    let mut value = acc;
     let mut i = 0;
     while i < s.len() {
-        acc = acc * 10 + digit_value(s[i]);
+        let b = s[i];
+        if !text::is_between(b, b'0', b'9') {
+            return DigitRun { count: i, value };
+        }
+        value = value * 10 + (b - b'0') as u64;
         i += 1;
     }
-    acc
+    DigitRun { count: i, value }
 }
 
 // The whole number that 1 to 9 digits write.
@@ -75,24 +69,33 @@ pub fn read_digits(s: &[u8]) -> Whole
     if MOST_DIGITS < s.len() {
         return Whole::NoDigits;
     }
-    if !text::all_between(s, b'0', b'9') {
+    let digits = read_run(0, s);
+    if digits.count != s.len() {
         return Whole::NoDigits;
     }
-    Whole::Worth(digits_value(s))
+    Whole::Worth(digits.value)
 }
 
+// What the last of n digits after the point is worth, in millionths.
 fn scale(n: usize) -> u64
-    requires { ⌜ n ≤ mostPlaces ⌝ }
     ensures { λ r. ⌜ (r ≡ scaleOf n) × (r ≤ 1000000) ⌝ }
 {
-    SCALES[n]
+    match n {
+        0 => 1000000,
+        1 => 100000,
+        2 => 10000,
+        3 => 1000,
+        4 => 100,
+        5 => 10,
+        _ => 1,
+    }
 }
 
 // Whether u is 1 to 4 digits, a bracket that closes, and nothing more.
 fn closes_bracket(u: &[u8]) -> bool
     ensures { λ r. ⌜ r ≡ closes (now (u .entry)) ⌝ }
 {
-    let n = digit_run(u);
+    let n = text::run::run_between(u, b'0', b'9');
     if n < 1 {
         return false;
     }
@@ -118,47 +121,48 @@ fn is_tail(s: &[u8]) -> bool
     closes_bracket(&s[1..])
 }
 
-// The size of the digits before the point, those after it, and what follows, if their numbers are right.
-fn sized(before: &[u8], fraction: &[u8], tail: &[u8]) -> Size
-    ensures { λ r. ⌜ (r ≡ sizeOf (now (before .entry)) (now (fraction .entry)) (now (tail .entry))) × Small r ⌝ }
+// The size of so many digits, so many of them after the point, that write a value, and of what follows, if their numbers are right.
+fn sized(digits: usize, places: usize, value: u64, tail: &[u8]) -> Size
+    requires { ⌜ value < 10 ^ digits ⌝ }
+    ensures { λ r. ⌜ (r ≡ sizeOf digits places value (now (tail .entry))) × Small r ⌝ }
 {
-    if before.len() < 1 {
+    if digits < 1 {
         return Size::Neither;
     }
-    if MOST_PLACES < fraction.len() {
+    if MOST_DIGITS < digits {
         return Size::Neither;
     }
-    if MOST_DIGITS < before.len() + fraction.len() {
+    if MOST_PLACES < places {
         return Size::Neither;
     }
     if !is_tail(tail) {
         return Size::Neither;
     }
-    let whole = digits_value(before) * scale(0);
-    let part = digits_value(fraction) * scale(fraction.len());
-    Size::Millionths(whole + part)
+    Size::Millionths(value * scale(places))
 }
 
-// The digits before the point are read, and s follows the point: at least one digit, and what follows.
-fn pointed(before: &[u8], s: &[u8]) -> Size
-    ensures { λ r. ⌜ (r ≡ pointedOf (now (before .entry)) (now (s .entry))) × Small r ⌝ }
+// How long the point at a place of s is: 1, or 0 where there is none.
+fn point_length(s: &[u8], at: usize) -> usize
+    ensures { λ r. ⌜ r ≡ pointLength (now (s .entry)) at ⌝ }
 {
-    let n = digit_run(s);
-    if n < 1 {
-        return Size::Neither;
-    }
-    sized(before, &s[..n], &s[n..])
+    if text::has(s, at, b'.') { 1 } else { 0 }
 }
 
-// A number with no sign.
+// A number with no sign: digits, a point, digits, each of them or none, and what follows. Without a point no digit follows the first ones.
 fn unsigned(s: &[u8]) -> Size
+    requires { ⌜ length (now s) ≤ mostBytes ⌝ }
     ensures { λ r. ⌜ (r ≡ unsignedOf (now (s .entry))) × Small r ⌝ }
 {
-    let n = digit_run(s);
-    if text::has(s, n, b'.') {
-        return pointed(&s[..n], &s[n + 1..]);
-    }
-    sized(&s[..n], &s[..0], &s[n..])
+    let before = read_run(0, s);
+    let start = before.count + point_length(s, before.count);
+    let fraction = read_run(before.value, &s[start..]);
+    let end = start + fraction.count;
+    sized(
+        before.count + fraction.count,
+        fraction.count,
+        fraction.value,
+        &s[end..],
+    )
 }
 
 // The number of that size, below zero or not.
@@ -177,15 +181,23 @@ fn with_sign(negative: bool, z: Size) -> Reading
     }
 }
 
+// How long the sign is that s begins with: 1, or 0 where there is none.
+fn sign_length(s: &[u8]) -> usize
+    ensures { λ r. ⌜ r ≡ signLength (now (s .entry)) ⌝ }
+{
+    if text::has(s, 0, b'-') {
+        return 1;
+    }
+    if text::has(s, 0, b'+') { 1 } else { 0 }
+}
+
 // The number that s is, in millionths, or that it is none.
 pub fn read_number(s: &[u8]) -> Reading
     ensures { λ r. ⌜ r ≡ readingOf (now (s .entry)) ⌝ }
 {
-    if text::has(s, 0, b'-') {
-        return with_sign(true, unsigned(&s[1..]));
+    if MOST_BYTES < s.len() {
+        return Reading::Nothing;
     }
-    if text::has(s, 0, b'+') {
-        return with_sign(false, unsigned(&s[1..]));
-    }
-    with_sign(false, unsigned(s))
+    let sign = sign_length(s);
+    with_sign(text::has(s, 0, b'-'), unsigned(&s[sign..]))
 }

@@ -1,2 +1,3 @@
 mod Shapes
 pub mod Wording
+pub mod AsBefore

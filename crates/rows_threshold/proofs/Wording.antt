@@ -20,7 +20,7 @@ use Rattle.number_decimal.specs.Reading.{readingOf}
 use Rattle.number_decimal.specs.Grammar.{SignText, PointText, UncertaintyText, IsSize, IsNumber}
 use Rattle.number_decimal.specs.declared.Reading.{Reading}
 use Rattle.number_decimal.specs.declared.Reading.the-variants.{Number, Nothing}
-use Rattle.number_decimal.proofs.Complete.{first-is-digit, number-taken}
+use Rattle.number_decimal.proofs.Complete.{first-no-sign, number-taken}
 use Rattle.number_decimal.proofs.Sound.{number-is}
 use Rattle.rows.specs.Rows.{rowOf}
 use Rattle.rows_threshold.specs.Threshold.{hasShape, insideOf, unsignedReading, multiplierOf, multiplierRow, thresholdRow}
@@ -72,10 +72,12 @@ digits-lack : (ds : List ℕ) → all isDigit ds ≡ true → all (other 41) ds 
 unfolding between
 digits-lack ds a = all-lack isDigit 41 refl ds a
 
-point-lacks : {pointed after : List ℕ} → all isDigit after ≡ true → PointText pointed after → all (other 41) pointed ≡ true
+point-lacks : {before fraction pointed : List ℕ} → all isDigit fraction ≡ true → PointText before fraction pointed → all (other 41) pointed ≡ true
 unfolding all other
-point-lacks a PointText.whole = refl
-point-lacks a (PointText.point after one) = digits-lack after a
+point-lacks a (PointText.whole before some) = refl
+point-lacks a (PointText.each-side before fraction some one) = digits-lack fraction a
+point-lacks a (PointText.before-only before some) = refl
+point-lacks a (PointText.after-only fraction one) = digits-lack fraction a
 
 -- a number without sign and uncertainty is read
 module _ {x : List ℕ} {m : ℕ} (h : IsMultiplier x m) where
@@ -92,7 +94,7 @@ module _ {x : List ℕ} {m : ℕ} (h : IsMultiplier x m) where
   multiplier-taken =
       let s = h .is-size in
       let n : IsNumber x (pos m) = record { negative = false; sign = []; rest = x; size = m; text = refl; is-sign = SignText.unsigned; is-size = s; worth = refl } in
-      simp (first-is-digit s 43 (omega arith), first-is-digit s 45 (omega arith), lacks-nowhere 41 x (length x - 1) lacks-bracket, number-taken x (pos m) n)
+      simp (first-no-sign s 43 (omega arith), first-no-sign s 45 (omega arith), lacks-nowhere 41 x (length x - 1) lacks-bracket, number-taken x (pos m) n)
 
 -- an uncertainty ends with its bracket
 ends-bracket : (y : List ℕ) → hasAt (y ++ (41 ∷ [])) (length (y ++ (41 ∷ [])) - 1) 41 ≡ true

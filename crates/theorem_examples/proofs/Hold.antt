@@ -1,11 +1,11 @@
--- The examples of document 01 marked with [P] hold: antt computes each from the definitions.
+-- The examples of document 01 marked with [P], and those of requests, hold: antt computes each from the definitions.
 -- Assumes nothing.
 use mathlib.Core.Path.{_≡_, refl}
 use mathlib.Core.List.{map}
 use Rattle.text.specs.Run.{between, other, runOf, all, hasAt, kindAt}
 use Rattle.text_equality.specs.Same.{lower, sameBy, beginsFolded}
 use Rattle.number_decimal.specs.Digits.{valueFrom}
-use Rattle.number_decimal.specs.Reading.{closes, isTail, sizeOf, pointedOf, unsignedOf, readingOf, isNumber}
+use Rattle.number_decimal.specs.Reading.{closes, isTail, sizeOf, unsignedOf, readingOf, isNumber}
 use Rattle.line_quotes.specs.Quoted.{isQuotedBy, isQuoted, textOf}
 use Rattle.line_values.specs.Value.{mayBegin, isReserved, isBare, isValue, isUnassigned}
 use Rattle.line_items.specs.Items.{items, findFrom}
@@ -33,5 +33,5 @@ use Rattle.desk_keys.specs.Key.{stored, keyStep, keyOf}
 use Rattle.theorem_examples.specs.Table.{Example, sheetWith, answerOf, examples}
 
 pub examples-hold : map (λ (e : Example). answerOf (e .asked)) examples ≡ map (λ (e : Example). e .answer) examples
-unfolding sheetWith answerOf examples between other runOf all hasAt lower sameBy beginsFolded valueFrom closes isTail sizeOf pointedOf unsignedOf readingOf isNumber mayBegin isReserved isBare isQuotedBy isQuoted isValue isUnassigned textOf items findFrom isCategory passes splitOf classOf kindAt isCount countOf termOf cut some sameSymbol placeOf symbols elementOf isElement notMetals isMetal weights weightIn weightOf allRecognised rank orderKey rising inOrder hasTerm formulaClass total sumOf bounds judgedOf gradeOf gradedOf appended erased missing row1 row2 row3 weighedOf ratioLevel row4 farApart isWeighedCategory row5 gradedRow oldNameRow hasShape multiplierOf thresholdLevel thresholdRow row12 every soundLine soundEmpty soundFilled soundItem soundLines soundSheet soundDesk soundLog fits stored keyStep keyOf
+unfolding sheetWith answerOf examples between other runOf all hasAt lower sameBy beginsFolded valueFrom closes isTail sizeOf unsignedOf readingOf isNumber mayBegin isReserved isBare isQuotedBy isQuoted isValue isUnassigned textOf items findFrom isCategory passes splitOf classOf kindAt isCount countOf termOf cut some sameSymbol placeOf symbols elementOf isElement notMetals isMetal weights weightIn weightOf allRecognised rank orderKey rising inOrder hasTerm formulaClass total sumOf bounds judgedOf gradeOf gradedOf appended erased missing row1 row2 row3 weighedOf ratioLevel row4 farApart isWeighedCategory row5 gradedRow oldNameRow hasShape multiplierOf thresholdLevel thresholdRow row12 every soundLine soundEmpty soundFilled soundItem soundLines soundSheet soundDesk soundLog fits stored keyStep keyOf
 examples-hold = refl

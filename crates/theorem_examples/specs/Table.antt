@@ -1,4 +1,5 @@
--- The examples that document 01 marks with [P], as one table ("Measured examples"), and one of its "Errors a good programmer makes here".
+-- The examples that document 01 marks with [P], as one table ("Measured examples"), with those of document 02's requests, and one of document 01's
+-- "Errors a good programmer makes here".
 -- `examples-hold`, in proofs/Hold.antt, is the one statement about it.
 -- Assumes nothing.
 use Prim.Native.Nat.{ℕ, _-_}
@@ -14,6 +15,8 @@ use Rattle.desk_state.specs.declared.sheet.Item.{Item}
 use Rattle.rows.specs.Rows.{rowOf, noRows}
 use Rattle.rows_sheet.specs.Sheet.{rowsOf}
 use Rattle.rows.specs.declared.Row.{Row}
+use Rattle.rows_levels.specs.Bounds.{gradedOf, gradedNumber, gradedLevel}
+use Rattle.rows_levels.specs.declared.Graded.{Graded}
 use Rattle.theorem_sequences.specs.Calls.{Call, key, typing, State}
 use Rattle.theorem_sequences.specs.Sequences.{stateAfter}
 
@@ -28,6 +31,8 @@ pub data Asked : Type 0 where
   sum : String → Asked
   -- a row of the report on a sheet that holds these values
   row : ℕ → List Typed → Asked
+  -- the wall screen's second question, for a row and a typed value
+  graded : ℕ → String → Asked
   -- the log after a sequence of calls, from a fresh desk
   played : List Call → Asked
 
@@ -46,10 +51,14 @@ rowNumbers r = r .level ∷ r .reason ∷ []
 abbrev pub usedBytes : State → List ℕ
 usedBytes s = take (s .used) (s .log)
 
--- what the desk's definitions answer: the sum, the level and reason of a row, the used bytes of a log of 64
+abbrev pub gradedNumbers : Graded → List ℕ
+gradedNumbers g = gradedNumber g ∷ gradedLevel g ∷ []
+
+-- what the desk's definitions answer: the sum, the level and reason of a row, the wall screen's answer and level, the used bytes of a log of 64
 unfoldable pub answerOf : Asked → List ℕ
 answerOf (sum formula) = summed (sumOf (bytes formula))
 answerOf (row n values) = rowNumbers (getD (rowsOf (record { items = sheetWith values; count = 1 }) .rows) (n - 1) (rowOf 9 9))
+answerOf (graded n value) = gradedNumbers (gradedOf n (bytes value))
 answerOf (played cs) = usedBytes (stateAfter rowsOf noRows (replicate 64 0) cs)
 
 pub record Example : Type 0 where
@@ -70,7 +79,7 @@ weighed weight = typed 1 "'C10 H20'" ∷ typed 2 weight ∷ []
 abbrev entering : String → List Call
 entering text = typing 0 (bytes text) ++ (key 0 10 ∷ [])
 
--- the table: a level is 0 none, 2 C, 3 B, 4 A, and each of these rows is judged, reason 0
+-- the table: a level is 0 none, 2 C, 3 B, 4 A, reason 0 judged, 1 missing, 2 not judgeable
 unfoldable pub examples : List Example
 examples =
     -- "'C18 H19 N7 O8 S' sums to 493451; 'C10 H20' to 140270"
@@ -92,6 +101,14 @@ examples =
     -- document 02, No. 2: "'H Br' earns B and 'Br H' none, and that [P] case changes with it"
     example (row 2 (typed 1 "'H Br'" ∷ [])) (3 ∷ 0 ∷ []) ∷
     example (row 2 (typed 1 "'Br H'" ∷ [])) (0 ∷ 0 ∷ []) ∷
+    -- document 02, No. 4, "the multiplier in row 12": x is 4 and 0.5; "the wall screen": .3 as 0.3; "a bare . stays unassigned, and -. or .(3) is no number"
+    example (row 12 (typed 10 "'I > 4.\\s(I)'" ∷ [])) (2 ∷ 0 ∷ []) ∷
+    example (row 12 (typed 10 "'F > .5\\s(F)'" ∷ [])) (0 ∷ 0 ∷ []) ∷
+    example (row 12 (typed 10 "'I > .\\s(I)'" ∷ [])) (2 ∷ 2 ∷ []) ∷
+    example (graded 6 "0.3") (0 ∷ 4 ∷ []) ∷
+    example (graded 6 ".3") (0 ∷ 4 ∷ []) ∷
+    example (graded 6 "-.") (7 ∷ 0 ∷ []) ∷
+    example (row 6 (typed 4 "." ∷ [])) (2 ∷ 1 ∷ []) ∷
     -- "'C10H20' row 1 A"
     example (row 1 (typed 1 "'C10H20'" ∷ [])) (4 ∷ 0 ∷ []) ∷
     -- "_refine_ls_R_factor_gt 0.16 from bench 0 logs 0A 00 01 00 00 04 30 2E 31 36 (hexadecimal)"

@@ -130,6 +130,9 @@ impl Comparison<'_> {
                 after.numbers[DESK_ITEMS_AT..].chunks(DESK_ITEM_NUMBERS).take(DESK_ITEMS);
             let item = items.position(|numbers| numbers[1] == after.numbers[DESK_COUNT_AT]);
             self.tally.note(Question::EntryItem, item.unwrap_or(usize::MAX));
+            if let Some(place) = item {
+                self.note_entry(after, place + 1);
+            }
         }
     }
 }

@@ -2,12 +2,14 @@
 
 use super::calls::Both;
 use super::{from_seeds, hex, Comparison, Plan};
+use crate::boundary::Reported;
 use crate::desks::{in_memory, sheet};
-use crate::program::Call;
+use crate::program::{Answer, Call};
 use crate::sheet_lists;
 use crate::sheets::Sheets;
 use crate::tally::Question;
 use reference::desk::{values, Desk};
+use reference::line::ACCEPTED;
 use reference::{formula, value};
 use std::fmt::{Display, Formatter, Result};
 
@@ -45,6 +47,7 @@ impl Comparison<'_> {
         self.sheets("weights at the bounds", sheet_lists::weights_at_bounds());
         self.sheets("numbers on sheets", sheet_lists::numbers());
         self.sheets("thresholds at the bounds", sheet_lists::thresholds_at_bounds());
+        self.sheets("short multipliers", sheet_lists::short_multipliers());
         self.sheets("texts one byte off", sheet_lists::texts_one_byte_off());
         self.sheets("mixtures of missing items", sheet_lists::missing_mixtures());
     }
@@ -85,7 +88,10 @@ impl Comparison<'_> {
         self.begin(name);
         for desk in desks {
             self.group().inputs += 1;
-            self.call(&mut Both::new(in_memory(&desk)), &Call::Report, &Told(&desk));
+            let answer = self.call(&mut Both::new(in_memory(&desk)), &Call::Report, &Told(&desk));
+            if let Some(Answer::Report(Reported { answer: ACCEPTED, rows })) = answer {
+                self.note_multiplier(value::text(values(&desk)[9]), &rows[11]);
+            }
         }
     }
 }

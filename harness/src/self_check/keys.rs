@@ -4,16 +4,18 @@ use super::{change, Wrong};
 use crate::boundary::{Memory, DESK_COUNT_AT, DESK_TEXTS, DESK_USED_AT};
 use crate::by_reference::Reference;
 use crate::memory::held;
+use crate::points::Pointed;
 use crate::program::Program;
 use reference::desk::{
     Item, Line, BENCHES, ENTER, ERASE, LINE_FULL, NOT_SOUND, NO_SUCH_BENCH, NO_SUCH_KEY,
     RECORD_HEAD,
 };
-use reference::line::ACCEPTED;
+use reference::line::{split, ACCEPTED, WRONG_KIND};
+use reference::names::{item, Kind, ITEMS};
 use reference::value;
 use std::cell::Cell;
 
-pub const FAULTS: [(&str, Wrong); 17] = [
+pub const FAULTS: [(&str, Wrong); 18] = [
     ("a fresh desk keeps its lines", Wrong::Fresh(lines_kept)),
     ("fresh takes longer memory", Wrong::Fresh(longer_taken)),
     ("one shared line", Wrong::Key(shared_line)),
@@ -34,6 +36,7 @@ pub const FAULTS: [(&str, Wrong); 17] = [
     ("the key is looked at before soundness", Wrong::Key(key_first)),
     ("six times the count is cut to 64 bits", Wrong::Key(cut_product)),
     ("memory one byte short is taken", Wrong::Key(short_taken)),
+    ("Enter wants a digit on each side of the point", Wrong::Key(digit_on_each_side)),
 ];
 
 fn lines_kept(memory: &mut Memory) -> u8 {
@@ -199,5 +202,23 @@ fn short_taken(memory: &mut Memory, bench: u64, byte: u8) -> u8 {
     memory.texts = [&memory.texts[..], &[0]].concat().into();
     let answer = Reference.key(memory, bench, byte);
     memory.texts = memory.texts[..DESK_TEXTS - 1].into();
+    answer
+}
+
+fn digit_on_each_side(memory: &mut Memory, bench: u64, byte: u8) -> u8 {
+    let before = memory.clone();
+    let answer = Reference.key(memory, bench, byte);
+    let held = held(&before).filter(|_| byte == ENTER && answer == ACCEPTED);
+    let line = held.map(|(desk, _)| desk.lines[bench as usize]);
+    let Some((name, value)) =
+        line.as_ref().and_then(|line| split(&line.bytes[..line.len as usize]))
+    else {
+        return answer;
+    };
+    let number = item(name).is_some_and(|item| ITEMS[item - 1].1 == Kind::Number);
+    if number && value.len() > 1 && Pointed::read(value).is_some() {
+        *memory = before;
+        return WRONG_KIND;
+    }
     answer
 }

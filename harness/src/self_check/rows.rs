@@ -5,6 +5,7 @@ use crate::boundary::{Memory, Reported, Row};
 use crate::by_reference::Reference;
 use crate::desks::{in_memory, sheet};
 use crate::memory::held;
+use crate::points::{multiplier, Pointed, Side};
 use crate::program::Program;
 use reference::desk::values;
 use reference::formula::{self, symbols};
@@ -13,7 +14,7 @@ use reference::number::number;
 use reference::rows::{Values, RATIO_BOUNDS};
 use reference::value::{form, text, Form};
 
-pub const FAULTS: [(&str, Wrong); 8] = [
+pub const FAULTS: [(&str, Wrong); 10] = [
     ("RW is rounded to hundredths", Wrong::Report(|memory| by_ratio(memory, rounded))),
     ("RW is a quotient of 32-bit floats", Wrong::Report(|memory| by_ratio(memory, float))),
     ("F is matched before F^2^", Wrong::Report(|memory| changed(memory, f_first))),
@@ -22,6 +23,8 @@ pub const FAULTS: [(&str, Wrong); 8] = [
     ("two spaces count as one", Wrong::Report(|memory| of_others(memory, two_spaces))),
     ("plain ASCII order", Wrong::Report(|memory| changed(memory, ascii_order))),
     ("not judgeable before missing", Wrong::Report(|memory| changed(memory, not_judgeable_first))),
+    ("row 12 wants a digit on each side", Wrong::Report(|memory| changed(memory, on_each_side))),
+    ("row 12 judges a point alone as zero", Wrong::Report(|memory| changed(memory, point_alone))),
 ];
 
 /// The right rows of a sound desk, changed.
@@ -70,6 +73,24 @@ fn f_first(values: &Values, right: &mut Reported) {
     let row = &mut right.rows[11];
     if text(values[9]).starts_with(b"F^2^ > ") && row.reason == 0 {
         row.level = 0;
+    }
+}
+
+/// Whether row 12's multiplier has a point on this side.
+fn has_point(values: &Values, on: fn(Side) -> bool) -> bool {
+    let pointed = multiplier(text(values[9])).and_then(Pointed::read);
+    pointed.is_some_and(|pointed| on(pointed.side))
+}
+
+fn on_each_side(values: &Values, right: &mut Reported) {
+    if has_point(values, |side| side != Side::Alone) && right.rows[11].reason == 0 {
+        right.rows[11] = Row { level: 2, reason: 2 };
+    }
+}
+
+fn point_alone(values: &Values, right: &mut Reported) {
+    if has_point(values, |side| side == Side::Alone) && right.rows[11].reason == 2 {
+        right.rows[11] = Row { level: 0, reason: 0 };
     }
 }
 

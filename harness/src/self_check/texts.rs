@@ -3,14 +3,15 @@
 use super::Wrong;
 use crate::boundary::{Graded, NumberResult};
 use crate::by_reference::Reference;
+use crate::points::{Pointed, Side};
 use crate::program::Program;
 use reference::grade;
-use reference::line::{self, NO_SUCH_NAME};
-use reference::names::{item, ITEMS};
-use reference::number::{number, DIGITS};
+use reference::line::{self, ACCEPTED, NO_SUCH_NAME, WRONG_KIND};
+use reference::names::{item, Kind, ITEMS};
+use reference::number::{number, DIGITS, PLACES};
 use reference::value;
 
-pub const FAULTS: [(&str, Wrong); 11] = [
+pub const FAULTS: [(&str, Wrong); 18] = [
     (
         "spaces at the end are passed over",
         Wrong::Classify(|line| line::classify(line.trim_ascii_end())),
@@ -25,6 +26,13 @@ pub const FAULTS: [(&str, Wrong); 11] = [
     ("names are folded by one bit", Wrong::Item(folded_by_one_bit)),
     ("the case of a name tells", Wrong::Item(|name| first_item(|known| known == name))),
     ("a name is found by its beginning", Wrong::Item(found_by_beginning)),
+    ("a number wants a digit on each side", Wrong::Number(digit_on_each_side)),
+    ("a point alone is zero", Wrong::Number(point_alone)),
+    ("a last point is one of nine digits", Wrong::Number(point_counted)),
+    ("seven places after a first point", Wrong::Number(seven_places)),
+    ("a level wants a digit on each side", Wrong::Grade(graded_on_each_side)),
+    ("a line's number wants a digit on each side", Wrong::Classify(line_on_each_side)),
+    ("a bare point in a line is no number", Wrong::Classify(bare_point)),
 ];
 
 fn name_first(line: &[u8]) -> u8 {
@@ -61,6 +69,76 @@ fn digits_on_each_side(text: &[u8]) -> NumberResult {
         NumberResult { found: 0, .. } if many => Reference.number(&text[point - 3..]),
         right => right,
     }
+}
+
+const NO_NUMBER: NumberResult = NumberResult { millionths: 0, found: 0 };
+
+/// Whether the text is a number for its point at an end alone.
+fn is_pointed(text: &[u8]) -> bool {
+    Pointed::read(text).is_some_and(|pointed| pointed.side != Side::Alone)
+}
+
+fn digit_on_each_side(text: &[u8]) -> NumberResult {
+    if is_pointed(text) {
+        NO_NUMBER
+    } else {
+        Reference.number(text)
+    }
+}
+
+fn point_alone(text: &[u8]) -> NumberResult {
+    match Pointed::read(text) {
+        Some(Pointed { side: Side::Alone, .. }) if text.len() > 1 => {
+            NumberResult { millionths: 0, found: 1 }
+        }
+        _ => Reference.number(text),
+    }
+}
+
+fn point_counted(text: &[u8]) -> NumberResult {
+    match Pointed::read(text) {
+        Some(Pointed { side: Side::Last, digits: DIGITS, .. }) => NO_NUMBER,
+        _ => Reference.number(text),
+    }
+}
+
+/// The seventh place is left out.
+fn seven_places(text: &[u8]) -> NumberResult {
+    let point = text.iter().position(|&byte| byte == b'.').unwrap_or(0);
+    match Pointed::read(text) {
+        Some(Pointed { side: Side::First, digits, .. }) if digits == PLACES + 1 => {
+            let seventh = point + PLACES + 1;
+            Reference.number(&[&text[..seventh], &text[seventh + 1..]].concat())
+        }
+        _ => Reference.number(text),
+    }
+}
+
+fn graded_on_each_side(row: u64, value: &[u8]) -> Graded {
+    match Reference.grade(row, value) {
+        Graded { answer: 0, .. } if is_pointed(value) => Graded { answer: WRONG_KIND, level: 0 },
+        right => right,
+    }
+}
+
+/// A number item's line with such a value, where the right program accepts it.
+fn refused_value(line: &[u8], refused: fn(&[u8]) -> bool) -> u8 {
+    match (line::classify(line), line::split(line)) {
+        (ACCEPTED, Some((name, value))) if is_number_item(name) && refused(value) => WRONG_KIND,
+        (right, _) => right,
+    }
+}
+
+fn is_number_item(name: &[u8]) -> bool {
+    item(name).is_some_and(|item| ITEMS[item - 1].1 == Kind::Number)
+}
+
+fn line_on_each_side(line: &[u8]) -> u8 {
+    refused_value(line, is_pointed)
+}
+
+fn bare_point(line: &[u8]) -> u8 {
+    refused_value(line, |value| value == b".")
 }
 
 fn sign_lost(text: &[u8]) -> NumberResult {
