@@ -15,9 +15,11 @@ mod desks;
 mod exact;
 mod files;
 mod frames;
+mod groups;
 mod inputs;
 mod lists;
 pub mod memory;
+mod operators;
 pub mod program;
 pub mod proved;
 mod random;
@@ -46,7 +48,8 @@ use workloads::Side;
 const USAGE: &str = "usage: harness MODE
   compare [--seed N] [--count N]  compare both programs on N lines and N values (default 1000000),
                                   half from a fixed seed and half from a new one or the one given,
-                                  and on sheets, key calls, sequences and files in proportion
+                                  and on sheets, key calls, sequences, files and operators
+                                  in proportion
   memory [--seed N] [--count N]   the same on generated inputs and short lists, each run of bytes lent in a
                                   block of the heap of its exact length: for a run under valgrind
   self-check                      show that the comparison finds faulty programs
@@ -56,7 +59,7 @@ const USAGE: &str = "usage: harness MODE
   workloads                       the names of what is measured
   count WORKLOAD PROGRAM INPUTS   one round of a workload by one program, proved or reference, in the
                                   function counted_round; prints the number of inputs
-  layout                          sizes and offsets of the boundary's structs, and the numbers of desk.h
+  layout                          sizes and offsets of the boundary's structs, and the headers' numbers
   desk-sessions FOLDER            write the sessions of the programs desk and camp cif, NAME.in, and
                                   what they must print for each, NAME.out and NAME.cif
   desk-runs PROGRAM SEED COUNT    run the program desk on generated inputs

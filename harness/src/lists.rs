@@ -17,15 +17,20 @@ const NAMES: [&str; 3] =
 
 /// Every text of telling bytes up to `longest`.
 pub fn short_texts(longest: usize) -> impl Iterator<Item = Vec<u8>> {
-    (0..=longest).flat_map(|length| {
-        (0..TELLING.len().pow(length as u32)).map(move |number| spelled(number, length))
+    texts_of(TELLING, longest)
+}
+
+/// Every text of these bytes up to `longest`.
+pub fn texts_of(bytes: &'static [u8], longest: usize) -> impl Iterator<Item = Vec<u8>> {
+    (0..=longest).flat_map(move |length| {
+        (0..bytes.len().pow(length as u32)).map(move |number| spelled(bytes, number, length))
     })
 }
 
-/// A number written with the telling bytes as digits.
-fn spelled(number: usize, length: usize) -> Vec<u8> {
-    let base = TELLING.len();
-    let digit = |place: usize| TELLING[number / base.pow(place as u32) % base];
+/// A number written with these bytes as digits.
+fn spelled(bytes: &[u8], number: usize, length: usize) -> Vec<u8> {
+    let base = bytes.len();
+    let digit = |place: usize| bytes[number / base.pow(place as u32) % base];
     (0..length).map(digit).collect()
 }
 
