@@ -35,12 +35,16 @@ pub fn check(numbers: &[i8]) -> (u8, u64) {
         return (EQUAL_ROWS, 0);
     }
     // "Pairs run by first row, then second"
-    let pairs = rows.iter().flat_map(|first| rows.iter().map(move |second| (first, second)));
-    let mut products = pairs.map(|(first, second)| product(first, second));
-    match products.position(|product| !list.contains(&product)) {
-        Some(before) => (NO_PRODUCT, before as u64 + 1),
-        None => (TAKEN, (rows.len() * rows.len()) as u64),
+    let mut pairs = 0;
+    for first in rows {
+        for second in rows {
+            pairs += 1;
+            if !list.contains(&product(first, second)) {
+                return (NO_PRODUCT, pairs);
+            }
+        }
     }
+    (TAKEN, pairs)
 }
 
 /// "rows of whole numbers: nine factors from −1 to 1 .. and three translations in 24ths, 0 to 23";

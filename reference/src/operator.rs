@@ -7,20 +7,20 @@ pub const TAKEN: u8 = 0;
 /// "three parts"
 pub const PARTS: usize = 3;
 /// "nine factors from −1 to 1 (part by part, each x, y, z)"
-pub const FACTORS: usize = PARTS * LETTERS.len();
+pub const FACTORS: usize = PARTS * AXES.len();
 /// The factors "and three translations"
 pub const NUMBERS: usize = FACTORS + PARTS;
 /// "in 24ths": those of 1
 pub const WHOLE: i8 = 24;
 
-const LETTERS: [u8; 3] = [b'x', b'y', b'z'];
+const AXES: [u8; 3] = [b'x', b'y', b'z'];
 const DENOMINATORS: [u8; 5] = [b'2', b'3', b'4', b'6', b'8'];
 
 /// An operator's numbers.
 pub type Row = [i8; NUMBERS];
 
 /// The factors of x, y and z in a part, and its translation.
-type Part = ([i8; LETTERS.len()], i8);
+type Part = ([i8; AXES.len()], i8);
 
 /// "Reading a text gives its row, or 13 and twelve zeros."
 pub fn read(text: &[u8]) -> (u8, Row) {
@@ -35,7 +35,7 @@ fn row(text: &[u8]) -> Option<Row> {
     let mut row = [0; NUMBERS];
     let (factors, translations) = row.split_at_mut(FACTORS);
     let mut parts = text.split(|&byte| byte == b',');
-    for (factors, translation) in factors.chunks_mut(LETTERS.len()).zip(translations) {
+    for (factors, translation) in factors.chunks_mut(AXES.len()).zip(translations) {
         let (own, fraction) = part(parts.next()?)?;
         factors.copy_from_slice(&own);
         *translation = fraction;
@@ -61,10 +61,10 @@ fn part(text: &[u8]) -> Option<Part> {
 }
 
 /// The sum, also without its first plus: then it has an odd number of bytes.
-fn first_plus_may_be_missing(terms: &[u8]) -> Option<[i8; LETTERS.len()]> {
+fn first_plus_may_be_missing(terms: &[u8]) -> Option<[i8; AXES.len()]> {
     match terms {
         [letter, signed @ ..] if signed.len() % 2 == 0 => {
-            let mut factors = [0; LETTERS.len()];
+            let mut factors = [0; AXES.len()];
             factors[place(*letter)?] = 1;
             added(factors, signed)
         }
@@ -73,15 +73,15 @@ fn first_plus_may_be_missing(terms: &[u8]) -> Option<[i8; LETTERS.len()]> {
 }
 
 /// "one or more signed x, y, z"
-fn sum(terms: &[u8]) -> Option<[i8; LETTERS.len()]> {
+fn sum(terms: &[u8]) -> Option<[i8; AXES.len()]> {
     if terms.is_empty() {
         return None;
     }
-    added([0; LETTERS.len()], terms)
+    added([0; AXES.len()], terms)
 }
 
 /// Signed letters beside those that were there: "each letter at most once".
-fn added(mut factors: [i8; LETTERS.len()], terms: &[u8]) -> Option<[i8; LETTERS.len()]> {
+fn added(mut factors: [i8; AXES.len()], terms: &[u8]) -> Option<[i8; AXES.len()]> {
     for term in terms.chunks(2) {
         let [sign, letter] = term else {
             return None;
@@ -96,7 +96,7 @@ fn added(mut factors: [i8; LETTERS.len()], terms: &[u8]) -> Option<[i8; LETTERS.
 }
 
 fn place(letter: u8) -> Option<usize> {
-    LETTERS.iter().position(|&known| known == letter)
+    AXES.iter().position(|&known| known == letter)
 }
 
 fn sign_of(byte: u8) -> Option<i8> {

@@ -9,7 +9,7 @@ use reference::group::{determinant, IDENTITY, MOST, NO_PRODUCT};
 use reference::operator::{Row, FACTORS, NOT_READ, NUMBERS, TAKEN, WHOLE};
 use std::hint::black_box;
 
-/// One text with each fault for each fifty lines, one list for each hundred.
+/// One text with each fault for each fifty lines, three lists for each hundred.
 const FAULTS_ONE_IN: u64 = 50;
 const LISTS_ONE_IN: u64 = 100;
 /// The values of fractions, in 24ths.
@@ -64,15 +64,11 @@ impl Comparison<'_> {
         self.begin(name);
         let mut source = Groups::new(seed);
         for number in 0..count {
-            self.group().inputs += 1;
-            match number % 4 {
-                0 => self.check(&source.group()),
-                1 => self.check(&source.list()),
-                _ => {
-                    let damage = (number / 4 * 2 + number % 2) as usize % DAMAGES.len();
-                    self.tally.note_damage(damage);
-                    self.check(&source.damaged(damage));
-                }
+            let damage = number as usize % DAMAGES.len();
+            self.tally.note_damage(damage);
+            for list in [source.group(), source.damaged(damage), source.list()] {
+                self.group().inputs += 1;
+                self.check(&list);
             }
         }
     }
