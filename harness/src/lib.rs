@@ -6,6 +6,7 @@ mod bench;
 pub mod boundary;
 mod broken;
 mod by_reference;
+mod camp_symmetry;
 mod cif_files;
 mod client;
 pub mod compare;
@@ -36,6 +37,7 @@ use by_reference::Reference;
 use compare::Plan;
 use exact::Exact;
 use inputs::Inputs;
+use operators::Operators;
 use program::Program;
 use proved::Proved;
 use reference::program::{cif_program, program};
@@ -74,7 +76,10 @@ const USAGE: &str = "usage: harness MODE
   trace-commands SEED COUNT       write generated trace commands
   client-lines SEED COUNT         write generated lines
   client-values SEED COUNT        write generated values
+  operator-lines SEED COUNT       write generated texts of symmetry operators, whole and damaged
   desk-answers, cif-answers BLOCK what desk and camp cif must print for the input
+  operator-answers FILE           what camp symmetry must print for the input where some line is no
+                                  operator; FILE is the input's name in its messages
   client-answers [ROW]            what the client must print for the input
 ";
 const FIXED_SEED: u64 = 20_000_609;
@@ -160,6 +165,14 @@ fn run(words: &[&str]) -> Outcome {
         ["client-values", seed, count] => {
             let mut inputs = Inputs::new(number(2, seed)?);
             write((0..number(3, count)?).map(|_| inputs.value()), output)
+        }
+        ["operator-lines", seed, count] => {
+            let mut source = Operators::new(number(2, seed)?);
+            write((0..number(3, count)?).map(|_| source.line()), output)
+        }
+        ["operator-answers", file] => {
+            let told = camp_symmetry::answers(file, &whole_input()?);
+            done(output.write_all(told.as_bytes()).and_then(|()| output.flush()))
         }
         ["desk-answers"] => {
             let input = whole_input()?;

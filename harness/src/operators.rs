@@ -98,6 +98,20 @@ impl Operators {
         text
     }
 
+    /// A text that may be a line of a file.
+    pub fn line(&mut self) -> Vec<u8> {
+        loop {
+            let text = self.text();
+            if !text.is_empty()
+                && !text.starts_with(b"#")
+                && !text.contains(&b'\n')
+                && !text.ends_with(b"\r")
+            {
+                return text;
+            }
+        }
+    }
+
     /// An operator's text.
     pub fn operator(&mut self) -> Vec<u8> {
         [self.part(), self.part(), self.part()].join(",").into()
@@ -176,6 +190,11 @@ impl Operators {
 
 /// Every part of the document's, as each of the three.
 pub fn every_part() -> impl Iterator<Item = Vec<u8>> {
+    parts().into_iter().flat_map(|part| in_each_place(part.as_bytes()))
+}
+
+/// Every part of the document's.
+pub fn parts() -> Vec<String> {
     let sums = signed_sums();
     let fractions: Vec<String> = DENOMINATORS
         .iter()
@@ -191,7 +210,7 @@ pub fn every_part() -> impl Iterator<Item = Vec<u8>> {
     }
     let bare: Vec<String> =
         parts.iter().filter_map(|part| part.strip_prefix('+').map(String::from)).collect();
-    parts.into_iter().chain(bare).flat_map(|part| in_each_place(part.as_bytes()))
+    parts.into_iter().chain(bare).collect()
 }
 
 /// One to three signed letters, in every order.
