@@ -200,11 +200,16 @@ static void tell_no_identity(const char *file, const operators *list)
     puts(list->count == 0 ? ": there is no operator" : "");
 }
 
-/* 'camp: FILE: lines 3 and 7: NUMBER, MEANING: ', of two operators. */
+/* 'camp: FILE: lines 3 and 7: NUMBER, MEANING: ', of two operators, or of one with itself. */
 static void about_two(const char *file, const operators *list, size_t a, size_t b, unsigned answer)
 {
-    about(stdout, file);
-    printf("lines %zu and %zu: ", list->lines[a].number, list->lines[b].number);
+    if (a == b) {
+        about_line(file, &list->lines[a]);
+    } else {
+        about(stdout, file);
+        printf("lines %zu and %zu", list->lines[a].number, list->lines[b].number);
+    }
+    fputs(": ", stdout);
     show_refusal(stdout, answer);
     fputs(": ", stdout);
 }
@@ -235,7 +240,10 @@ static void tell_product(const char *file, const operators *list, uint64_t pair)
     fputs("that of ", stdout);
     show_line(&list->lines[first]);
     fputs(" applied after ", stdout);
-    show_line(&list->lines[second]);
+    if (first == second)
+        fputs("itself", stdout);
+    else
+        show_line(&list->lines[second]);
     putchar('\n');
 }
 
