@@ -211,6 +211,11 @@ stops() {
     finds "$1" 1 "line 1, column $3: 13, not an operator: $4" "$2"
 }
 
+# blocks PAGE NUMBER: that indented block of a page.
+blocks() {
+    awk -v number="$2" '/^    / { if (!on) count++; on = 1; if (count == number) print substr($0, 5); next } { on = 0 }' "$1"
+}
+
 symmetry() {
     local name product='17, a product is missing: that of'
     finds "the identity" 0 'a group of 1 operator' x,y,z
@@ -267,6 +272,12 @@ symmetry() {
     head -n 194 "$work/many" >"$work/193"
     runs "camp symmetry: 193 operators" 1 "camp: $work/193: line 194: 13, a list has at most 192 operators, and this one has 193"$'\n' '' "$camp" symmetry "$work/193"
     runs "camp symmetry: 192 operators" 1 $'191\n' '' bash -o pipefail -c 'head -n 193 "$2" | "$1" symmetry | grep -c "^camp: standard input: lines 2 and [0-9]*: 16, "' - "$camp" "$work/many"
+    # The guide: its first block is the file, whole and without its last line.
+    blocks docs/guide/symmetry.md 1 >"$work/operators"
+    blocks docs/guide/symmetry.md 3 >"$work/want"
+    blocks docs/guide/symmetry.md 4 >>"$work/want"
+    (cd "$work" && "$camp" symmetry operators && sed -i '$d' operators && "$camp" symmetry operators) >"$work/out"
+    same "camp symmetry: the guide's example is true" "$work/want" "$work/out"
     for name in 17 18; do
         "$harness" operator-lines $name 3000 >"$work/texts"
         "$harness" operator-answers "$work/texts" <"$work/texts" >"$work/want"

@@ -49,13 +49,14 @@ uint8_t ask(uint8_t *texts, size_t *numbers, uint8_t *log)
     fi
 }
 
-# The program in docs/LINKING.md prints what stands below it.
+# linking HEADING LIBRARY: the program below that heading of docs/LINKING.md prints what stands below it.
 linking() {
-    local archive=${PROVED_LIBS:-target/staticlib}/libexport_desk.a
-    awk '/^    #include/ { on = 1 } /^[^ ]/ { on = 0 } on' docs/LINKING.md | sed 's/^    //' >"$work/linking.c"
-    awk '/^It prints/ { on = 1; next } on && /^[^ ]/ { exit } on && NF' docs/LINKING.md | sed 's/^    //' >"$work/linking.out"
-    compiles "LINKING: the program without warnings" gcc -std=c11 -O2 "${warnings[@]}" -Iinclude "$work/linking.c" "$archive" -o "$work/linking"
-    prints "LINKING: the program prints what is told" "$work/linking.out" /dev/null "$work/linking"
+    local archive=${PROVED_LIBS:-target/staticlib}/lib$2.a
+    awk -v heading="## $1" '/^## / { on = $0 == heading } on' docs/LINKING.md >"$work/section"
+    awk '/^    #include/ { on = 1 } /^[^ ]/ { on = 0 } on' "$work/section" | sed 's/^    //' >"$work/linking.c"
+    awk '/^It prints/ { on = 1; next } on && /^[^ ]/ { exit } on && NF' "$work/section" | sed 's/^    //' >"$work/linking.out"
+    compiles "LINKING, $1: the program without warnings" gcc -std=c11 -O2 "${warnings[@]}" -Iinclude "$work/linking.c" "$archive" -o "$work/linking"
+    prints "LINKING, $1: the program prints what is told" "$work/linking.out" /dev/null "$work/linking"
 }
 
 # The sizes and offsets of the boundary's structs and the headers' numbers, as the harness has them, are C's.
@@ -420,7 +421,8 @@ comparison() {
 }
 
 headers
-linking
+linking "The desk" export_desk
+linking "Symmetry operators" export_symmetry
 layout
 runs "client: sample" 0 "$(cat client/sample.out)"$'\n' '' "$client" <client/sample.txt
 client_arguments
