@@ -261,11 +261,12 @@ symmetry() {
     finds "equal operators" 1 $'lines 2 and 5: 16, the same operator twice: `-x,y-1/2,-z` and `-x,1/2+y,-z`\nlines 1 and 6: 16, the same operator twice: `x,y,z` and `+x,+y,+z`' \
         x,y,z -x,y-1/2,-z '# again' -x,-y,-z -x,1/2+y,-z +x,+y,+z
     finds "one three times" 1 $'lines 1 and 2: 16, the same operator twice: `x,y,z` and `x,y,z`\nlines 1 and 3: 16, the same operator twice: `x,y,z` and `x,y,z`' x,y,z x,y,z x,y,z
-    finds "the first pair has no product" 1 "line 1: $product \`-y,x,z\` applied after itself" -y,x,z x,y,z
-    finds "the last pair has no product" 1 "line 4: $product \`-x,y,z+1/4\` applied after itself" '' x,y,z '' -x,y,z+1/4
+    finds "the first pair has no product" 1 "line 1: $product \`-y,x,z\` applied after itself, which is \`-x,-y,z\`" -y,x,z x,y,z
+    finds "the last pair has no product" 1 "line 4: $product \`-x,y,z+1/4\` applied after itself, which is \`x,y,z+1/2\`" '' x,y,z '' -x,y,z+1/4
+    finds "a product without a text" 1 "lines 2 and 3: $product \`x+1/3,y,z\` applied after \`x+1/8,y,z\`" x,y,z x+1/3,y,z x+1/8,y,z x+2/3,y,z
     finds "a factor of 2" 1 "line 2: $product \`x+y,y,z\` applied after itself" x,y,z x+y,y,z
-    finds "a pair between" 1 "lines 2 and 4: $product \`z,x,y\` applied after \`-y,x,z\`" x,y,z z,x,y y,z,x -y,x,z
-    finds "the second is applied first" 1 "lines 2 and 5: $product \`z,x,y\` applied after \`z,-y,x\`" x,y,z z,x,y y,z,x -y,x,z z,-y,x
+    finds "a pair between" 1 "lines 2 and 4: $product \`z,x,y\` applied after \`-y,x,z\`, which is \`z,-y,x\`" x,y,z z,x,y y,z,x -y,x,z
+    finds "the second is applied first" 1 "lines 2 and 5: $product \`z,x,y\` applied after \`z,-y,x\`, which is \`x,z,-y\`" x,y,z z,x,y y,z,x -y,x,z z,-y,x
 
     { echo '# many'; yes x,y,z | head -n 200; } >"$work/many"
     runs "camp symmetry: 200 operators" 1 "camp: $work/many: line 194: 13, a list has at most 192 operators, and this one has 200"$'\n' '' "$camp" symmetry "$work/many"

@@ -117,6 +117,13 @@ def by_gemmi(rows):
     return 0, pairs
 
 
+def missing(rows):
+    """What camp symmetry must tell is missing of a list that is a group but for a product: gemmi's text."""
+    _, pairs = by_gemmi(rows)
+    first, second = divmod(pairs - 1, len(rows))
+    return op_of(rows[first]).combine(op_of(rows[second])).wrap().triplet()
+
+
 def camp_says(texts):
     told = subprocess.run([CAMP, "symmetry"], input="\n".join(texts) + "\n", stdout=subprocess.PIPE, text=True)
     return told.returncode, told.stdout
@@ -165,9 +172,15 @@ def main():
         spelled = [source.choice(op) for op in ops]
         if camp_says(spelled) != (0, f"camp: standard input: a group of {len(ops)} operator{'s' * (len(ops) > 1)}\n"):
             faults.append(f"{spelled}: {camp_says(spelled)}")
-        if len(ops) > 2 and camp_says(spelled[:-1])[0] != 1:
-            faults.append(f"{spelled[:-1]} is a group")
-    check(f"camp symmetry: {len(texts[::CAMP_ONE_IN])} settings are groups, and without the last of three operators or more none", faults)
+    check(f"camp symmetry: {len(texts[::CAMP_ONE_IN])} settings are groups", faults)
+    faults, count = [], 0
+    for ops, spelled in list(zip(rows, texts))[:: CAMP_ONE_IN // 2]:
+        if len(ops) > 2 and ops[0] == IDENTITY:
+            count += 1
+            status, told = camp_says([op[0] for op in spelled[:-1]])
+            if status != 1 or not told.endswith(f", which is `{missing(ops[:-1])}`\n"):
+                faults.append(f"{told} not {missing(ops[:-1])}")
+    check(f"camp symmetry: {count} settings without the last operator, and what is missing", faults)
     print(f"{passed} passed, {failed} failed")
     return 1 if failed else 0
 

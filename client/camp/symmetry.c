@@ -8,6 +8,7 @@
 #include "commands.h"
 #include "files.h"
 #include "messages.h"
+#include "product.h"
 
 enum {
     TAKEN = 0,
@@ -23,7 +24,7 @@ const char symmetry_usage[] =
     "\n"
     "Reads symmetry operators such as -y,x-y,z+1/3, one a line, and tells whether they are a group: the\n"
     "identity is there, none stands twice, and each two of them, one applied after the other, make one\n"
-    "of the list. If not, it tells the lines at fault.\n"
+    "of the list. If not, it tells the lines at fault, and which operator is missing.\n"
     "\n"
     "  FILE      at most 192 operators as _symmetry_equiv_pos_as_xyz has them, without quotes and\n"
     "            spaces. Lines end with LF or CRLF; empty lines, and those that begin with #, are\n"
@@ -37,7 +38,7 @@ const char symmetry_usage[] =
     "Example:\n"
     "\n"
     "  $ camp symmetry operators\n"
-    "  camp: operators: lines 2 and 3: 17, a product is missing: that of `-x,y+1/2,-z` applied after `-x,-y,-z`\n";
+    "  camp: operators: lines 2 and 3: 17, a product is missing: that of `-x,y+1/2,-z` applied after `-x,-y,-z`, which is `x,-y+1/2,z`\n";
 
 /* A line of the file, counted from 1, without its end. */
 typedef struct {
@@ -231,9 +232,10 @@ static void tell_equal(const char *file, const operators *list)
     }
 }
 
-/* Tells the pair of this number, counted from 1. */
+/* Tells the pair of this number, counted from 1, and what it makes. */
 static void tell_product(const char *file, const operators *list, uint64_t pair)
 {
+    char product[OPERATOR_TEXT];
     size_t first = (size_t)((pair - 1) / list->count);
     size_t second = (size_t)((pair - 1) % list->count);
     about_two(file, list, first, second, NO_PRODUCT);
@@ -244,6 +246,8 @@ static void tell_product(const char *file, const operators *list, uint64_t pair)
         fputs("itself", stdout);
     else
         show_line(&list->lines[second]);
+    if (product_text(row_of(list, first), row_of(list, second), product))
+        printf(", which is `%s`", product);
     putchar('\n');
 }
 
