@@ -5,7 +5,9 @@ use crate::boundary::{Checked, Operator};
 use crate::groups::{self, Groups, DAMAGES};
 use crate::operators::{self, Operators, PART_FAULTS};
 use crate::tally::Question;
-use reference::group::{determinant, IDENTITY, MOST, NO_PRODUCT};
+use reference::group::{
+    determinant, BAD_DETERMINANT, EQUAL_ROWS, IDENTITY, MOST, NO_IDENTITY, NO_PRODUCT,
+};
 use reference::operator::{Row, FACTORS, NOT_READ, NUMBERS, TAKEN, WHOLE};
 use std::hint::black_box;
 
@@ -96,7 +98,8 @@ impl Comparison<'_> {
             self.same(&"symmetry_read", text, tested.operator(text), expected.operator(text));
         match read.answer {
             TAKEN => self.note_operator(text, &read.row),
-            answer => self.tally.note(Question::Operator, usize::from(answer == NOT_READ)),
+            NOT_READ => self.tally.note(Question::Operator, 1),
+            _ => {}
         }
         read
     }
@@ -139,7 +142,7 @@ impl Comparison<'_> {
     /// Counts what a list came to, and where.
     fn note_list(&mut self, list: &[i8], checked: &Checked) {
         let (rows, part_row) = list.as_chunks();
-        let answers = [TAKEN, NOT_READ, 14, 15, 16, NO_PRODUCT];
+        let answers = [TAKEN, NOT_READ, BAD_DETERMINANT, NO_IDENTITY, EQUAL_ROWS, NO_PRODUCT];
         let place = answers.iter().position(|&known| known == checked.answer);
         self.tally.note(Question::List, place.unwrap_or(usize::MAX));
         match checked.answer {
@@ -161,7 +164,7 @@ impl Comparison<'_> {
         let place = sizes.iter().position(|&size| rows.len() <= size);
         self.tally.note(Question::GroupSize, place.unwrap_or(usize::MAX));
         let identity = rows.iter().position(|row| *row == IDENTITY);
-        let place = identity.map_or(usize::MAX, |at| third(at as u64, rows.len() as u64));
+        let place = identity.map_or(usize::MAX, |at| first_or_last(at as u64, rows.len() as u64));
         self.tally.note(Question::IdentityAt, place);
     }
 
@@ -187,14 +190,14 @@ impl Comparison<'_> {
         }
     }
 
-    /// Counts where the first pair without its product stands: the first, the last, or between.
+    /// Counts where the first pair without its product stands.
     fn note_pair(&mut self, rows: u64, pairs: u64) {
-        self.tally.note(Question::MissingPair, third(pairs.wrapping_sub(1), rows * rows));
+        self.tally.note(Question::MissingPair, first_or_last(pairs.saturating_sub(1), rows * rows));
     }
 }
 
-/// Whether a place is the first of so many, the last, or between.
-fn third(at: u64, count: u64) -> usize {
+/// Whether a place is the first of so many, between, or the last.
+fn first_or_last(at: u64, count: u64) -> usize {
     match at {
         0 => 0,
         _ if at + 1 < count => 1,
