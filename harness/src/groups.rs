@@ -2,7 +2,7 @@
 
 use crate::random::Random;
 use reference::group::{determinant, product, IDENTITY, MOST};
-use reference::operator::{Row, FACTORS, NUMBERS, WHOLE};
+use reference::operator::{Row, FACTORS, NUMBERS, PARTS, WHOLE};
 
 /// The factors of generators: turns, mirrors and the inversion about the axes of a cube, and of a
 /// hexagon.
@@ -44,7 +44,7 @@ const LARGEST: [[Row; 5]; 2] = [
     ],
 ];
 
-/// The numbers of one place, and those next to its range.
+/// Numbers out of range: of factors, and of translations.
 const OUT_OF_RANGE: [[i8; 4]; 2] = [[-2, i8::MIN, 2, i8::MAX], [-1, i8::MIN, 24, i8::MAX]];
 
 /// A way to damage a list.
@@ -271,7 +271,7 @@ pub fn every_matrix() -> impl Iterator<Item = Vec<i8>> {
 pub fn every_translation() -> impl Iterator<Item = Vec<i8>> {
     let kinds = CUBIC.into_iter().chain(HEXAGONAL).chain([UNTURNED]);
     kinds.flat_map(|factors| {
-        (0..FACTORS - 6).flat_map(move |place| {
+        (0..PARTS).flat_map(move |place| {
             (0..WHOLE).map(move |translation| {
                 let mut translations = [0, 6, 16];
                 translations[place] = translation;
