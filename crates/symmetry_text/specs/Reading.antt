@@ -1,0 +1,54 @@
+-- The reading of an operator's text by stages, as the code goes, and what it answers. `Agree` (proofs) shows that it is the grammar's.
+-- Assumes nothing.
+use Prim.Native.Nat.{ℕ, _+_, _%_}
+use mathlib.Core.Bool.{cond}
+use mathlib.Core.List.{List, [], _∷_}
+use lib.IntN.{ℤ, pos}
+use lib.ListN.{take, drop, replicate}
+use Rattle.text.specs.Run.{runOf, other, hasAt}
+use Rattle.symmetry_fractions.specs.Reading.{whole}
+use Rattle.symmetry_parts.specs.Reading.{factor, partOf}
+use Rattle.symmetry_parts.specs.declared.Sum.{Sum}
+use Rattle.symmetry_parts.specs.declared.PartReading.{PartReading}
+use Rattle.symmetry_parts.specs.declared.PartReading.the-variants.{Found, NoPart}
+use Rattle.symmetry_text.specs.declared.RowPart.{RowPart}
+use Rattle.symmetry_text.specs.declared.Reading.{Reading}
+use Rattle.symmetry_text.specs.declared.Reading.the-variants.{Row, NoOperator}
+
+-- the numbers of a part that was read
+abbrev pub rowPart : Sum → RowPart
+rowPart p = record { x = factor (p .x); y = factor (p .y); z = factor (p .z); t = pos (p .t % whole) }
+
+-- the row of three parts, if each was read
+abbrev pub rowOf : PartReading → PartReading → PartReading → Reading
+rowOf NoPart b c = NoOperator
+rowOf (Found p) NoPart c = NoOperator
+rowOf (Found p) (Found q) NoPart = NoOperator
+rowOf (Found p) (Found q) (Found r) = Row (rowPart p) (rowPart q) (rowPart r)
+
+-- the row of three parts' texts
+unfoldable pub partsOf : List ℕ → List ℕ → List ℕ → Reading
+partsOf first second third = rowOf (partOf first) (partOf second) (partOf third)
+
+-- how many bytes come before the first comma
+abbrev pub beforeComma : List ℕ → ℕ
+beforeComma s = runOf (other 44) s
+
+-- after the first comma: the second part, a comma, and the third part
+unfoldable pub secondOf : List ℕ → List ℕ → Reading
+secondOf first s = cond (hasAt s (beforeComma s) 44) (partsOf first (take (beforeComma s) s) (drop (beforeComma s + 1) s)) NoOperator
+
+-- the first part, a comma, and the rest
+unfoldable pub readingOf : List ℕ → Reading
+readingOf s = cond (hasAt s (beforeComma s) 44) (secondOf (take (beforeComma s) s) (drop (beforeComma s + 1) s)) NoOperator
+
+-- "Reading a text gives its row, or 13 and twelve zeros": the number
+abbrev pub answerNumber : Reading → ℕ
+answerNumber (Row a b c) = 0
+answerNumber NoOperator = 13
+
+-- and the numbers: "nine factors .. (part by part, each x, y, z) and three translations in 24ths"
+abbrev pub numbers : Reading → List ℤ
+numbers (Row a b c) =
+    a .x ∷ (a .y ∷ (a .z ∷ (b .x ∷ (b .y ∷ (b .z ∷ (c .x ∷ (c .y ∷ (c .z ∷ (a .t ∷ (b .t ∷ (c .t ∷ [])))))))))))
+numbers NoOperator = replicate 12 (pos 0)
