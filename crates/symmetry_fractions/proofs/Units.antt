@@ -7,8 +7,8 @@ use native.Mathlib.Nat.{mul-le-mul-right}
 use native.Mathlib.Omega.{arith}
 use borrow.Author.Tests.{eqb-true}
 use lib.Dec.{eqb}
-use Rattle.symmetry_fractions.specs.Grammar.{IsDenominator}
-use Rattle.symmetry_fractions.specs.Reading.{whole, unitOf}
+use Rattle.symmetry_fractions.specs.Grammar.{whole, IsDenominator}
+use Rattle.symmetry_fractions.specs.Reading.{unitOf}
 
 -- a byte is the digit of a denominator, whose unit is one divided by it, or it has no unit
 pub data UnitOf (b : ℕ) : Type 0 where

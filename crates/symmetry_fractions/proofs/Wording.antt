@@ -11,8 +11,8 @@ use lib.Dec.{leb, ltb, eqb}
 use lib.ListN.{length, getD}
 use Rattle.text.specs.Run.{all, other}
 use Rattle.text.proofs.Bools.{and-both}
-use Rattle.symmetry_fractions.specs.Grammar.{IsDenominator, IsFraction}
-use Rattle.symmetry_fractions.specs.Reading.{whole, unitOf, fractionOf}
+use Rattle.symmetry_fractions.specs.Grammar.{whole, IsDenominator, IsFraction}
+use Rattle.symmetry_fractions.specs.Reading.{unitOf, fractionOf}
 use Rattle.symmetry_fractions.proofs.Units.{UnitOf, unit-of}
 
 fraction-by : (a d : ℕ) (r : List ℕ) → 49 ≤ a → a < d → fractionOf (a ∷ (47 ∷ (d ∷ r))) ≡ (a - 48) * unitOf d

@@ -6,6 +6,10 @@ use mathlib.Core.Bool.{Bool, cond}
 use mathlib.Core.List.{List, [], _∷_}
 use lib.IntN.{ℤ, pos, negℤ}
 
+-- "translations in 24ths": so many are one
+abbrev pub whole : ℕ
+whole = 24
+
 -- "signed": the byte of a sign, by whether it is a minus
 abbrev pub signByte : Bool → ℕ
 signByte minus = cond minus 45 43
@@ -31,4 +35,4 @@ pub record IsFraction (t : List ℕ) (size : ℕ) : Type 0 where
   pub most : numerator ≤ 7
   pub below : numerator < denominator
   pub is-denominator : IsDenominator denominator
-  pub worth : size * denominator ≡ 24 * numerator
+  pub worth : size * denominator ≡ whole * numerator

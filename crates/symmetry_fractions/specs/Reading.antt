@@ -5,10 +5,7 @@ use mathlib.Core.Bool.{Bool, cond, _&&_, _||_}
 use mathlib.Core.List.{List}
 use lib.Dec.{leb, ltb, eqb}
 use lib.ListN.{length, getD}
-
--- "translations in 24ths": so many are one
-abbrev pub whole : ℕ
-whole = 24
+use Rattle.symmetry_fractions.specs.Grammar.{whole}
 
 -- the length of a fraction without its sign
 abbrev pub fractionLength : ℕ

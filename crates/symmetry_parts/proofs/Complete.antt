@@ -13,8 +13,8 @@ use lib.Seq.{drop-at}
 use lib.IntN.{ℤ, pos, negsuc}
 use Rattle.text.proofs.Bools.{and-both, not-holds}
 use Rattle.symmetry_operators.specs.Operator.{Part, part, residue}
-use Rattle.symmetry_fractions.specs.Grammar.{signByte, withSign, IsFraction}
-use Rattle.symmetry_fractions.specs.Reading.{whole, isSign, signedOf, fractionOf}
+use Rattle.symmetry_fractions.specs.Grammar.{whole, signByte, withSign, IsFraction}
+use Rattle.symmetry_fractions.specs.Reading.{isSign, signedOf, fractionOf}
 use Rattle.symmetry_fractions.proofs.Wording.{fraction-taken, fraction-alone, fraction-size, fraction-length, fraction-first, Begins, begins}
 use Rattle.symmetry_parts.specs.Grammar.{Letter, letterByte, Signed, sumText, timesOf, factorOf, WithFraction, Written, IsPart}
 use Rattle.symmetry_parts.specs.Reading.{sum, numbersOf, isFree, withLetter, withTranslation, lastOf, moreOf, firstOf, partOf}

@@ -10,8 +10,8 @@ use lib.Dec.{eqb}
 use lib.IntN.{ℤ, pos}
 use Rattle.text.proofs.Bools.{and-both}
 use Rattle.symmetry_operators.specs.Operator.{part}
-use Rattle.symmetry_fractions.specs.Grammar.{signByte, withSign}
-use Rattle.symmetry_fractions.specs.Reading.{whole, isSign, signedOf}
+use Rattle.symmetry_fractions.specs.Grammar.{whole, signByte, withSign}
+use Rattle.symmetry_fractions.specs.Reading.{isSign, signedOf}
 use Rattle.symmetry_parts.specs.Grammar.{Letter, letterByte, sameLetter, Signed, timesOf, factorOf}
 use Rattle.symmetry_parts.specs.Reading.{sum, factor, numbersOf, isFree, withLetter, withTranslation}
 use Rattle.symmetry_parts.specs.declared.Sum.{Sum}

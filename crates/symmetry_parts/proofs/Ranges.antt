@@ -13,8 +13,7 @@ use Rattle.text.specs.Run.{all, other}
 use Rattle.text.proofs.Bools.{and-both}
 use Rattle.text.proofs.Runs.{all-append}
 use Rattle.symmetry_operators.specs.Operator.{Part, isFactor, isTranslation, finePart}
-use Rattle.symmetry_fractions.specs.Grammar.{signByte, IsFraction}
-use Rattle.symmetry_fractions.specs.Reading.{whole}
+use Rattle.symmetry_fractions.specs.Grammar.{whole, signByte, IsFraction}
 use Rattle.symmetry_fractions.proofs.Wording.{fraction-lacks}
 use Rattle.symmetry_parts.specs.Grammar.{Letter, letterByte, Signed, sumText, WithFraction, Written, IsPart}
 use Rattle.symmetry_parts.specs.Reading.{factor, numbersOf}

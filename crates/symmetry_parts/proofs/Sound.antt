@@ -13,8 +13,8 @@ use lib.Seq.{drop-at}
 use lib.IntN.{ℤ, pos}
 use Rattle.text.proofs.Bools.{or-either, cond-first}
 use Rattle.symmetry_operators.specs.Operator.{Part}
-use Rattle.symmetry_fractions.specs.Grammar.{signByte, withSign, IsFraction}
-use Rattle.symmetry_fractions.specs.Reading.{whole, isSign, signedOf, fractionOf}
+use Rattle.symmetry_fractions.specs.Grammar.{whole, signByte, withSign, IsFraction}
+use Rattle.symmetry_fractions.specs.Reading.{isSign, signedOf, fractionOf}
 use Rattle.symmetry_fractions.proofs.Wording.{fraction-size, fraction-length, Begins, begins}
 use Rattle.symmetry_parts.specs.Grammar.{Letter, letterByte, Signed, sumText, timesOf, WithFraction, Written, IsPart}
 use Rattle.symmetry_parts.specs.Reading.{numbersOf, isFree, withLetter, withTranslation, lastOf, moreOf, firstOf, partOf}

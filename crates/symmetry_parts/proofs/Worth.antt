@@ -7,8 +7,8 @@ use Prim.Native.Nat.{ℕ, suc, _%_, _≤_, _<_}
 use native.Mathlib.Omega.{arith}
 use lib.IntN.{ℤ, pos}
 use Rattle.symmetry_operators.specs.Operator.{Part, part, residue}
-use Rattle.symmetry_fractions.specs.Grammar.{signByte, withSign, IsFraction}
-use Rattle.symmetry_fractions.specs.Reading.{whole, signedOf}
+use Rattle.symmetry_fractions.specs.Grammar.{whole, signByte, withSign, IsFraction}
+use Rattle.symmetry_fractions.specs.Reading.{signedOf}
 use Rattle.symmetry_parts.specs.Grammar.{Letter, Signed, timesOf, factorOf}
 use Rattle.symmetry_parts.specs.Reading.{sum, numbersOf, withTranslation}
 use Rattle.symmetry_parts.specs.declared.Sum.{Sum}

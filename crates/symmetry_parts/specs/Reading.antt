@@ -1,4 +1,4 @@
--- The reading of a part by stages, as the code goes. `Wording` (proofs) shows that it is the grammar's.
+-- The reading of a part by stages, as the code goes. `Sound` and `Complete` (proofs) show that it is the grammar's.
 -- Assumes nothing.
 use Prim.Native.Nat.{ℕ, _%_}
 use mathlib.Core.Bool.{Bool, false, cond, _&&_}
@@ -7,7 +7,8 @@ use lib.Dec.{leb, eqb}
 use lib.ListN.{length, getD, drop}
 use lib.IntN.{ℤ, pos, negsuc}
 use Rattle.symmetry_operators.specs.Operator.{Part, part}
-use Rattle.symmetry_fractions.specs.Reading.{whole, fractionLength, isSign, signedOf, fractionOf}
+use Rattle.symmetry_fractions.specs.Grammar.{whole}
+use Rattle.symmetry_fractions.specs.Reading.{fractionLength, isSign, signedOf, fractionOf}
 use Rattle.symmetry_parts.specs.declared.Sum.{Sum}
 use Rattle.symmetry_parts.specs.declared.PartReading.{PartReading}
 use Rattle.symmetry_parts.specs.declared.PartReading.the-variants.{Found, NoPart}

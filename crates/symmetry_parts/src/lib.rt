@@ -1,5 +1,5 @@
 // Reads a part of an operator's text (document 02, No. 5).
-// A client cites Reading (partOf). That this reading is the document's wording (Grammar) is shown in proofs/Wording.antt.
+// A client cites Reading (partOf). That this reading is the document's wording (Grammar) is shown in proofs/Sound.antt and proofs/Complete.antt.
 ghost use mathlib.Core.Path.{_≡_};
 ghost use lib.ListN.{getD};
 ghost use Rattle.symmetry_parts.specs.Reading.{isFree, withLetter, lastOf, moreOf, firstOf, partOf};

@@ -12,7 +12,7 @@ use mir.Facts.{toZ-ofZ, toZ-pos}
 use lib.Dec.{eqb, lit<}
 use lib.IntN.{ℤ, pos, negsuc}
 use lib.Signed.{mag}
-use Rattle.symmetry_fractions.specs.Reading.{whole}
+use Rattle.symmetry_fractions.specs.Grammar.{whole}
 use Rattle.symmetry_parts.specs.Reading.{factor}
 use Rattle.symmetry_text.specs.Reading.{numbers}
 use Rattle.symmetry_text.specs.declared.RowPart.{RowPart}

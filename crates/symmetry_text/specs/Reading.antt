@@ -6,7 +6,7 @@ use mathlib.Core.List.{List, [], _∷_}
 use lib.IntN.{ℤ, pos}
 use lib.ListN.{take, drop, replicate}
 use Rattle.text.specs.Run.{runOf, other, hasAt}
-use Rattle.symmetry_fractions.specs.Reading.{whole}
+use Rattle.symmetry_fractions.specs.Grammar.{whole}
 use Rattle.symmetry_parts.specs.Reading.{factor, partOf}
 use Rattle.symmetry_parts.specs.declared.Sum.{Sum}
 use Rattle.symmetry_parts.specs.declared.PartReading.{PartReading}
@@ -42,6 +42,10 @@ secondOf first s = cond (hasAt s (beforeComma s) 44) (partsOf first (take (befor
 unfoldable pub readingOf : List ℕ → Reading
 readingOf s = cond (hasAt s (beforeComma s) 44) (secondOf (take (beforeComma s) s) (drop (beforeComma s + 1) s)) NoOperator
 
+-- "twelve": the numbers of a row
+abbrev pub rowLength : ℕ
+rowLength = 12
+
 -- "Reading a text gives its row, or 13 and twelve zeros": the number
 abbrev pub answerNumber : Reading → ℕ
 answerNumber (Row a b c) = 0
@@ -51,4 +55,4 @@ answerNumber NoOperator = 13
 abbrev pub numbers : Reading → List ℤ
 numbers (Row a b c) =
     a .x ∷ (a .y ∷ (a .z ∷ (b .x ∷ (b .y ∷ (b .z ∷ (c .x ∷ (c .y ∷ (c .z ∷ (a .t ∷ (b .t ∷ (c .t ∷ [])))))))))))
-numbers NoOperator = replicate 12 (pos 0)
+numbers NoOperator = replicate rowLength (pos 0)

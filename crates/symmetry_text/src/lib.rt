@@ -21,6 +21,9 @@ pub enum Reading {
     NoOperator,
 }
 
+// The numbers of a row.
+pub const NUMBERS: usize = 12;
+
 // A factor by its residue modulo 24.
 fn factor_of(n: u8) -> i8
     ensures { λ r. ⌜ r ≡ factor n ⌝ }
@@ -94,11 +97,11 @@ pub fn answer_number(r: Reading) -> u8
 }
 
 // The twelve numbers of a reading: nine factors, part by part, and three translations; zeros for none.
-pub fn answer_row(r: Reading) -> [i8; 12]
+pub fn answer_row(r: Reading) -> [i8; NUMBERS]
     ensures { λ l. ⌜ l ≡ numbers r ⌝ }
 {
     let Reading::Row(a, b, c) = r else {
-        return [0; 12];
+        return [0; NUMBERS];
     };
     [a.x, a.y, a.z, b.x, b.y, b.z, c.x, c.y, c.z, a.t, b.t, c.t]
 }
