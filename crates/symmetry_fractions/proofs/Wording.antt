@@ -1,16 +1,17 @@
 -- `fractionOf` is the wording of document 02, No. 5: a text that begins with a fraction is read as its 24ths, and what is read as some 24ths begins with that fraction.
 -- Assumes nothing.
 use mathlib.Core.Path.{_≡_, refl, sym, ap, subst, _∙_}
-use mathlib.Core.Bool.{Bool, true, false, cond, _&&_}
+use mathlib.Core.Bool.{Bool, true, false, cond}
 use mathlib.Core.List.{List, [], _∷_, _++_}
 use Prim.Native.Nat.{ℕ, _+_, _-_, _*_, _≤_, _<_}
 use native.Mathlib.Nat.{mul-assoc, mul-comm}
 use native.Mathlib.Omega.{arith}
-use borrow.Author.Tests.{le-leb, leb-true, lt-ltb, ltb-true, eqb-true, ne-eqb}
-use lib.Dec.{leb, ltb, eqb}
+use borrow.Author.Tests.{le-leb, leb-true, lt-ltb, ltb-true, eqb-true}
+use lib.Dec.{leb, eqb}
 use lib.ListN.{length, getD}
-use Rattle.text.specs.Run.{all, other}
+use Rattle.text.specs.Run.{all, between}
 use Rattle.text.proofs.Bools.{and-both}
+use Rattle.text.proofs.Runs.{between-taken}
 use Rattle.symmetry_fractions.specs.Grammar.{whole, IsDenominator, IsFraction}
 use Rattle.symmetry_fractions.specs.Reading.{unitOf, fractionOf}
 use Rattle.symmetry_fractions.proofs.Units.{UnitOf, unit-of}
@@ -55,13 +56,22 @@ fraction-length h = rw (h .text)
 pub fraction-first : {t : List ℕ} {size : ℕ} (r : List ℕ) → IsFraction t size → (49 ≤ getD (t ++ r) 0 0) × (getD (t ++ r) 0 0 ≤ 55)
 fraction-first r h = rw (h .text) (omega (arith, h .least, h .most))
 
--- a fraction has no comma
-pub fraction-lacks : {t : List ℕ} {size : ℕ} → IsFraction t size → all (other 44) t ≡ true
-unfolding all other
-fraction-lacks h =
-    let k : 48 + h .numerator ≡ 44 → ⊥ = λ e. omega arith in
-    let m : 48 + h .denominator ≡ 44 → ⊥ = λ e. omega arith in
-    rw (h .text) (simp (ne-eqb (48 + h .numerator) 44 k, ne-eqb (48 + h .denominator) 44 m))
+-- its bytes are a slash and digits up to 8
+most-eight : {d : ℕ} → IsDenominator d → d ≤ 8
+most-eight IsDenominator.two = omega arith
+most-eight IsDenominator.three = omega arith
+most-eight IsDenominator.four = omega arith
+most-eight IsDenominator.six = omega arith
+most-eight IsDenominator.eight = omega arith
+
+digit-between : (n : ℕ) → n ≤ 8 → between 47 56 (48 + n) ≡ true
+digit-between n h = between-taken 47 56 (48 + n) (omega arith) (omega arith)
+
+pub fraction-bytes : {t : List ℕ} {size : ℕ} → IsFraction t size → all (between 47 56) t ≡ true
+unfolding all
+fraction-bytes h =
+    let few : h .numerator ≤ 8 = omega (arith, h .most) in
+    rw (h .text) (simp (digit-between (h .numerator) few, digit-between (h .denominator) (most-eight (h .is-denominator)), between-taken 47 56 47 (omega arith) (omega arith)))
 
 -- a text that begins with the fraction of so many 24ths, and what follows it
 pub record Begins (s : List ℕ) : Type 0 where

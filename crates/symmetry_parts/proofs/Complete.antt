@@ -1,25 +1,25 @@
 -- Every text that the grammar takes for a part is read as its numbers.
 -- Assumes nothing.
 use mathlib.Core.Path.{_≡_, refl, sym, ap, subst, _∙_}
-use mathlib.Core.Bool.{Bool, true, false, cond, _&&_}
+use mathlib.Core.Bool.{Bool, true, false}
 use mathlib.Core.List.{List, [], _∷_, _++_, append-nil}
-use Prim.Native.Nat.{ℕ, suc, _+_, _-_, _%_, _≤_, _<_}
+use Prim.Native.Nat.{ℕ, _+_, _≤_, _<_}
 use native.Mathlib.Nat.{not-suc-le-zero}
 use native.Mathlib.Omega.{arith}
-use borrow.Author.Tests.{eq-eqb, ne-eqb, le-leb, lt-leb, leb-true, leb-false}
+use borrow.Author.Tests.{eq-eqb, ne-eqb, lt-leb, leb-true, leb-false}
 use lib.Dec.{eqb, leb}
-use lib.ListN.{length, getD, drop, length-append}
+use lib.ListN.{length, getD, length-append}
 use lib.Seq.{drop-at}
-use lib.IntN.{ℤ, pos, negsuc}
-use Rattle.text.proofs.Bools.{and-both, not-holds}
-use Rattle.symmetry_operators.specs.Operator.{Part, part, residue}
-use Rattle.symmetry_fractions.specs.Grammar.{whole, signByte, withSign, IsFraction}
+use lib.IntN.{ℤ}
+use Rattle.text.proofs.Bools.{and-both}
+use Rattle.symmetry_operators.specs.Operator.{Part}
+use Rattle.symmetry_fractions.specs.Grammar.{signByte, IsFraction}
 use Rattle.symmetry_fractions.specs.Reading.{isSign, signedOf, fractionOf}
-use Rattle.symmetry_fractions.proofs.Wording.{fraction-taken, fraction-alone, fraction-size, fraction-length, fraction-first, Begins, begins}
-use Rattle.symmetry_parts.specs.Grammar.{Letter, letterByte, Signed, sumText, timesOf, factorOf, WithFraction, Written, IsPart}
-use Rattle.symmetry_parts.specs.Reading.{sum, numbersOf, isFree, withLetter, withTranslation, lastOf, moreOf, firstOf, partOf}
+use Rattle.symmetry_fractions.proofs.Wording.{fraction-taken, fraction-alone, fraction-size, fraction-length, fraction-first, begins}
+use Rattle.symmetry_parts.specs.Grammar.{Letter, letterByte, Signed, sumText, timesOf, WithFraction, Written, IsPart}
+use Rattle.symmetry_parts.specs.Reading.{sum, numbersOf, isFree, withTranslation, lastOf, moreOf, firstOf, partOf}
 use Rattle.symmetry_parts.specs.declared.Sum.{Sum}
-use Rattle.symmetry_parts.specs.declared.PartReading.the-variants.{Found, NoPart}
+use Rattle.symmetry_parts.specs.declared.PartReading.the-variants.{Found}
 use Rattle.symmetry_parts.proofs.Turns.{more-letter, more-last}
 use Rattle.symmetry_parts.proofs.Letters.{put, putAll, fits, all-translation}
 use Rattle.symmetry_parts.proofs.Worth.{Tail, start, factors, sum-worth, own-worth, letters-fit, signed-residue}

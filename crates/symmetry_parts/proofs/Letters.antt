@@ -3,17 +3,15 @@
 use mathlib.Core.Path.{_≡_, refl, sym, ap, _∙_}
 use mathlib.Core.Bool.{Bool, true, false, cond, _&&_, false≢true, true≢false}
 use mathlib.Core.List.{List, [], _∷_}
-use Prim.Native.Nat.{ℕ, suc, _+_, _%_, _≤_}
+use Prim.Native.Nat.{ℕ, suc, _+_, _≤_}
 use native.Mathlib.Omega.{arith}
-use borrow.Author.Tests.{eqb-true, eq-eqb, ne-eqb}
 use lib.Dec.{eqb}
-use lib.IntN.{ℤ, pos}
+use lib.IntN.{pos}
 use Rattle.text.proofs.Bools.{and-both}
-use Rattle.symmetry_operators.specs.Operator.{part}
-use Rattle.symmetry_fractions.specs.Grammar.{whole, signByte, withSign}
-use Rattle.symmetry_fractions.specs.Reading.{isSign, signedOf}
+use Rattle.symmetry_fractions.specs.Grammar.{signByte, withSign}
+use Rattle.symmetry_fractions.specs.Reading.{signedOf}
 use Rattle.symmetry_parts.specs.Grammar.{Letter, letterByte, sameLetter, Signed, timesOf, factorOf}
-use Rattle.symmetry_parts.specs.Reading.{sum, factor, numbersOf, isFree, withLetter, withTranslation}
+use Rattle.symmetry_parts.specs.Reading.{factor, isFree, withLetter}
 use Rattle.symmetry_parts.specs.declared.Sum.{Sum}
 
 -- what is held of a letter

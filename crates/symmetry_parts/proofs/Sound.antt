@@ -1,10 +1,10 @@
 -- Every text that is read as a part is one of the grammar's, with those numbers.
 -- Assumes nothing.
 use mathlib.Core.Path.{_≡_, refl, sym, ap, subst, _∙_}
-use mathlib.Core.Bool.{Bool, true, false, cond, _&&_, false≢true}
+use mathlib.Core.Bool.{Bool, true, false, cond, false≢true}
 use mathlib.Core.Logic.{_⊎_, inl, inr}
 use mathlib.Core.List.{List, [], _∷_, _++_, append-nil}
-use Prim.Native.Nat.{ℕ, suc, _+_, _≤_, _<_}
+use Prim.Native.Nat.{ℕ, _+_, _≤_, _<_}
 use native.Mathlib.Omega.{arith}
 use borrow.Author.Tests.{eqb-true, eqb-false, leb-false}
 use lib.Dec.{eqb, leb}
@@ -13,16 +13,16 @@ use lib.Seq.{drop-at}
 use lib.IntN.{ℤ, pos}
 use Rattle.text.proofs.Bools.{or-either, cond-first}
 use Rattle.symmetry_operators.specs.Operator.{Part}
-use Rattle.symmetry_fractions.specs.Grammar.{whole, signByte, withSign, IsFraction}
+use Rattle.symmetry_fractions.specs.Grammar.{signByte, withSign, IsFraction}
 use Rattle.symmetry_fractions.specs.Reading.{isSign, signedOf, fractionOf}
-use Rattle.symmetry_fractions.proofs.Wording.{fraction-size, fraction-length, Begins, begins}
+use Rattle.symmetry_fractions.proofs.Wording.{fraction-size, fraction-length, begins}
 use Rattle.symmetry_parts.specs.Grammar.{Letter, letterByte, Signed, sumText, timesOf, WithFraction, Written, IsPart}
-use Rattle.symmetry_parts.specs.Reading.{numbersOf, isFree, withLetter, withTranslation, lastOf, moreOf, firstOf, partOf}
+use Rattle.symmetry_parts.specs.Reading.{numbersOf, isFree, withLetter, lastOf, moreOf, firstOf, partOf}
 use Rattle.symmetry_parts.specs.declared.Sum.{Sum}
 use Rattle.symmetry_parts.specs.declared.PartReading.{PartReading}
 use Rattle.symmetry_parts.specs.declared.PartReading.the-variants.{Found, NoPart}
 use Rattle.symmetry_parts.proofs.Turns.{free-within, sign-within}
-use Rattle.symmetry_parts.proofs.Letters.{put, putAll, fits, all-translation}
+use Rattle.symmetry_parts.proofs.Letters.{putAll, fits, all-translation}
 use Rattle.symmetry_parts.proofs.Worth.{Tail, start, factors, sum-worth, own-worth, fit-once, signed-residue, signed-some}
 
 not-found : (q : Sum) → NoPart ≡ Found q → ⊥

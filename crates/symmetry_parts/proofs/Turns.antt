@@ -14,7 +14,6 @@ use borrow.Author.Tests.{leb-true, leb-false}
 use Rattle.symmetry_fractions.specs.Reading.{isSign, signedOf}
 use Rattle.symmetry_parts.specs.Reading.{isFree, withLetter, lastOf, moreOf}
 use Rattle.symmetry_parts.specs.declared.Sum.{Sum}
-use Rattle.symmetry_parts.specs.declared.PartReading.{PartReading}
 use Rattle.symmetry_parts.specs.declared.PartReading.the-variants.{Found, NoPart}
 
 -- a kind that a zero byte is not of has its byte within the text

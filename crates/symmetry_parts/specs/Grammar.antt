@@ -2,11 +2,11 @@
 -- once, with at most one signed fraction first or last". Assumes nothing.
 use Prim.Native.Nat.{ℕ, suc, _≤_}
 use mathlib.Core.Path.{_≡_}
-use mathlib.Core.Bool.{Bool, true, false, cond}
+use mathlib.Core.Bool.{Bool, false, cond}
 use mathlib.Core.List.{List, [], _∷_, _++_}
 use lib.Dec.{eqb}
 use lib.ListN.{length}
-use lib.IntN.{ℤ, pos, negℤ}
+use lib.IntN.{ℤ, pos}
 use Rattle.symmetry_operators.specs.Operator.{Part, part, residue}
 use Rattle.symmetry_fractions.specs.Grammar.{signByte, withSign, IsFraction}
 

@@ -1,27 +1,26 @@
 -- The reading by stages is the grammar's: each text of the grammar is read as its row, each row that is read is of a text of the grammar and within its
 -- ranges, and the grammar gives a text at most one row. Assumes nothing.
 use mathlib.Core.Path.{_≡_, refl, sym, ap, subst, _∙_}
-use mathlib.Core.Bool.{Bool, true, false, cond, _&&_}
-use mathlib.Core.List.{List, [], _∷_, _++_}
-use Prim.Native.Nat.{ℕ, suc, _+_}
+use mathlib.Core.Bool.{true}
+use mathlib.Core.List.{List, _∷_, _++_}
+use Prim.Native.Nat.{ℕ, _+_}
 use native.Mathlib.Numerals.{add-one}
 use native.Mathlib.Omega.{arith}
 use lib.IntN.{ℤ, pos}
-use lib.ListN.{length, getD, take, drop, replicate, length-append}
+use lib.ListN.{length, take, drop, replicate, length-append}
 use lib.Seq.{take-append-seam, drop-append-add, getD-append-seam, split-at}
-use Rattle.text.specs.Run.{runOf, all, other, hasAt}
+use Rattle.text.specs.Run.{all, other, hasAt}
 use Rattle.text.proofs.Bools.{cond-first}
-use Rattle.text.proofs.Runs.{run-append, run-none, has-here, has-within, has-byte}
+use Rattle.text.proofs.Runs.{all-append, run-append, run-none, has-here, has-within, has-byte}
 use Rattle.symmetry_operators.specs.Operator as operator
 use Rattle.symmetry_operators.specs.Check.{rowFrom}
 use Rattle.symmetry_parts.specs.Grammar.{IsPart}
-use Rattle.symmetry_parts.specs.Reading.{numbersOf, partOf}
-use Rattle.symmetry_parts.specs.declared.Sum.{Sum}
+use Rattle.symmetry_parts.specs.Reading.{partOf}
 use Rattle.symmetry_parts.specs.declared.PartReading.{PartReading}
 use Rattle.symmetry_parts.specs.declared.PartReading.the-variants.{Found, NoPart}
 use Rattle.symmetry_parts.proofs.Complete.{part-taken}
 use Rattle.symmetry_parts.proofs.Sound.{part-is}
-use Rattle.symmetry_parts.proofs.Ranges.{numbers-fine, part-lacks}
+use Rattle.symmetry_parts.proofs.Ranges.{numbers-fine, part-lacks-comma, part-lacks-space}
 use Rattle.symmetry_text.specs.Grammar.{IsOperator, ReadAs}
 use Rattle.symmetry_text.specs.Reading.{rowPart, rowOf, partsOf, beforeComma, secondOf, readingOf, rowLength, answerNumber, numbers}
 use Rattle.symmetry_text.specs.declared.RowPart.{RowPart}
@@ -70,8 +69,8 @@ operator-taken t r h =
       third = rowPart (c .sum);
       read =
           ap readingOf (h .text)
-          ∙ first-parted (h .first) rest (part-lacks (h .is-first))
-          ∙ second-parted (h .second) (h .third) (part-lacks (h .is-second)) (h .first)
+          ∙ first-parted (h .first) rest (part-lacks-comma (h .is-first))
+          ∙ second-parted (h .second) (h .third) (part-lacks-comma (h .is-second)) (h .first)
           ∙ parts;
       row = rw (a .worth, b .worth, c .worth);
     }
@@ -144,6 +143,14 @@ zeros-given t none = by (readingOf t) refl
 pub twelve : (r : Reading) → length (numbers r) ≡ rowLength
 twelve (Row a b c) = refl
 twelve NoOperator = refl
+
+-- "no spaces"
+pub no-spaces : (t : List ℕ) (r : operator.Row ℤ) → IsOperator t r → all (other 32) t ≡ true
+unfolding all other
+no-spaces t r h =
+    let last : all (other 32) (44 ∷ h .third) ≡ true = part-lacks-space (h .is-third) in
+    let rest : all (other 32) (44 ∷ (h .second ++ (44 ∷ h .third))) ≡ true = all-append (other 32) (h .second) (44 ∷ h .third) (part-lacks-space (h .is-second)) last in
+    rw (h .text) (all-append (other 32) (h .first) _ (part-lacks-space (h .is-first)) rest)
 
 part-fine : {t : List ℕ} {p : operator.Part ℤ} → IsPart t p → operator.finePart p ≡ true
 part-fine {t} {p} h = let k = part-taken t p h in ap operator.finePart (sym (k .worth)) ∙ numbers-fine (k .sum)

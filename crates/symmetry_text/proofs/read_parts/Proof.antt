@@ -1,6 +1,5 @@
 -- `symmetry_text::read_parts` meets its contract: each part's reading decides its case of `rowOf`.
 -- Assumes nothing.
-use mathlib.Core.Path.{_≡_, sym, ap, _∙_}
 use Rattle.symmetry_text.specs.Reading.{partsOf}
 use borrow.Author.Needs.{needs}
 use Rattle.symmetry_text.proofs.read_parts.Statement.{statement}
