@@ -22,10 +22,11 @@ use Rattle.symmetry_parts.proofs.Complete.{part-taken}
 use Rattle.symmetry_parts.proofs.Sound.{part-is}
 use Rattle.symmetry_parts.proofs.Ranges.{numbers-fine, part-lacks-comma, part-lacks-space}
 use Rattle.symmetry_text.specs.Grammar.{IsOperator, ReadAs}
-use Rattle.symmetry_text.specs.Reading.{rowPart, rowOf, partsOf, beforeComma, secondOf, readingOf, rowLength, answerNumber, numbers}
-use Rattle.symmetry_text.specs.declared.RowPart.{RowPart}
-use Rattle.symmetry_text.specs.declared.Reading.{Reading}
-use Rattle.symmetry_text.specs.declared.Reading.the-variants.{Row, NoOperator}
+use Rattle.symmetry_answers.specs.Answers.{rowLength, readingNumber, numbers}
+use Rattle.symmetry_text.specs.Reading.{rowPart, rowOf, partsOf, beforeComma, secondOf, readingOf}
+use Rattle.symmetry_answers.specs.declared.RowPart.{RowPart}
+use Rattle.symmetry_answers.specs.declared.Reading.{Reading}
+use Rattle.symmetry_answers.specs.declared.Reading.the-variants.{Row, NoOperator}
 
 -- ---- the comma that parts a text
 module _ (a r : List ℕ) (h : all (other 44) a ≡ true) where
@@ -128,16 +129,16 @@ one-reading t q r g h =
     sym (a .row) ∙ ap (λ (x : Reading). rowFrom (numbers x)) (sym (a .read) ∙ b .read) ∙ b .row
 
 -- "gives its row": the number 0 and the twelve numbers of the row
-pub row-given : (t : List ℕ) (r : operator.Row ℤ) → IsOperator t r → (answerNumber (readingOf t) ≡ 0) × (rowFrom (numbers (readingOf t)) ≡ r)
-row-given t r h = let k = operator-taken t r h in (ap answerNumber (k .read), ap (λ (x : Reading). rowFrom (numbers x)) (k .read) ∙ k .row)
+pub row-given : (t : List ℕ) (r : operator.Row ℤ) → IsOperator t r → (readingNumber (readingOf t) ≡ 0) × (rowFrom (numbers (readingOf t)) ≡ r)
+row-given t r h = let k = operator-taken t r h in (ap readingNumber (k .read), ap (λ (x : Reading). rowFrom (numbers x)) (k .read) ∙ k .row)
 
 -- "or 13 and twelve zeros": of every other text
-pub zeros-given : (t : List ℕ) → ((r : operator.Row ℤ) → IsOperator t r → ⊥) → (answerNumber (readingOf t) ≡ 13) × (numbers (readingOf t) ≡ replicate rowLength (pos 0))
+pub zeros-given : (t : List ℕ) → ((r : operator.Row ℤ) → IsOperator t r → ⊥) → (readingNumber (readingOf t) ≡ 13) × (numbers (readingOf t) ≡ replicate rowLength (pos 0))
 zeros-given t none = by (readingOf t) refl
   where
-    by : (r : Reading) → readingOf t ≡ r → (answerNumber (readingOf t) ≡ 13) × (numbers (readingOf t) ≡ replicate rowLength (pos 0))
+    by : (r : Reading) → readingOf t ≡ r → (readingNumber (readingOf t) ≡ 13) × (numbers (readingOf t) ≡ replicate rowLength (pos 0))
     by (Row a b c) e = absurd (none _ (operator-is a b c t e))
-    by NoOperator e = (ap answerNumber e, ap numbers e)
+    by NoOperator e = (ap readingNumber e, ap numbers e)
 
 -- there are twelve numbers
 pub twelve : (r : Reading) → length (numbers r) ≡ rowLength

@@ -10,7 +10,8 @@ use Rattle.text.specs.Quote.{bytes}
 use Rattle.text.specs.Run.{runOf, other, hasAt, kindAt}
 use Rattle.symmetry_fractions.specs.Reading.{isSign, signedOf, unitOf, fractionOf}
 use Rattle.symmetry_parts.specs.Reading.{factor, isFree, withLetter, lastOf, moreOf, firstOf, partOf}
-use Rattle.symmetry_text.specs.Reading.{partsOf, secondOf, readingOf, rowLength, answerNumber, numbers}
+use Rattle.symmetry_answers.specs.Answers.{rowLength, readingNumber, numbers}
+use Rattle.symmetry_text.specs.Reading.{partsOf, secondOf, readingOf}
 
 pub record Vector : Type 0 where
   pub typed : String
@@ -62,7 +63,7 @@ vectors =
 
 -- what reading a text answers: the number, and the twelve numbers
 abbrev answerOf : List ℕ → ℕ × List ℤ
-answerOf t = (answerNumber (readingOf t), numbers (readingOf t))
+answerOf t = (readingNumber (readingOf t), numbers (readingOf t))
 
 abbrev expected : Vector → ℕ × List ℤ
 expected v = (v .number, v .row)

@@ -1,19 +1,19 @@
--- The reading of an operator's text by stages, as the code goes, and what it answers. `Agree` (proofs) shows that it is the grammar's.
+-- The reading of an operator's text by stages, as the code goes. `Agree` (proofs) shows that it is the grammar's.
 -- Assumes nothing.
 use Prim.Native.Nat.{ℕ, _+_, _%_}
 use mathlib.Core.Bool.{cond}
-use mathlib.Core.List.{List, [], _∷_}
-use lib.IntN.{ℤ, pos}
-use lib.ListN.{take, drop, replicate}
+use mathlib.Core.List.{List}
+use lib.IntN.{pos}
+use lib.ListN.{take, drop}
 use Rattle.text.specs.Run.{runOf, other, hasAt}
 use Rattle.symmetry_fractions.specs.Grammar.{whole}
 use Rattle.symmetry_parts.specs.Reading.{factor, partOf}
 use Rattle.symmetry_parts.specs.declared.Sum.{Sum}
 use Rattle.symmetry_parts.specs.declared.PartReading.{PartReading}
 use Rattle.symmetry_parts.specs.declared.PartReading.the-variants.{Found, NoPart}
-use Rattle.symmetry_text.specs.declared.RowPart.{RowPart}
-use Rattle.symmetry_text.specs.declared.Reading.{Reading}
-use Rattle.symmetry_text.specs.declared.Reading.the-variants.{Row, NoOperator}
+use Rattle.symmetry_answers.specs.declared.RowPart.{RowPart}
+use Rattle.symmetry_answers.specs.declared.Reading.{Reading}
+use Rattle.symmetry_answers.specs.declared.Reading.the-variants.{Row, NoOperator}
 
 -- the numbers of a part that was read
 abbrev pub rowPart : Sum → RowPart
@@ -41,18 +41,3 @@ secondOf first s = cond (hasAt s (beforeComma s) 44) (partsOf first (take (befor
 -- the first part, a comma, and the rest
 unfoldable pub readingOf : List ℕ → Reading
 readingOf s = cond (hasAt s (beforeComma s) 44) (secondOf (take (beforeComma s) s) (drop (beforeComma s + 1) s)) NoOperator
-
--- "twelve": the numbers of a row
-abbrev pub rowLength : ℕ
-rowLength = 12
-
--- "Reading a text gives its row, or 13 and twelve zeros": the number
-abbrev pub answerNumber : Reading → ℕ
-answerNumber (Row a b c) = 0
-answerNumber NoOperator = 13
-
--- and the numbers: "nine factors .. (part by part, each x, y, z) and three translations in 24ths"
-abbrev pub numbers : Reading → List ℤ
-numbers (Row a b c) =
-    a .x ∷ (a .y ∷ (a .z ∷ (b .x ∷ (b .y ∷ (b .z ∷ (c .x ∷ (c .y ∷ (c .z ∷ (a .t ∷ (b .t ∷ (c .t ∷ [])))))))))))
-numbers NoOperator = replicate rowLength (pos 0)

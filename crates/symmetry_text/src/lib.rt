@@ -1,28 +1,13 @@
 // Reads the text of a symmetry operator (document 02, No. 5): three parts with commas.
-// A client cites Reading (readingOf, answerNumber, numbers). That this reading is the document's wording (Grammar) is the theorem `agree` of proofs/Agree.antt.
+// A client cites Reading (readingOf). That this reading is the document's wording (Grammar) is the theorem `agree` of proofs/Agree.antt.
 ghost use mathlib.Core.Path.{_≡_};
 ghost use Rattle.symmetry_parts.specs.Reading.{factor};
-ghost use Rattle.symmetry_text.specs.Reading.{rowPart, partsOf, secondOf, readingOf, answerNumber, numbers};
+ghost use Rattle.symmetry_text.specs.Reading.{rowPart, partsOf, secondOf, readingOf};
+use symmetry_answers::Reading;
+use symmetry_answers::RowPart;
 use symmetry_fractions::WHOLE;
 use symmetry_parts::PartReading;
 use symmetry_parts::Sum;
-
-// A part of a row: the factors of x, y, z, and the translation in 24ths.
-pub struct RowPart {
-    pub x: i8,
-    pub y: i8,
-    pub z: i8,
-    pub t: i8,
-}
-
-// What reading an operator's text finds: its row, or that it is none.
-pub enum Reading {
-    Row(RowPart, RowPart, RowPart),
-    NoOperator,
-}
-
-// The numbers of a row.
-pub const NUMBERS: usize = 12;
 
 // A factor by its residue modulo 24.
 fn factor_of(n: u8) -> i8
@@ -84,24 +69,4 @@ pub fn read_operator(s: &[u8]) -> Reading
         return Reading::NoOperator;
     }
     read_second(&s[..n], &s[n + 1..])
-}
-
-// The number of a reading: 0 for a row, 13 for none.
-pub fn answer_number(r: Reading) -> u8
-    ensures { λ n. ⌜ n ≡ answerNumber r ⌝ }
-{
-    match r {
-        Reading::Row(_, _, _) => 0,
-        Reading::NoOperator => 13,
-    }
-}
-
-// The twelve numbers of a reading: nine factors, part by part, and three translations; zeros for none.
-pub fn answer_row(r: Reading) -> [i8; NUMBERS]
-    ensures { λ l. ⌜ l ≡ numbers r ⌝ }
-{
-    let Reading::Row(a, b, c) = r else {
-        return [0; NUMBERS];
-    };
-    [a.x, a.y, a.z, b.x, b.y, b.z, c.x, c.y, c.z, a.t, b.t, c.t]
 }

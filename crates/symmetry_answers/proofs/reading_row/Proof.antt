@@ -1,11 +1,11 @@
--- `symmetry_text::answer_row` meets its contract.
+-- `symmetry_answers::reading_row` meets its contract.
 -- Assumes nothing.
 use mathlib.Core.Path.{sym, ap, _∙_}
-use Rattle.symmetry_text.specs.Reading.{numbers}
-use Rattle.symmetry_text.proofs.Back.{row-back}
+use Rattle.symmetry_answers.specs.Answers.{numbers}
+use Rattle.symmetry_answers.proofs.Back.{row-back}
 use borrow.Author.Needs.{needs}
-use Rattle.symmetry_text.proofs.answer_row.Statement.{statement}
-use Rattle.symmetry_text.proofs.answer_row.Tie as tie
+use Rattle.symmetry_answers.proofs.reading_row.Statement.{statement}
+use Rattle.symmetry_answers.proofs.reading_row.Tie as tie
 
 returns : tie.Need-returns
 returns c = sym (ap numbers (c .enum-told .given .1))
@@ -22,5 +22,5 @@ returns-2 c =
     (record { x = d .0 .1; y = d .1 .0 .1; z = d .1 .1 .0 .1; t = d .1 .1 .1 .0 .1 })
     ∙ sym (ap numbers (k .1))
 
-pub answer-row-spec : {M : Type 1} → statement M
-answer-row-spec = tie.close (tie.spec (λ c. search needs) (λ c. search needs) returns returns-2)
+pub reading-row-spec : {M : Type 1} → statement M
+reading-row-spec = tie.close (tie.spec (λ c. search needs) (λ c. search needs) returns returns-2)
