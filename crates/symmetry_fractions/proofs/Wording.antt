@@ -22,56 +22,57 @@ fraction-by a d r l b =
     let long : 3 ≤ length (a ∷ (47 ∷ (d ∷ r))) = omega arith in
     simp (le-leb _ _ long, le-leb _ _ l, lt-ltb _ _ b)
 
-digits-taken : (n u : ℕ) {d : ℕ} (r : List ℕ) → IsDenominator d → 1 ≤ n → n < d → u * d ≡ 24 * n → fractionOf ((48 + n) ∷ (47 ∷ ((48 + d) ∷ r))) ≡ u
+-- what is known of n / d, which is u 24ths
+pub record Sized (n d u : ℕ) : Type 0 where
+  pub some : 1 ≤ u
+  pub below-one : u < whole
+  pub few : n ≤ 7
+  pub digit : d ≤ 8
+  pub units : u ≡ n * unitOf (48 + d)
+
+pub sized : (n u : ℕ) {d : ℕ} → IsDenominator d → 1 ≤ n → n < d → u * d ≡ whole * n → Sized n d u
 unfolding unitOf
-digits-taken n u r IsDenominator.two l b w = fraction-by (48 + n) 50 r (omega arith) (omega arith) ∙ omega arith
-digits-taken n u r IsDenominator.three l b w = fraction-by (48 + n) 51 r (omega arith) (omega arith) ∙ omega arith
-digits-taken n u r IsDenominator.four l b w = fraction-by (48 + n) 52 r (omega arith) (omega arith) ∙ omega arith
-digits-taken n u r IsDenominator.six l b w = fraction-by (48 + n) 54 r (omega arith) (omega arith) ∙ omega arith
-digits-taken n u r IsDenominator.eight l b w = fraction-by (48 + n) 56 r (omega arith) (omega arith) ∙ omega arith
+sized n u IsDenominator.two l b w = omega arith
+sized n u IsDenominator.three l b w = omega arith
+sized n u IsDenominator.four l b w = omega arith
+sized n u IsDenominator.six l b w = omega arith
+sized n u IsDenominator.eight l b w = omega arith
 
--- a text that begins with a fraction is read as that fraction
-pub fraction-taken : {t : List ℕ} {size : ℕ} (r : List ℕ) → IsFraction t size → fractionOf (t ++ r) ≡ size
-fraction-taken {size = u} r h = rw (h .text) (digits-taken (h .numerator) u r (h .is-denominator) (h .least) (h .below) (h .worth))
+module _ {t : List ℕ} {size : ℕ} (h : IsFraction t size) where
+  known : Sized (h .numerator) (h .denominator) size
+  known = sized (h .numerator) size (h .is-denominator) (h .least) (h .below) (h .worth)
 
--- a fraction alone
-pub fraction-alone : {t : List ℕ} {size : ℕ} → IsFraction t size → fractionOf t ≡ size
-fraction-alone {size = u} h = rw (h .text) (digits-taken (h .numerator) u [] (h .is-denominator) (h .least) (h .below) (h .worth))
+  digits-taken : (r : List ℕ) → fractionOf ((48 + h .numerator) ∷ (47 ∷ ((48 + h .denominator) ∷ r))) ≡ size
+  digits-taken r =
+      let off : 48 + h .numerator - 48 ≡ h .numerator = omega arith in
+      fraction-by (48 + h .numerator) (48 + h .denominator) r (omega (arith, h .least)) (omega (arith, h .below)) ∙ rw off (sym (known .units))
 
-size-by : (n u : ℕ) {d : ℕ} → IsDenominator d → 1 ≤ n → n < d → u * d ≡ 24 * n → (1 ≤ u) × (u < whole)
-size-by n u IsDenominator.two l b w = (omega arith, omega arith)
-size-by n u IsDenominator.three l b w = (omega arith, omega arith)
-size-by n u IsDenominator.four l b w = (omega arith, omega arith)
-size-by n u IsDenominator.six l b w = (omega arith, omega arith)
-size-by n u IsDenominator.eight l b w = (omega arith, omega arith)
+  -- a text that begins with a fraction is read as that fraction
+  pub fraction-taken : (r : List ℕ) → fractionOf (t ++ r) ≡ size
+  fraction-taken r = rw (h .text) (digits-taken r)
 
--- a fraction is between zero and one
-pub fraction-size : {t : List ℕ} {size : ℕ} → IsFraction t size → (1 ≤ size) × (size < whole)
-fraction-size {size = u} h = size-by (h .numerator) u (h .is-denominator) (h .least) (h .below) (h .worth)
+  -- and so is a fraction alone
+  pub fraction-alone : fractionOf t ≡ size
+  fraction-alone = rw (h .text) (digits-taken [])
 
-pub fraction-length : {t : List ℕ} {size : ℕ} → IsFraction t size → length t ≡ 3
-fraction-length h = rw (h .text)
+  -- a fraction is between zero and one
+  pub fraction-size : (1 ≤ size) × (size < whole)
+  fraction-size = (known .some, known .below-one)
 
--- the first byte of a fraction is a digit
-pub fraction-first : {t : List ℕ} {size : ℕ} (r : List ℕ) → IsFraction t size → (49 ≤ getD (t ++ r) 0 0) × (getD (t ++ r) 0 0 ≤ 55)
-fraction-first r h = rw (h .text) (omega (arith, h .least, h .most))
+  pub fraction-length : length t ≡ 3
+  fraction-length = rw (h .text)
 
--- its bytes are a slash and digits up to 8
-most-eight : {d : ℕ} → IsDenominator d → d ≤ 8
-most-eight IsDenominator.two = omega arith
-most-eight IsDenominator.three = omega arith
-most-eight IsDenominator.four = omega arith
-most-eight IsDenominator.six = omega arith
-most-eight IsDenominator.eight = omega arith
+  -- its first byte is a digit
+  pub fraction-first : (r : List ℕ) → (49 ≤ getD (t ++ r) 0 0) × (getD (t ++ r) 0 0 ≤ 55)
+  fraction-first r = rw (h .text) (omega (arith, h .least, h .most))
 
-digit-between : (n : ℕ) → n ≤ 8 → between 47 56 (48 + n) ≡ true
-digit-between n h = between-taken 47 56 (48 + n) (omega arith) (omega arith)
-
-pub fraction-bytes : {t : List ℕ} {size : ℕ} → IsFraction t size → all (between 47 56) t ≡ true
-unfolding all
-fraction-bytes h =
-    let few : h .numerator ≤ 8 = omega (arith, h .most) in
-    rw (h .text) (simp (digit-between (h .numerator) few, digit-between (h .denominator) (most-eight (h .is-denominator)), between-taken 47 56 47 (omega arith) (omega arith)))
+  -- its bytes are a slash and digits up to 8
+  pub fraction-bytes : all (between 47 56) t ≡ true
+  unfolding all
+  fraction-bytes =
+      let n : between 47 56 (48 + h .numerator) ≡ true = between-taken 47 56 (48 + h .numerator) (omega arith) (omega (arith, h .most)) in
+      let d : between 47 56 (48 + h .denominator) ≡ true = between-taken 47 56 (48 + h .denominator) (omega arith) (omega (arith, known .digit)) in
+      rw (h .text) (simp (n, d, between-taken 47 56 47 (omega arith) (omega arith)))
 
 -- a text that begins with the fraction of so many 24ths, and what follows it
 pub record Begins (s : List ℕ) : Type 0 where
@@ -79,13 +80,6 @@ pub record Begins (s : List ℕ) : Type 0 where
   pub rest : List ℕ
   pub text : s ≡ fraction ++ rest
   pub is-fraction : IsFraction fraction (fractionOf s)
-
-most-seven : (n : ℕ) {d : ℕ} → IsDenominator d → n < d → n ≤ 7
-most-seven n IsDenominator.two h = omega arith
-most-seven n IsDenominator.three h = omega arith
-most-seven n IsDenominator.four h = omega arith
-most-seven n IsDenominator.six h = omega arith
-most-seven n IsDenominator.eight h = omega arith
 
 module _ (a d : ℕ) (l : 49 ≤ a) (b : a < d) (size : ℕ) (e : size ≡ (a - 48) * unitOf d) (some : 1 ≤ size) where
   fraction-is : IsFraction (a ∷ (47 ∷ (d ∷ []))) size
@@ -104,7 +98,7 @@ module _ (a d : ℕ) (l : 49 ≤ a) (b : a < d) (size : ℕ) (e : size ≡ (a - 
             denominator = k;
             text = rw (top, q) refl;
             least = omega arith;
-            most = most-seven (a - 48) is less;
+            most = sized (a - 48) size is (omega arith) less (scaled (a - 48) (unitOf d) k size e w) .few;
             below = less;
             is-denominator = is;
             worth = scaled (a - 48) (unitOf d) k size e w;

@@ -89,7 +89,7 @@ no-fraction s h = by (leb 1 (fractionOf s)) refl
     by : (t : Bool) → leb 1 (fractionOf s) ≡ t → fractionOf s ≡ 0
     by true e =
         let b = begins s (leb-true _ _ e) in
-        let k : getD s 0 0 ≤ 55 = rw (b .text) (fraction-first (b .rest) (b .is-fraction) .1) in
+        let k : getD s 0 0 ≤ 55 = rw (b .text) (fraction-first (b .is-fraction) (b .rest) .1) in
         absurd (omega arith)
     by false e = omega (arith, leb-false 1 (fractionOf s) e)
 
@@ -110,7 +110,7 @@ fraction-then minus {t} {n} (a ∷ l) h some f =
     let long : 3 < length (t ++ r) = omega (arith, length-append t r, fraction-length h) in
     let m = signedOf (signByte minus) n in
     let all : moreOf (start m) r ≡ Found (putAll (start m) (a ∷ l)) = ap (moreOf (start m)) (sym (append-nil r)) ∙ more-taken (start m) (a ∷ l) f Tail.none in
-    simp (fraction-taken r h, some-not-zero n (fraction-size h .0), lt-leb _ _ long, drop-at t r 3 (fraction-length h)) all
+    simp (fraction-taken h r, some-not-zero n (fraction-size h .0), lt-leb _ _ long, drop-at t r 3 (fraction-length h)) all
 
 -- a text with every sign that is read as a part: its first sign, and what follows
 pub record Taken (full : List ℕ) (p : Part ℤ) : Type 0 where
@@ -160,7 +160,7 @@ full-taken (a ∷ l) some once (WithFraction.first minus t n h) =
       rest = t ++ sumText (a ∷ l);
       sum = putAll (start m) (a ∷ l);
       text = refl;
-      unsigned = digit-unsigned _ (fraction-first (sumText (a ∷ l)) h .0);
+      unsigned = digit-unsigned _ (fraction-first h (sumText (a ∷ l)) .0);
       read = fraction-then minus (a ∷ l) h some f;
       worth = own-worth m (a ∷ l) f ∙ rw (signed-residue minus n (size .0) (size .1));
     }

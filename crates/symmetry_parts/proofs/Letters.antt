@@ -42,18 +42,26 @@ free-number Letter.X p = refl
 free-number Letter.Y p = refl
 free-number Letter.Z p = refl
 
+same-is : (c d : Letter) → sameLetter c d ≡ true → c ≡ d
+same-is Letter.X Letter.X e = refl
+same-is Letter.X Letter.Y e = absurd (false≢true e)
+same-is Letter.X Letter.Z e = absurd (false≢true e)
+same-is Letter.Y Letter.X e = absurd (false≢true e)
+same-is Letter.Y Letter.Y e = refl
+same-is Letter.Y Letter.Z e = absurd (false≢true e)
+same-is Letter.Z Letter.X e = absurd (false≢true e)
+same-is Letter.Z Letter.Y e = absurd (false≢true e)
+same-is Letter.Z Letter.Z e = refl
+
 module _ (p : Sum) (n : ℕ) where
-  letter-same : (c d : Letter) → sameLetter c d ≡ true → numberOf c (withLetter p (letterByte d) n) ≡ n
+  letter-own : (c : Letter) → numberOf c (withLetter p (letterByte c) n) ≡ n
   unfolding withLetter
-  letter-same Letter.X Letter.X e = refl
-  letter-same Letter.X Letter.Y e = absurd (false≢true e)
-  letter-same Letter.X Letter.Z e = absurd (false≢true e)
-  letter-same Letter.Y Letter.X e = absurd (false≢true e)
-  letter-same Letter.Y Letter.Y e = refl
-  letter-same Letter.Y Letter.Z e = absurd (false≢true e)
-  letter-same Letter.Z Letter.X e = absurd (false≢true e)
-  letter-same Letter.Z Letter.Y e = absurd (false≢true e)
-  letter-same Letter.Z Letter.Z e = refl
+  letter-own Letter.X = refl
+  letter-own Letter.Y = refl
+  letter-own Letter.Z = refl
+
+  letter-same : (c d : Letter) → sameLetter c d ≡ true → numberOf c (withLetter p (letterByte d) n) ≡ n
+  letter-same c d e = ap (λ (k : Letter). numberOf k (withLetter p (letterByte d) n)) (same-is c d e) ∙ letter-own d
 
   letter-other : (c d : Letter) → sameLetter c d ≡ false → numberOf c (withLetter p (letterByte d) n) ≡ numberOf c p
   unfolding withLetter
@@ -72,17 +80,6 @@ module _ (p : Sum) (n : ℕ) where
   letter-translation Letter.X = refl
   letter-translation Letter.Y = refl
   letter-translation Letter.Z = refl
-
-same-number : (p : Sum) (c d : Letter) → sameLetter c d ≡ true → numberOf c p ≡ numberOf d p
-same-number p Letter.X Letter.X e = refl
-same-number p Letter.X Letter.Y e = absurd (false≢true e)
-same-number p Letter.X Letter.Z e = absurd (false≢true e)
-same-number p Letter.Y Letter.X e = absurd (false≢true e)
-same-number p Letter.Y Letter.Y e = refl
-same-number p Letter.Y Letter.Z e = absurd (false≢true e)
-same-number p Letter.Z Letter.X e = absurd (false≢true e)
-same-number p Letter.Z Letter.Y e = absurd (false≢true e)
-same-number p Letter.Z Letter.Z e = refl
 
 same-self : (c : Letter) → sameLetter c c ≡ true
 same-self Letter.X = refl
@@ -127,7 +124,7 @@ module _ (c : Letter) (p : Sum) (a : Signed) where
 
   free-unused : sameLetter c (a .letter) ≡ true → isFree p (letterByte (a .letter)) ≡ true → used c p ≡ 0
   free-unused e f =
-      let q : eqb (numberOf c p) 0 ≡ true = ap (λ (n : ℕ). eqb n 0) (same-number p c (a .letter) e) ∙ sym (free-number (a .letter) p) ∙ f in
+      let q : eqb (numberOf c p) 0 ≡ true = ap (λ (n : ℕ). eqb n 0) (ap (λ (k : Letter). numberOf k p) (same-is c (a .letter) e)) ∙ sym (free-number (a .letter) p) ∙ f in
       rw q
 
 -- letters that fit are there at most once, with what was held before

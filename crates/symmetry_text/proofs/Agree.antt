@@ -23,7 +23,7 @@ use Rattle.symmetry_parts.proofs.Sound.{part-is}
 use Rattle.symmetry_parts.proofs.Ranges.{numbers-fine, part-lacks-comma, part-lacks-space}
 use Rattle.symmetry_text.specs.Grammar.{IsOperator, ReadAs}
 use Rattle.symmetry_answers.specs.Answers.{rowLength, readingNumber, numbers}
-use Rattle.symmetry_text.specs.Reading.{rowPart, rowOf, partsOf, beforeComma, secondOf, readingOf}
+use Rattle.symmetry_text.specs.Reading.{rowPart, rowOf, partsOf, beforeComma, atComma, secondOf, readingOf}
 use Rattle.symmetry_answers.specs.declared.RowPart.{RowPart}
 use Rattle.symmetry_answers.specs.declared.Reading.{Reading}
 use Rattle.symmetry_answers.specs.declared.Reading.the-variants.{Row, NoOperator}
@@ -37,13 +37,9 @@ module _ (a r : List ℕ) (h : all (other 44) a ≡ true) where
   comma-here : hasAt (a ++ (44 ∷ r)) (length a) 44 ≡ true
   comma-here = has-here (a ++ (44 ∷ r)) (length a) 44 (omega (arith, length-append a (44 ∷ r))) (getD-append-seam a 44 r 0)
 
-  second-parted : (first : List ℕ) → secondOf first (a ++ (44 ∷ r)) ≡ partsOf first a r
-  unfolding secondOf
-  second-parted first = simp (comma-at, comma-here, take-append-seam, drop-append-add a (44 ∷ r) 1)
-
-  first-parted : readingOf (a ++ (44 ∷ r)) ≡ secondOf a r
-  unfolding readingOf
-  first-parted = simp (comma-at, comma-here, take-append-seam, drop-append-add a (44 ∷ r) 1)
+  pub comma-parted : (f : List ℕ → List ℕ → Reading) → atComma f (a ++ (44 ∷ r)) ≡ f a r
+  unfolding atComma
+  comma-parted f = simp (comma-at, comma-here, take-append-seam, drop-append-add a (44 ∷ r) 1)
 
 comma-parts : (s : List ℕ) → hasAt s (beforeComma s) 44 ≡ true → s ≡ take (beforeComma s) s ++ (44 ∷ drop (beforeComma s + 1) s)
 comma-parts s h = split-at s (beforeComma s) 0 (has-within s (beforeComma s) 44 h) ∙ rw (has-byte s (beforeComma s) 44 h, add-one (beforeComma s))
@@ -70,8 +66,8 @@ operator-taken t r h =
       third = rowPart (c .sum);
       read =
           ap readingOf (h .text)
-          ∙ first-parted (h .first) rest (part-lacks-comma (h .is-first))
-          ∙ second-parted (h .second) (h .third) (part-lacks-comma (h .is-second)) (h .first)
+          ∙ comma-parted (h .first) rest (part-lacks-comma (h .is-first)) secondOf
+          ∙ comma-parted (h .second) (h .third) (part-lacks-comma (h .is-second)) (partsOf (h .first))
           ∙ parts;
       row = rw (a .worth, b .worth, c .worth);
     }
@@ -81,6 +77,13 @@ not-row : (a b c : RowPart) → NoOperator ≡ Row a b c → ⊥
 not-row a b c e = let z : _≡_ {A = ℕ} 0 1 = cc in omega arith
 
 module _ (a b c : RowPart) where
+  -- a text with a comma, of which f makes the row
+  record Parted (f : List ℕ → List ℕ → Reading) (s : List ℕ) : Type 0 where
+    before : List ℕ
+    after : List ℕ
+    text : s ≡ before ++ (44 ∷ after)
+    read : f before after ≡ Row a b c
+
   parts-by : (first second third : List ℕ) (x y z : PartReading) → partOf first ≡ x → partOf second ≡ y → partOf third ≡ z → rowOf x y z ≡ Row a b c
       → IsOperator (first ++ (44 ∷ (second ++ (44 ∷ third)))) (rowFrom (numbers (Row a b c)))
   unfolding rowFrom
@@ -103,17 +106,18 @@ module _ (a b c : RowPart) where
   unfolding partsOf
   parts-are first second third e = parts-by first second third (partOf first) (partOf second) (partOf third) refl refl refl e
 
-  second-is : (first s : List ℕ) → secondOf first s ≡ Row a b c → IsOperator (first ++ (44 ∷ s)) (rowFrom (numbers (Row a b c)))
-  unfolding secondOf
-  second-is first s e =
+  at-comma : (f : List ℕ → List ℕ → Reading) (s : List ℕ) → atComma f s ≡ Row a b c → Parted f s
+  unfolding atComma
+  at-comma f s e =
       let h = cond-first (hasAt s (beforeComma s) 44) _ NoOperator (Row a b c) (not-row a b c) e in
-      subst (λ (u : List ℕ). IsOperator (first ++ (44 ∷ u)) (rowFrom (numbers (Row a b c)))) (sym (comma-parts s (h .0))) (parts-are first _ _ (h .1))
+      record { before = take (beforeComma s) s; after = drop (beforeComma s + 1) s; text = comma-parts s (h .0); read = h .1 }
 
   pub operator-is : (t : List ℕ) → readingOf t ≡ Row a b c → IsOperator t (rowFrom (numbers (Row a b c)))
-  unfolding readingOf
   operator-is t e =
-      let h = cond-first (hasAt t (beforeComma t) 44) _ NoOperator (Row a b c) (not-row a b c) e in
-      subst (λ (u : List ℕ). IsOperator u (rowFrom (numbers (Row a b c)))) (sym (comma-parts t (h .0))) (second-is _ _ (h .1))
+      let h = at-comma secondOf t e in
+      let k = at-comma (partsOf (h .before)) (h .after) (h .read) in
+      let text : t ≡ h .before ++ (44 ∷ (k .before ++ (44 ∷ k .after))) = h .text ∙ ap (λ (u : List ℕ). h .before ++ (44 ∷ u)) (k .text) in
+      subst (λ (u : List ℕ). IsOperator u (rowFrom (numbers (Row a b c)))) (sym text) (parts-are (h .before) (k .before) (k .after) (k .read))
 
 -- ---- the theorems
 -- the reading is the grammar's, both ways

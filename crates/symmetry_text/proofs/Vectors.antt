@@ -11,7 +11,7 @@ use Rattle.text.specs.Run.{runOf, other, hasAt, kindAt}
 use Rattle.symmetry_fractions.specs.Reading.{isSign, signedOf, unitOf, fractionOf}
 use Rattle.symmetry_parts.specs.Reading.{factor, isFree, withLetter, lastOf, moreOf, firstOf, partOf}
 use Rattle.symmetry_answers.specs.Answers.{rowLength, readingNumber, numbers}
-use Rattle.symmetry_text.specs.Reading.{partsOf, secondOf, readingOf}
+use Rattle.symmetry_text.specs.Reading.{partsOf, atComma, readingOf}
 
 pub record Vector : Type 0 where
   pub typed : String
@@ -69,5 +69,5 @@ abbrev expected : Vector → ℕ × List ℤ
 expected v = (v .number, v .row)
 
 pub vectors-hold : map (λ (v : Vector). answerOf (bytes (v .typed))) vectors ≡ map expected vectors
-unfolding vectors readingOf secondOf partsOf partOf firstOf moreOf lastOf withLetter isFree factor fractionOf unitOf signedOf isSign runOf hasAt kindAt other
+unfolding vectors atComma partsOf partOf firstOf moreOf lastOf withLetter isFree factor fractionOf unitOf signedOf isSign runOf hasAt kindAt other
 vectors-hold = refl

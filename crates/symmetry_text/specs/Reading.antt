@@ -34,10 +34,14 @@ partsOf first second third = rowOf (partOf first) (partOf second) (partOf third)
 abbrev pub beforeComma : List ℕ → ℕ
 beforeComma s = runOf (other 44) s
 
+-- what f makes of the texts before and after the first comma; without a comma there is no operator
+unfoldable pub atComma : (List ℕ → List ℕ → Reading) → List ℕ → Reading
+atComma f s = cond (hasAt s (beforeComma s) 44) (f (take (beforeComma s) s) (drop (beforeComma s + 1) s)) NoOperator
+
 -- after the first comma: the second part, a comma, and the third part
-unfoldable pub secondOf : List ℕ → List ℕ → Reading
-secondOf first s = cond (hasAt s (beforeComma s) 44) (partsOf first (take (beforeComma s) s) (drop (beforeComma s + 1) s)) NoOperator
+abbrev pub secondOf : List ℕ → List ℕ → Reading
+secondOf first = atComma (partsOf first)
 
 -- the first part, a comma, and the rest
-unfoldable pub readingOf : List ℕ → Reading
-readingOf s = cond (hasAt s (beforeComma s) 44) (secondOf (take (beforeComma s) s) (drop (beforeComma s + 1) s)) NoOperator
+abbrev pub readingOf : List ℕ → Reading
+readingOf = atComma secondOf
