@@ -22,11 +22,11 @@ use Rattle.symmetry_parts.proofs.Complete.{part-taken}
 use Rattle.symmetry_parts.proofs.Sound.{part-is}
 use Rattle.symmetry_parts.proofs.Ranges.{numbers-fine, part-lacks-comma, part-lacks-space}
 use Rattle.symmetry_text.specs.Grammar.{IsOperator, ReadAs}
-use Rattle.symmetry_answers.specs.Answers.{rowLength, readingNumber, numbers}
+use Rattle.symmetry_readings.specs.Answers.{rowLength, readingNumber, numbers}
 use Rattle.symmetry_text.specs.Reading.{rowPart, rowOf, partsOf, beforeComma, atComma, secondOf, readingOf}
-use Rattle.symmetry_answers.specs.declared.RowPart.{RowPart}
-use Rattle.symmetry_answers.specs.declared.Reading.{Reading}
-use Rattle.symmetry_answers.specs.declared.Reading.the-variants.{Row, NoOperator}
+use Rattle.symmetry_readings.specs.declared.RowPart.{RowPart}
+use Rattle.symmetry_readings.specs.declared.Reading.{Reading}
+use Rattle.symmetry_readings.specs.declared.Reading.the-variants.{Row, NoOperator}
 
 -- ---- the comma that parts a text
 module _ (a r : List ℕ) (h : all (other 44) a ≡ true) where

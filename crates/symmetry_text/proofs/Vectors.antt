@@ -10,7 +10,7 @@ use Rattle.text.specs.Quote.{bytes}
 use Rattle.text.specs.Run.{runOf, other, hasAt, kindAt}
 use Rattle.symmetry_fractions.specs.Reading.{isSign, signedOf, unitOf, fractionOf}
 use Rattle.symmetry_parts.specs.Reading.{factor, isFree, withLetter, lastOf, moreOf, firstOf, partOf}
-use Rattle.symmetry_answers.specs.Answers.{rowLength, readingNumber, numbers}
+use Rattle.symmetry_readings.specs.Answers.{rowLength, readingNumber, numbers}
 use Rattle.symmetry_text.specs.Reading.{partsOf, atComma, readingOf}
 
 pub record Vector : Type 0 where

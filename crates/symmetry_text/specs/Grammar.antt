@@ -7,9 +7,9 @@ use lib.IntN.{ℤ}
 use Rattle.symmetry_operators.specs.Operator as operator
 use Rattle.symmetry_operators.specs.Check.{rowFrom}
 use Rattle.symmetry_parts.specs.Grammar.{IsPart}
-use Rattle.symmetry_answers.specs.Answers.{numbers}
-use Rattle.symmetry_answers.specs.declared.Reading.{Reading}
-use Rattle.symmetry_answers.specs.declared.Reading.the-variants.{Row, NoOperator}
+use Rattle.symmetry_readings.specs.Answers.{numbers}
+use Rattle.symmetry_readings.specs.declared.Reading.{Reading}
+use Rattle.symmetry_readings.specs.declared.Reading.the-variants.{Row, NoOperator}
 
 -- "three parts with commas": the text of an operator, and its row
 pub record IsOperator (t : List ℕ) (r : operator.Row ℤ) : Type 0 where

@@ -11,9 +11,9 @@ use Rattle.symmetry_parts.specs.Reading.{factor, partOf}
 use Rattle.symmetry_parts.specs.declared.Sum.{Sum}
 use Rattle.symmetry_parts.specs.declared.PartReading.{PartReading}
 use Rattle.symmetry_parts.specs.declared.PartReading.the-variants.{Found, NoPart}
-use Rattle.symmetry_answers.specs.declared.RowPart.{RowPart}
-use Rattle.symmetry_answers.specs.declared.Reading.{Reading}
-use Rattle.symmetry_answers.specs.declared.Reading.the-variants.{Row, NoOperator}
+use Rattle.symmetry_readings.specs.declared.RowPart.{RowPart}
+use Rattle.symmetry_readings.specs.declared.Reading.{Reading}
+use Rattle.symmetry_readings.specs.declared.Reading.the-variants.{Row, NoOperator}
 
 -- the numbers of a part that was read
 abbrev pub rowPart : Sum → RowPart

@@ -3,8 +3,8 @@
 ghost use mathlib.Core.Path.{_≡_};
 ghost use Rattle.symmetry_parts.specs.Reading.{factor};
 ghost use Rattle.symmetry_text.specs.Reading.{rowPart, partsOf, secondOf, readingOf};
-use symmetry_answers::Reading;
-use symmetry_answers::RowPart;
+use symmetry_readings::Reading;
+use symmetry_readings::RowPart;
 use symmetry_fractions::WHOLE;
 use symmetry_parts::PartReading;
 use symmetry_parts::Sum;

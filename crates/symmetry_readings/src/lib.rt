@@ -1,7 +1,7 @@
 // What reading an operator's text answers (document 02, No. 5).
 // A client cites Answers (readingNumber, numbers).
 ghost use mathlib.Core.Path.{_≡_};
-ghost use Rattle.symmetry_answers.specs.Answers.{readingNumber, numbers};
+ghost use Rattle.symmetry_readings.specs.Answers.{readingNumber, numbers};
 
 // A part of a row: the factors of x, y, z, and the translation in 24ths.
 pub struct RowPart {

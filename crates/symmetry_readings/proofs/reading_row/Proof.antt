@@ -1,11 +1,11 @@
--- `symmetry_answers::reading_row` meets its contract.
+-- `symmetry_readings::reading_row` meets its contract.
 -- Assumes nothing.
 use mathlib.Core.Path.{sym, ap, _∙_}
-use Rattle.symmetry_answers.specs.Answers.{numbers}
-use Rattle.symmetry_answers.proofs.Back.{row-back}
+use Rattle.symmetry_readings.specs.Answers.{numbers}
+use Rattle.symmetry_readings.proofs.Back.{row-back}
 use borrow.Author.Needs.{needs}
-use Rattle.symmetry_answers.proofs.reading_row.Statement.{statement}
-use Rattle.symmetry_answers.proofs.reading_row.Tie as tie
+use Rattle.symmetry_readings.proofs.reading_row.Statement.{statement}
+use Rattle.symmetry_readings.proofs.reading_row.Tie as tie
 
 returns : tie.Need-returns
 returns c = sym (ap numbers (c .enum-told .given .1))

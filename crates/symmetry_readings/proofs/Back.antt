@@ -8,9 +8,9 @@ use mir.Val.{toZ, ofZ}
 use mir.Facts.{toZ-ofZ}
 use lib.IntN.{ℤ}
 use lib.Signed.{mag}
-use Rattle.symmetry_answers.specs.Answers.{numbers}
-use Rattle.symmetry_answers.specs.declared.RowPart.{RowPart}
-use Rattle.symmetry_answers.specs.declared.Reading.the-variants.{Row}
+use Rattle.symmetry_readings.specs.Answers.{numbers}
+use Rattle.symmetry_readings.specs.declared.RowPart.{RowPart}
+use Rattle.symmetry_readings.specs.declared.Reading.the-variants.{Row}
 
 abbrev held : ℤ → ℤ
 held z = toZ w8 (ofZ w8 z)

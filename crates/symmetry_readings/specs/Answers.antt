@@ -4,8 +4,8 @@ use Prim.Native.Nat.{ℕ}
 use mathlib.Core.List.{List, [], _∷_}
 use lib.IntN.{ℤ, pos}
 use lib.ListN.{replicate}
-use Rattle.symmetry_answers.specs.declared.Reading.{Reading}
-use Rattle.symmetry_answers.specs.declared.Reading.the-variants.{Row, NoOperator}
+use Rattle.symmetry_readings.specs.declared.Reading.{Reading}
+use Rattle.symmetry_readings.specs.declared.Reading.the-variants.{Row, NoOperator}
 
 -- "twelve": the numbers of a row
 abbrev pub rowLength : ℕ
