@@ -22,7 +22,7 @@ mul-rest m n =
     let f : 12288 * (m / 12288) * n ≡ 12288 * (m / 12288 * n) = mul-assoc 12288 (m / 12288) n in
     mod-by (m % 12288 * n) (m * n) (m / 12288 * n) 0 (omega arith)
 
-rest-mul : (m n : ℕ) → (m * (n % 12288)) % 12288 ≡ (m * n) % 12288
+pub rest-mul : (m n : ℕ) → (m * (n % 12288)) % 12288 ≡ (m * n) % 12288
 rest-mul m n = rw (mul-comm m (n % 12288), mul-comm m n) (mul-rest n m)
 
 strip-left : (a b c x y z : ℕ) → (a % 12288 * x + b % 12288 * y + c % 12288 * z) % 12288 ≡ (a * x + b * y + c * z) % 12288
