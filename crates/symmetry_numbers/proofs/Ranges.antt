@@ -11,7 +11,9 @@ use mir.Syntax.{w8, w16}
 use mir.Val.{SFits, Fits, toZ, ofZ}
 use mir.Facts.{toZ-ofZ}
 use lib.IntN.{ℤ, pos, negsuc, natAbs, _-ℤ_, _+ℤ_, +ℤ-comm, -ℤ-one}
-use lib.Signed.{ltZ, leZ, nonNeg}
+use lib.Signed.{ltZ, leZ, nonNeg, mag}
+use lib.ListN.{length, getD, List·getD-eq-default}
+use mathlib.Core.List.{List}
 use Rattle.symmetry_operators.specs.Residues.{reduced}
 
 pub below : (z m n : ℤ) → ltZ z m ≡ true → (leZ m z && leZ z n) ≡ false
@@ -81,3 +83,13 @@ module _ (z : ℤ) (f : SFits w8 z) where
       go : (y : ℤ) → SFits w8 y → ltZ y (pos 0) ≡ false → natAbs y ≡ reduced y
       go (pos a) g t = sym (mod-eq-of-lt (omega (arith, g .sfits)))
       go (negsuc a) g t = absurd (true≢false t)
+
+-- ---- of a number of a list, by its place
+module _ {A : Type 0} (f : ℤ → A) (l : List ℤ) (i : ℕ) where
+  -- what is said of a number that was passed on
+  pub passed-on : mag (getD l i (pos 0)) < 128 → {a : A} → a ≡ f (toZ w8 (ofZ w8 (getD l i (pos 0)))) → a ≡ f (getD l i (pos 0))
+  passed-on h e = e ∙ ap f (toZ-ofZ {w = w8} {z = getD l i (pos 0)} (record { sfits = h }))
+
+  -- past the end stands 0
+  pub past-end : length l ≤ i → {a : A} → a ≡ f (pos 0) → a ≡ f (getD l i (pos 0))
+  past-end h e = e ∙ ap f (sym (List·getD-eq-default l (pos 0) h))

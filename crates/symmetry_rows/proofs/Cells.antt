@@ -16,16 +16,16 @@ use Rattle.symmetry_operators.specs.Check.{rowFrom}
 use Rattle.symmetry_operators.specs.Residues.{reduced, scaled, residues, rowFromN}
 use Rattle.symmetry_rows.specs.Residues.{cell, cellsFrom, cells}
 
-pub factor-cell : (k : ℕ) (z : ℤ) {n : ℕ} → k < 9 → n ≡ reduced z → n ≡ cell k z
-factor-cell k z h e = e ∙ rw (lt-ltb k 9 h)
+pub factor-cell : (k n : ℕ) → k < 9 → n ≡ cell k n
+factor-cell k n h = rw (lt-ltb k 9 h)
 
-pub translation-cell : (k : ℕ) (z : ℤ) {n : ℕ} → 9 ≤ k → n ≡ reduced z → (512 * n) % 12288 ≡ cell k z
-translation-cell k z h e = ap (λ (m : ℕ). (512 * m) % 12288) e ∙ rw (le-ltb k 9 h)
+pub translation-cell : (k n : ℕ) → 9 ≤ k → (512 * n) % 12288 ≡ cell k n
+translation-cell k n h = rw (le-ltb k 9 h)
 
-cell-at : (l : List ℤ) (n k i : ℕ) → i < n → getD (cellsFrom l k n) i 0 ≡ cell (k + i) (getD l (k + i) (pos 0))
+cell-at : (l : List ℤ) (n k i : ℕ) → i < n → getD (cellsFrom l k n) i 0 ≡ cell (k + i) (reduced (getD l (k + i) (pos 0)))
 cell-at l zero k i h = absurd (omega arith)
-cell-at l (suc n) k zero h = let e : k ≡ k + 0 = omega arith in ap (λ (m : ℕ). cell m (getD l m (pos 0))) e
-cell-at l (suc n) k (suc i) h = let e : suc k + i ≡ k + suc i = omega arith in cell-at l n (suc k) i (omega arith) ∙ ap (λ (m : ℕ). cell m (getD l m (pos 0))) e
+cell-at l (suc n) k zero h = let e : k ≡ k + 0 = omega arith in ap (λ (m : ℕ). cell m (reduced (getD l m (pos 0)))) e
+cell-at l (suc n) k (suc i) h = let e : suc k + i ≡ k + suc i = omega arith in cell-at l n (suc k) i (omega arith) ∙ ap (λ (m : ℕ). cell m (reduced (getD l m (pos 0)))) e
 
 cells-long : (l : List ℤ) (k n : ℕ) → length (cellsFrom l k n) ≡ n
 cells-long l k zero = refl
@@ -39,12 +39,12 @@ pub record Filled (l : List ℤ) (k : ℕ) (out : List ℕ) : Type 0 where
 pub filled-none : (l : List ℤ) (out : List ℕ) → length out ≡ 12 → Filled l 0 out
 filled-none l out e = record { within = omega arith; long = e; filled = refl }
 
-pub filled-more : {l : List ℤ} {k : ℕ} {out : List ℕ} → Filled l k out → k < 12 → {z : ℤ} → z ≡ getD l k (pos 0) → {v : ℕ} → v ≡ cell k z → Filled l (k + 1) (set out k v)
+pub filled-more : {l : List ℤ} {k : ℕ} {out : List ℕ} → Filled l k out → k < 12 → {n : ℕ} → n ≡ reduced (getD l k (pos 0)) → {v : ℕ} → v ≡ cell k n → Filled l (k + 1) (set out k v)
 unfolding cells
-filled-more {l} {k} {out} h m {z} e {v} f =
+filled-more {l} {k} {out} h m e {v} f =
     let c = cells-long l 0 12 in
     let here : v ≡ getD (cellsFrom l 0 12) k 0
-    = f ∙ ap (cell k) e ∙ sym (cell-at l 12 0 k m ∙ ap (λ (n : ℕ). cell n (getD l n (pos 0))) (zero-add k)) in
+    = f ∙ ap (cell k) e ∙ sym (cell-at l 12 0 k m ∙ ap (λ (n : ℕ). cell n (reduced (getD l n (pos 0)))) (zero-add k)) in
     record {
       within = omega arith;
       long = length-set out k v ∙ h .long;

@@ -9,10 +9,6 @@ use lib.ListN.{getD}
 use Rattle.symmetry_operators.specs.Operator.{part, isFactor, isTranslation, finePart, fine}
 use Rattle.symmetry_operators.specs.Check.{rowFrom}
 
--- what a test of a number that was read says of the number
-pub of-read : (p : ℤ → Bool) {a b : ℤ} {t : Bool} → a ≡ b → t ≡ p a → t ≡ p b
-of-read p e f = f ∙ ap p e
-
 module _ (x y z t : ℤ) {a : Bool} (p : a ≡ isFactor x) where
   pub part-1 : not a ≡ true → false ≡ finePart (part x y z t)
   unfolding finePart

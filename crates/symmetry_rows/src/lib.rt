@@ -5,25 +5,24 @@ ghost use lib.ListN.{getD};
 ghost use Rattle.symmetry_operators.specs.Operator.{part, finePart, fine};
 ghost use Rattle.symmetry_operators.specs.Check.{rowFrom};
 ghost use Rattle.symmetry_rows.specs.Residues.{cell, cells};
-use symmetry_numbers::is_factor;
-use symmetry_numbers::is_translation;
-use symmetry_numbers::number_at;
-use symmetry_numbers::reduced;
+use symmetry_numbers::factor_at;
+use symmetry_numbers::reduced_at;
+use symmetry_numbers::translation_at;
 
 // Whether the numbers of a part, by their places, are in range.
 fn part_fine(numbers: &[i8], x: usize, y: usize, z: usize, t: usize) -> bool
     ensures { λ r. ⌜ r ≡ finePart (part (getD (now (numbers .entry)) x (pos 0)) (getD (now (numbers .entry)) y (pos 0)) (getD (now (numbers .entry)) z (pos 0)) (getD (now (numbers .entry)) t (pos 0))) ⌝ }
 {
-    if !is_factor(number_at(numbers, x)) {
+    if !factor_at(numbers, x) {
         return false;
     }
-    if !is_factor(number_at(numbers, y)) {
+    if !factor_at(numbers, y) {
         return false;
     }
-    if !is_factor(number_at(numbers, z)) {
+    if !factor_at(numbers, z) {
         return false;
     }
-    is_translation(number_at(numbers, t))
+    translation_at(numbers, t)
 }
 
 // Whether the numbers of the row at the head of a list are in range.
@@ -39,11 +38,10 @@ pub fn row_fine(numbers: &[i8]) -> bool
     part_fine(numbers, 6, 7, 8, 11)
 }
 
-// The residue of the number at place k of a row.
-fn cell(k: usize, z: i8) -> u16
-    ensures { λ r. ⌜ r ≡ cell k z ⌝ }
+// The residue of the number at place k of a row, from the number modulo 12288.
+fn cell(k: usize, n: u16) -> u16
+    ensures { λ r. ⌜ r ≡ cell k n ⌝ }
 {
-    let n = reduced(z);
     if k < 9 {
         return n;
     }
@@ -57,7 +55,7 @@ pub fn residues_of(numbers: &[i8]) -> [u16; 12]
     let mut out = [0u16; 12];
     let mut k = 0;
     while k < 12 {
-        out[k] = cell(k, number_at(numbers, k));
+        out[k] = cell(k, reduced_at(numbers, k));
         k += 1;
     }
     out

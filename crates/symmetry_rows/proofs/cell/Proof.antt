@@ -1,34 +1,17 @@
+-- `cell` meets its contract.
+-- Assumes nothing.
+use Rattle.symmetry_rows.proofs.Cells.{factor-cell, translation-cell}
 use borrow.Author.Needs.{needs}
 use Rattle.symmetry_rows.proofs.cell.Statement.{statement}
 use Rattle.symmetry_rows.proofs.cell.Tie as tie
 use Rattle.symmetry_rows.proofs.cell.Reads as reads
 use Rattle.symmetry_rows.proofs.cell.Lts as lts
-use Rattle.symmetry_numbers.proofs.reduced.Reads as reduced-reads
 
--- src/lib.rt:46:9
-reduced-requires : tie.Need-reduced-requires
-reduced-requires c κs = search needs
-
--- src/lib.rt:48:9
 returns : tie.Need-returns
-returns c = ?
+returns c = let a = c .before .args in factor-cell (a .k) (a .n) (c .if1 .taken)
 
--- src/lib.rt:50:12
-cast-result : tie.Need-cast-result
-cast-result c = search needs
-
--- src/lib.rt:50:6
-mul-result : tie.Need-mul-result
-mul-result c = search needs
-
--- src/lib.rt:50:5
-cast-result-2 : tie.Need-cast-result-2
-cast-result-2 c = search needs
-
--- src/lib.rt:43:1
 returns-2 : tie.Need-returns-2
-returns-2 c = ?
+returns-2 c = let a = c .before .args in translation-cell (a .k) (a .n) (c .if1 .left)
 
 pub cell-spec : {M : Type 1} → statement M
-cell-spec =
-    tie.close (tie.spec reduced-requires returns cast-result mul-result cast-result-2 returns-2)
+cell-spec = tie.close (tie.spec returns (λ c. search needs) (λ c. search needs) returns-2)

@@ -1,73 +1,28 @@
+-- `part_fine` meets its contract.
+-- Assumes nothing.
+use denote.Ref.{now}
+use lib.IntN.{pos}
+use lib.ListN.{getD}
+use Rattle.symmetry_rows.proofs.Fine.{part-1, part-2, part-3, part-4}
 use borrow.Author.Needs.{needs}
 use Rattle.symmetry_rows.proofs.part_fine.Statement.{statement}
 use Rattle.symmetry_rows.proofs.part_fine.Tie as tie
 use Rattle.symmetry_rows.proofs.part_fine.Reads as reads
 use Rattle.symmetry_rows.proofs.part_fine.Lts as lts
-use Rattle.symmetry_numbers.proofs.is_factor.Reads as is-factor-reads
-use Rattle.symmetry_numbers.proofs.is_translation.Reads as is-translation-reads
-use Rattle.symmetry_numbers.proofs.number_at.Reads as number-at-reads
+use Rattle.symmetry_numbers.proofs.factor_at.Reads as factor-at-reads
+use Rattle.symmetry_numbers.proofs.translation_at.Reads as translation-at-reads
 
--- src/lib.rt:17:19
-number-at-requires : tie.Need-number-at-requires
-number-at-requires c κs = search needs
-
--- src/lib.rt:17:9
-is-factor-requires : tie.Need-is-factor-requires
-is-factor-requires c κs = search needs
-
--- src/lib.rt:18:9
 returns : tie.Need-returns
-returns c = ?
+returns c = let a = c .before .before .args in let l = now (a .numbers) in part-1 (getD l (a .x) (pos 0)) (getD l (a .y) (pos 0)) (getD l (a .z) (pos 0)) (getD l (a .t) (pos 0)) (c .before .factor-at .ensures) (c .if1 .taken)
 
--- src/lib.rt:20:19
-number-at-requires-2 : tie.Need-number-at-requires-2
-number-at-requires-2 c κs = search needs
-
--- src/lib.rt:20:9
-is-factor-requires-2 : tie.Need-is-factor-requires-2
-is-factor-requires-2 c κs = search needs
-
--- src/lib.rt:21:9
 returns-2 : tie.Need-returns-2
-returns-2 c = ?
+returns-2 c = let a = c .before .before .before .before .args in let l = now (a .numbers) in part-2 (getD l (a .x) (pos 0)) (getD l (a .y) (pos 0)) (getD l (a .z) (pos 0)) (getD l (a .t) (pos 0)) (c .before .before .before .factor-at .ensures) (c .before .before .if1 .left) (c .before .factor-at2 .ensures) (c .if2 .taken)
 
--- src/lib.rt:23:19
-number-at-requires-3 : tie.Need-number-at-requires-3
-number-at-requires-3 c κs = search needs
-
--- src/lib.rt:23:9
-is-factor-requires-3 : tie.Need-is-factor-requires-3
-is-factor-requires-3 c κs = search needs
-
--- src/lib.rt:24:9
 returns-3 : tie.Need-returns-3
-returns-3 c = ?
+returns-3 c = let a = c .before .before .before .before .before .before .args in let l = now (a .numbers) in part-3 (getD l (a .x) (pos 0)) (getD l (a .y) (pos 0)) (getD l (a .z) (pos 0)) (getD l (a .t) (pos 0)) (c .before .before .before .before .before .factor-at .ensures) (c .before .before .before .before .if1 .left) (c .before .before .before .factor-at2 .ensures) (c .before .before .if2 .left) (c .before .factor-at3 .ensures) (c .if3 .taken)
 
--- src/lib.rt:26:20
-number-at-requires-4 : tie.Need-number-at-requires-4
-number-at-requires-4 c κs = search needs
-
--- src/lib.rt:26:5
-is-translation-requires : tie.Need-is-translation-requires
-is-translation-requires c κs = search needs
-
--- src/lib.rt:14:1
 returns-4 : tie.Need-returns-4
-returns-4 c = ?
+returns-4 c = let a = c .before .before .before .before .before .before .before .args in let l = now (a .numbers) in part-4 (getD l (a .x) (pos 0)) (getD l (a .y) (pos 0)) (getD l (a .z) (pos 0)) (getD l (a .t) (pos 0)) (c .before .before .before .before .before .before .factor-at .ensures) (c .before .before .before .before .before .if1 .left) (c .before .before .before .before .factor-at2 .ensures) (c .before .before .before .if2 .left) (c .before .before .factor-at3 .ensures) (c .before .if3 .left) (c .translation-at .ensures)
 
 pub part-fine-spec : {M : Type 1} → statement M
-part-fine-spec =
-    tie.close
-    (tie.spec
-    number-at-requires
-    is-factor-requires
-    returns
-    number-at-requires-2
-    is-factor-requires-2
-    returns-2
-    number-at-requires-3
-    is-factor-requires-3
-    returns-3
-    number-at-requires-4
-    is-translation-requires
-    returns-4)
+part-fine-spec = tie.close (tie.spec (λ c κs. search needs) returns (λ c κs. search needs) returns-2 (λ c κs. search needs) returns-3 (λ c κs. search needs) returns-4)

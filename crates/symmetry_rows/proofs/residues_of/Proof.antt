@@ -1,64 +1,33 @@
+-- `residues_of` meets its contract: k residues are there, and `12 - k` are left.
+-- Assumes nothing.
+use Prim.Native.Nat.{ℕ, _-_}
+use lib.ListN.{length-replicate}
+use Rattle.symmetry_rows.proofs.Cells.{Filled, filled-none, filled-more, filled-all}
+use native.Mathlib.Omega.{arith}
 use Rattle.symmetry_rows.proofs.residues_of.Statement.{statement}
 use Rattle.symmetry_rows.proofs.residues_of.Tie as tie
 use Rattle.symmetry_rows.proofs.residues_of.Reads as reads
 use Rattle.symmetry_rows.proofs.residues_of.Lts as lts
-use Rattle.symmetry_numbers.proofs.number_at.Reads as number-at-reads
+use Rattle.symmetry_numbers.proofs.reduced_at.Reads as reduced-at-reads
 use Rattle.symmetry_rows.proofs.cell.Reads as cell-reads
 
 abbrev Inv-loop : tie.InvT-loop
-Inv-loop numbers out₀ k₀ out k = ?
+Inv-loop numbers out₀ k₀ out k = Filled numbers k out
 
 abbrev μ-loop : tie.MeasureT-loop
-μ-loop numbers out₀ k₀ out k = ?
+μ-loop numbers out₀ k₀ out k = 12 - k
 
--- src/lib.rt:59:5
 loop-holds : tie.Need-loop-holds Inv-loop μ-loop
-loop-holds c = ?
+loop-holds c = filled-none _ _ (length-replicate {A = ℕ} 12 0)
 
--- src/lib.rt:60:26
-number-at-requires : tie.Need-number-at-requires Inv-loop μ-loop
-number-at-requires c κs = ?
-
--- src/lib.rt:60:18
-cell-requires : tie.Need-cell-requires Inv-loop μ-loop
-cell-requires c κs = ?
-
--- src/lib.rt:60:9
-mul-out : tie.Need-mul-out Inv-loop μ-loop
-mul-out c = ?
-
--- src/lib.rt:60:9
 array-write-out : tie.Need-array-write-out Inv-loop μ-loop
-array-write-out c = ?
+array-write-out c = omega (arith, c .before .before .before .loop .inv .long)
 
--- src/lib.rt:61:9
-add-k : tie.Need-add-k Inv-loop μ-loop
-add-k c = ?
-
--- src/lib.rt:59:5
-loop-less : tie.Need-loop-less Inv-loop μ-loop
-loop-less c = ?
-
--- src/lib.rt:59:5
 loop-again : tie.Need-loop-again Inv-loop μ-loop
-loop-again c = ?
+loop-again c = filled-more (c .before .before .before .loop .inv) (c .before .before .loop-test .taken) (c .before .reduced-at .ensures) (c .cell .ensures)
 
--- src/lib.rt:54:1
 returns : tie.Need-returns Inv-loop μ-loop
-returns c = ?
+returns c = filled-all (c .before .loop .inv) (c .loop-test .left)
 
 pub residues-of-spec : {M : Type 1} → statement M
-residues-of-spec =
-    tie.close
-    (tie.spec
-    Inv-loop
-    μ-loop
-    loop-holds
-    number-at-requires
-    cell-requires
-    mul-out
-    array-write-out
-    add-k
-    loop-less
-    loop-again
-    returns)
+residues-of-spec = tie.close (tie.spec Inv-loop μ-loop loop-holds (λ c κs. omega arith) (λ c κs. omega arith) (λ c. omega arith) array-write-out (λ c. omega arith) (λ c. omega arith) loop-again returns)

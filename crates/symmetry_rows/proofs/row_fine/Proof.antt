@@ -1,3 +1,7 @@
+-- `row_fine` meets its contract.
+-- Assumes nothing.
+use denote.Ref.{now}
+use Rattle.symmetry_rows.proofs.Fine.{row-1, row-2, row-3}
 use borrow.Author.Needs.{needs}
 use Rattle.symmetry_rows.proofs.row_fine.Statement.{statement}
 use Rattle.symmetry_rows.proofs.row_fine.Tie as tie
@@ -5,37 +9,14 @@ use Rattle.symmetry_rows.proofs.row_fine.Reads as reads
 use Rattle.symmetry_rows.proofs.row_fine.Lts as lts
 use Rattle.symmetry_rows.proofs.part_fine.Reads as part-fine-reads
 
--- src/lib.rt:33:9
-part-fine-requires : tie.Need-part-fine-requires
-part-fine-requires c κs = search needs
-
--- src/lib.rt:34:9
 returns : tie.Need-returns
-returns c = ?
+returns c = row-1 (now (c .before .before .args .numbers)) (c .before .part-fine .ensures) (c .if1 .taken)
 
--- src/lib.rt:36:9
-part-fine-requires-2 : tie.Need-part-fine-requires-2
-part-fine-requires-2 c κs = search needs
-
--- src/lib.rt:37:9
 returns-2 : tie.Need-returns-2
-returns-2 c = ?
+returns-2 c = row-2 (now (c .before .before .before .before .args .numbers)) (c .before .before .before .part-fine .ensures) (c .before .before .if1 .left) (c .before .part-fine2 .ensures) (c .if2 .taken)
 
--- src/lib.rt:39:5
-part-fine-requires-3 : tie.Need-part-fine-requires-3
-part-fine-requires-3 c κs = search needs
-
--- src/lib.rt:30:1
 returns-3 : tie.Need-returns-3
-returns-3 c = ?
+returns-3 c = row-3 (now (c .before .before .before .before .before .args .numbers)) (c .before .before .before .before .part-fine .ensures) (c .before .before .before .if1 .left) (c .before .before .part-fine2 .ensures) (c .before .if2 .left) (c .part-fine3 .ensures)
 
 pub row-fine-spec : {M : Type 1} → statement M
-row-fine-spec =
-    tie.close
-    (tie.spec
-    part-fine-requires
-    returns
-    part-fine-requires-2
-    returns-2
-    part-fine-requires-3
-    returns-3)
+row-fine-spec = tie.close (tie.spec (λ c κs. search needs) returns (λ c κs. search needs) returns-2 (λ c κs. search needs) returns-3)
