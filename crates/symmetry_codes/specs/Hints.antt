@@ -5,7 +5,7 @@ use mathlib.Core.List.{List, [], _∷_}
 use lib.ListN.{set, replicate}
 
 abbrev pub hintOf : ℕ → ℕ
-hintOf c = c % 4093
+hintOf c = c % 4051
 
 -- the hints h with those of the codes from place i on
 unfoldable pub hintsFrom : ℕ → List ℕ → List ℕ → List ℕ

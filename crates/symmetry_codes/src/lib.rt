@@ -39,7 +39,7 @@ pub fn are_distinct(codes: &[u64]) -> bool
 fn hint_of(c: u64) -> usize
     ensures { λ r. ⌜ (r ≡ hintOf c) × (r < 4096) ⌝ }
 {
-    (c % 4093) as usize
+    (c % 4051) as usize
 }
 
 // For each code the place where it stands, as a hint where to look first.
