@@ -16,10 +16,10 @@ use Rattle.text.specs.Run.{all}
 use Rattle.symmetry_operators.specs.Operator.{Row, product, identity, same, turns}
 use Rattle.symmetry_operators.specs.Lists.{has, distinct, looked, withEach, pairsWith}
 use Rattle.symmetry_operators.specs.Check.{rowsOf, closes, pairs, closing, judged, shaped, checked, outcome, Outcome}
-use Rattle.symmetry_operators.specs.Wording.{rowAt, Earlier, Closes, FirstMissing, Counted}
+use Rattle.symmetry_operators.specs.Wording.{rowAt, Earlier, Closes, ProductMissing, FirstMissing, Counted}
 use Rattle.symmetry_operators.proofs.Pigeon.{by-cases}
 use Rattle.symmetry_operators.proofs.Runs.{run, run-le, all-run, looked-run, first-fails, before-holds, length-with, length-pairs}
-use Rattle.symmetry_operators.proofs.Words.{has-row, row-has}
+use Rattle.symmetry_operators.proofs.Words.{has-row, row-has, in-at}
 
 module _ {A : Type 0} (d : A) where
   with-at : (a : A) (m : List A) (j : ℕ) → j < length m → getD (withEach a m) j (d, d) ≡ (a, getD m j d)
@@ -66,7 +66,7 @@ module _ (l : List (Row ℤ)) where
   earlier i j k m h (inl e) = let g = mul-le-mul-right size e in let q = suc-mul i size in omega arith
   earlier i j k m h (inr e) = let g : i * size ≡ k * size = ap (λ (n : ℕ). n * size) (e .0) in let f = e .1 in omega arith
 
-  first-missing : all (closes l) (pairs l) ≡ false → FirstMissing l (looked (closes l) (pairs l))
+  pub first-missing : all (closes l) (pairs l) ≡ false → FirstMissing l (looked (closes l) (pairs l))
   first-missing e =
       let d : Row ℤ × Row ℤ = (identity, identity) in
       let p = run (closes l) (pairs l) in
@@ -92,6 +92,17 @@ module _ (l : List (Row ℤ)) where
           let b = length-pairs l l in
           let c = eqb-false (run (closes l) (pairs l)) (length (pairs l)) (sym (all-run (closes l) (pairs l)) ∙ e) in
           below a b c
+
+  pub product-missing : all (closes l) (pairs l) ≡ false → ProductMissing l
+  product-missing e =
+      let m = first-missing e in
+      record {
+        first = rowAt l (m .first);
+        second = rowAt l (m .second);
+        first-in = in-at l (m .first) identity (m .first-within);
+        second-in = in-at l (m .second) identity (m .second-within);
+        missing = m .missing;
+      }
 
   all-counted : all (closes l) (pairs l) ≡ true → looked (closes l) (pairs l) ≡ size * size
   all-counted e = looked-run (closes l) (pairs l) ∙ ap (λ (t : Bool). cond t (length (pairs l)) (suc (run (closes l) (pairs l)))) e ∙ length-pairs l l
