@@ -3,51 +3,17 @@
 use mathlib.Core.Path.{_≡_, refl, sym, ap, _∙_}
 use mathlib.Core.Bool.{Bool, true, false, cond, _&&_}
 use mathlib.Core.List.{List}
-use Prim.Native.Nat.{ℕ, suc, _+_, _*_, _/_, _%_, _≤_, _<_}
-use native.Mathlib.Numerals.{add-one}
-use borrow.Author.Tests.{eq-eqb, ne-eqb, le-leb, lt-leb}
+use Prim.Native.Nat.{ℕ, _*_, _/_, _%_, _≤_, _<_}
+use borrow.Author.Tests.{eq-eqb, ne-eqb, leb-true}
 use lib.Dec.{eqb, leb}
 use lib.IntN.{ℤ}
-use lib.ListN.{length, length-map}
+use lib.ListN.{length}
 use Rattle.text.specs.Run.{all}
 use Rattle.symmetry_operators.specs.Operator.{fine}
-use Rattle.symmetry_operators.specs.Lists.{has, distinct}
-use Rattle.symmetry_operators.specs.Check.{rowMost, Outcome, outcome, rowFrom, rowsOf, rowsFrom, shaped, checked}
-use Rattle.symmetry_operators.specs.Residues.{code, turning, runPairs, identityCode, closedBy, closedN, codesOf, judgedN}
-use Rattle.symmetry_operators.proofs.Cut.{length-cut}
+use Rattle.symmetry_operators.specs.Check.{rowMost, Outcome, outcome, rowsOf, judged, shaped, checked}
+use Rattle.symmetry_operators.specs.Residues.{judgedN}
 use Rattle.symmetry_operators.proofs.Bridge.{judged-codes}
-
-module _ (n : ℕ) (l : List ℤ) (codes : List ℕ) where
-  pub no-identity : has eqb codes identityCode ≡ false → outcome 15 0 ≡ closedN n l codes
-  unfolding closedN
-  no-identity e = rw e
-
-  module _ (there : has eqb codes identityCode ≡ true) where
-    pub equal-rows : distinct eqb codes ≡ false → outcome 16 0 ≡ closedN n l codes
-    unfolding closedN
-    equal-rows e = rw (there, e)
-
-    module _ (differ : distinct eqb codes ≡ true) {found : ℕ} (e : found ≡ runPairs codes (rowsFrom n l)) where
-      closed-by : closedBy found (n * n) ≡ closedN n l codes
-      unfolding closedN
-      closed-by = rw (there, differ) (ap (λ (m : ℕ). closedBy m (n * n)) e)
-
-      pub all-closed : found ≡ n * n → outcome 0 (n * n) ≡ closedN n l codes
-      all-closed f = ap (λ (t : Bool). cond t (outcome 0 (n * n)) (outcome 17 (suc found))) (sym (eq-eqb found (n * n) f)) ∙ closed-by
-
-      pub missing : (found ≡ n * n → ⊥) → outcome 17 (found + 1) ≡ closedN n l codes
-      missing f = ap (outcome 17) (add-one found) ∙ ap (λ (t : Bool). cond t (outcome 0 (n * n)) (outcome 17 (suc found))) (sym (ne-eqb found (n * n) f)) ∙ closed-by
-
-module _ (n : ℕ) (l : List ℤ) where
-  pub no-unit : all turning (rowsFrom n l) ≡ false → outcome 14 0 ≡ judgedN n l
-  unfolding judgedN
-  no-unit e = rw e
-
-  pub units : all turning (rowsFrom n l) ≡ true → {r : Outcome} (codes : List ℕ) → r ≡ closedN (length codes) l codes → codes ≡ codesOf n l → r ≡ judgedN n l
-  unfolding judgedN
-  units e codes f g =
-      let size : length (codesOf n l) ≡ n = length-map (rowsFrom n l) code ∙ length-cut rowFrom n l in
-      f ∙ ap (λ (m : List ℕ). closedN (length m) l m) g ∙ ap (λ (m : ℕ). closedN m l (codesOf n l)) size ∙ rw e
+use Rattle.symmetry_judged.specs.Judged.{judgedFew}
 
 module _ (l : List ℤ) where
   pub part-row : (length l % 12 ≡ 0 → ⊥) → outcome 13 0 ≡ checked l
@@ -55,15 +21,20 @@ module _ (l : List ℤ) where
   part-row e = rw (ne-eqb (length l % 12) 0 e)
 
   module _ (whole : length l % 12 ≡ 0) where
-    pub too-long : 12 * rowMost < length l → outcome 13 0 ≡ checked l
+    pub out-of-range : all fine (rowsOf l) ≡ false → outcome 13 0 ≡ checked l
     unfolding checked shaped
-    too-long e = rw (eq-eqb (length l % 12) 0 whole, lt-leb (length l) (12 * rowMost) e)
+    out-of-range e = rw (eq-eqb (length l % 12) 0 whole, e) (go (leb (length l) (12 * rowMost)))
+      where
+        go : (t : Bool) → outcome 13 0 ≡ cond (t && false) (judged (rowsOf l)) (outcome 13 0)
+        go true = refl
+        go false = refl
 
-    module _ (short : length l ≤ 12 * rowMost) where
-      pub out-of-range : all fine (rowsOf l) ≡ false → outcome 13 0 ≡ checked l
-      unfolding checked shaped
-      out-of-range e = rw (eq-eqb (length l % 12) 0 whole, le-leb (length l) (12 * rowMost) short, e)
-
-      pub in-range : all fine (rowsOf l) ≡ true → {r : Outcome} → r ≡ judgedN (length l / 12) l → r ≡ checked l
-      unfolding checked shaped
-      in-range e f = f ∙ sym (judged-codes (length l / 12) l e) ∙ rw (eq-eqb (length l % 12) 0 whole, le-leb (length l) (12 * rowMost) short, e)
+    pub in-range : all fine (rowsOf l) ≡ true → {r : Outcome} → r ≡ judgedFew l → r ≡ checked l
+    unfolding checked shaped judgedFew
+    in-range e f =
+        f ∙ ap (λ (o : Outcome). cond (leb (length l) (12 * rowMost)) o (outcome 13 0)) (sym (judged-codes (length l / 12) l e))
+        ∙ rw (eq-eqb (length l % 12) 0 whole, e) (go (leb (length l) (12 * rowMost)))
+      where
+        go : (t : Bool) → cond t (judged (rowsOf l)) (outcome 13 0) ≡ cond (t && true) (judged (rowsOf l)) (outcome 13 0)
+        go true = refl
+        go false = refl

@@ -1,3 +1,1 @@
-pub mod Read
-pub mod Looked
 pub mod Answers

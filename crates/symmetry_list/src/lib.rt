@@ -1,39 +1,21 @@
 // The check of a list of symmetry operators, lent as rows of twelve whole numbers (document 02, No. 5).
 ghost use mathlib.Core.Path.{_≡_};
-ghost use Prim.Native.Nat.{_+_, _*_, _≤_, _/_};
-ghost use lib.ListN.{length, take};
-ghost use Rattle.text.specs.Run.{all, runOf};
+ghost use Rattle.text.specs.Run.{all};
 ghost use Rattle.symmetry_operators.specs.Operator.{fine};
-ghost use Rattle.symmetry_operators.specs.Check.{rowsOf, rowsFrom, checked};
-ghost use Rattle.symmetry_operators.specs.Residues.{rowFromN, turning, closesCode, runPairs, codesOf, closedN, judgedN};
-ghost use Rattle.symmetry_list.specs.Answer.{outcomeOf, refusedBy};
+ghost use Rattle.symmetry_operators.specs.Check.{rowsOf, checked};
+ghost use Rattle.symmetry_judged.specs.Answer.{outcomeOf};
 use symmetry_answers::ListAnswer;
-use symmetry_codes::are_distinct;
-use symmetry_codes::has_code;
-use symmetry_codes::has_hinted;
-use symmetry_codes::hints_of;
-use symmetry_products::has_unit;
-use symmetry_products::product_code;
-use symmetry_rows::residues_of;
+use symmetry_judged::Checked;
+use symmetry_judged::judge;
+use symmetry_judged::refused;
+use symmetry_operators::ROW_LENGTH;
 use symmetry_rows::row_fine;
-
-// At most so many rows.
-const ROW_MOST: usize = 192;
-
-// The code of the identity.
-const IDENTITY: u64 = 4295491648;
-
-// The answer, and how many pairs were looked at.
-pub struct Checked {
-    pub answer: ListAnswer,
-    pub pairs: u64,
-}
 
 // Whether the numbers of all rows are in range.
 fn all_fine(rows: &[i8]) -> bool
     ensures { λ r. ⌜ r ≡ all fine (rowsOf (now (rows .entry))) ⌝ }
 {
-    let n = rows.len() / 12;
+    let n = rows.len() / ROW_LENGTH;
     let mut i = 0;
     let mut at = 0;
     while i < n {
@@ -41,136 +23,20 @@ fn all_fine(rows: &[i8]) -> bool
             return false;
         }
         i += 1;
-        at += 12;
+        at += ROW_LENGTH;
     }
     true
-}
-
-// Whether the determinants of n rows are 1 or −1.
-fn all_units(rows: &[i8], n: usize) -> bool
-    requires { ⌜ 12 * n ≤ length (now rows) ⌝ }
-    ensures { λ r. ⌜ r ≡ all turning (rowsFrom n (now (rows .entry))) ⌝ }
-{
-    let mut i = 0;
-    let mut at = 0;
-    while i < n {
-        if !has_unit(residues_of(&rows[at..])) {
-            return false;
-        }
-        i += 1;
-        at += 12;
-    }
-    true
-}
-
-// The codes of n rows: each is the code of its product with the identity.
-fn codes_of(rows: &[i8], n: usize) -> [u64; 192]
-    requires { ⌜ (12 * n ≤ length (now rows)) × (n ≤ 192) ⌝ }
-    ensures { λ r. ⌜ take n r ≡ codesOf n (now (rows .entry)) ⌝ }
-{
-    let mut codes = [0u64; 192];
-    let mut i = 0;
-    let mut at = 0;
-    while i < n {
-        codes[i] = product_code(residues_of(&rows[at..]), IDENTITY);
-        i += 1;
-        at += 12;
-    }
-    codes
-}
-
-// How many products of one row with the others come before the first that is not there.
-fn row_run(first: [u16; 12], codes: &[u64], hints: &[u8; 4096]) -> usize
-    ensures { λ r. ⌜ (r ≡ runOf (closesCode (now (codes .entry)) (rowFromN first)) (now (codes .entry))) × (r ≤ length (now (codes .entry))) ⌝ }
-{
-    let mut j = 0;
-    while j < codes.len() {
-        if !has_hinted(codes, hints, product_code(first, codes[j])) {
-            return j;
-        }
-        j += 1;
-    }
-    j
-}
-
-// How many pairs come before the first whose product is not there.
-fn pair_run(rows: &[i8], codes: &[u64]) -> usize
-    requires { ⌜ (12 * length (now codes) ≤ length (now rows)) × (length (now codes) ≤ 192) ⌝ }
-    ensures { λ r. ⌜ r ≡ runPairs (now (codes .entry)) (rowsFrom (length (now (codes .entry))) (now (rows .entry))) ⌝ }
-{
-    let hints = hints_of(codes);
-    let n = codes.len();
-    let mut i = 0;
-    let mut at = 0;
-    let mut before = 0;
-    while i < n {
-        let found = row_run(residues_of(&rows[at..]), codes, &hints);
-        if found < n {
-            return before + found;
-        }
-        i += 1;
-        at += 12;
-        before += n;
-    }
-    before
-}
-
-fn refused(answer: ListAnswer) -> Checked
-    ensures { λ r. ⌜ r ≡ refusedBy answer ⌝ }
-{
-    Checked { answer, pairs: 0 }
-}
-
-// The codes of the rows, judged: the identity, equal rows, products.
-fn closed(rows: &[i8], codes: &[u64]) -> Checked
-    requires { ⌜ (12 * length (now codes) ≤ length (now rows)) × (length (now codes) ≤ 192) ⌝ }
-    ensures { λ r. ⌜ outcomeOf r ≡ closedN (length (now (codes .entry))) (now (rows .entry)) (now (codes .entry)) ⌝ }
-{
-    if !has_code(codes, IDENTITY) {
-        return refused(ListAnswer::NoIdentity);
-    }
-    if !are_distinct(codes) {
-        return refused(ListAnswer::EqualRows);
-    }
-    let found = pair_run(rows, codes);
-    let most = codes.len() * codes.len();
-    if found == most {
-        return Checked {
-            answer: ListAnswer::Accepted,
-            pairs: most as u64,
-        };
-    }
-    Checked {
-        answer: ListAnswer::ProductMissing,
-        pairs: found as u64 + 1,
-    }
-}
-
-// The n rows of a list, judged.
-fn judged(rows: &[i8], n: usize) -> Checked
-    requires { ⌜ (12 * n ≤ length (now rows)) × (n ≤ 192) ⌝ }
-    ensures { λ r. ⌜ outcomeOf r ≡ judgedN n (now (rows .entry)) ⌝ }
-{
-    if !all_units(rows, n) {
-        return refused(ListAnswer::BadDeterminant);
-    }
-    let codes = codes_of(rows, n);
-    closed(rows, &codes[..n])
 }
 
 // The check of a list of operators. The list is only read.
 pub fn check_list(rows: &[i8]) -> Checked
     ensures { λ r. ⌜ outcomeOf r ≡ checked (now (rows .entry)) ⌝ }
 {
-    let len = rows.len();
-    if len % 12 != 0 {
-        return refused(ListAnswer::NoList);
-    }
-    if len > 12 * ROW_MOST {
+    if rows.len() % ROW_LENGTH != 0 {
         return refused(ListAnswer::NoList);
     }
     if !all_fine(rows) {
         return refused(ListAnswer::NoList);
     }
-    judged(rows, len / 12)
+    judge(rows)
 }

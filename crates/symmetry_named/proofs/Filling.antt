@@ -19,8 +19,9 @@ use mir.Syntax.{w8}
 use mir.Val.{toZ, ofZ}
 use mir.Facts.{toZ-ofZ}
 use Rattle.symmetry_operators.proofs.Pigeon.{by-cases}
-use Rattle.symmetry_list.proofs.Answers.{too-long}
+use Rattle.symmetry_operators.proofs.Words.{not-list}
 use Rattle.symmetry_operators.specs.Check.{outcome, checked}
+use Rattle.symmetry_operators.specs.Wording.{too-many}
 
 pub twelve-stores : (l : List ℤ) (k : ℕ) (a0 a1 a2 a3 a4 a5 a6 a7 a8 a9 a10 a11 : ℤ)
     → set (set (set (set (set (set (set (set (set (set (set (set l k a0) (k + 1) a1) (k + 2) a2) (k + 3) a3) (k + 4) a4) (k + 5) a5) (k + 6) a6) (k + 7) a7) (k + 8) a8) (k + 9) a9) (k + 10) a10) (k + 11) a11
@@ -119,4 +120,4 @@ named-law l = by-cases (leb (length l) 192)
     (λ t. let h = leb-true (length l) 192 t in
     sym (few-rows (filledTo l (length l)) (length l) h) ∙ ap checked (filled l (length l) (le-refl _) h .so-far ∙ ap numbersOf (take-length l)))
     (λ t. let h = leb-false (length l) 192 t in let e = numbers-length l in
-    sym (many-rows (filledTo l (length l)) (length l) h) ∙ too-long (numbersOf l) (ap (λ (n : ℕ). n % 12) e ∙ mul-mod-right 12 (length l)) (omega arith))
+    sym (many-rows (filledTo l (length l)) (length l) h) ∙ not-list (numbersOf l) (too-many (omega arith)))

@@ -37,17 +37,17 @@ checkedNamed l = checked (numbersOf l)
 
 -- ---- the numbers of at most 192 rows, filled in one by one
 unfoldable pub noRows : Flat
-noRows = record { numbers = replicate 2304 (pos 0) }
+noRows = record { numbers = replicate (12 * rowMost) (pos 0) }
 
 abbrev pub storedRow : Flat → ℕ → Operator → Flat
 storedRow f i o = record { numbers = sets (f .numbers) (12 * i) (twelve o) }
 
 unfoldable pub withRow : Flat → ℕ → Operator → Flat
-withRow f i o = cond (ltb i 192) (storedRow f i o) f
+withRow f i o = cond (ltb i rowMost) (storedRow f i o) f
 
 unfoldable pub filledTo : List Operator → ℕ → Flat
 filledTo l zero = noRows
 filledTo l (suc i) = withRow (filledTo l i) i (getD l i noOperator)
 
 unfoldable pub flatChecked : Flat → ℕ → Outcome
-flatChecked f n = cond (leb n 192) (checked (take (12 * n) (f .numbers))) (outcome 13 0)
+flatChecked f n = cond (leb n rowMost) (checked (take (12 * n) (f .numbers))) (outcome 13 0)

@@ -1,11 +1,15 @@
 // Operators by name, and the list of numbers that their check is lent (document 02, No. 5).
 ghost use mathlib.Core.Path.{_≡_};
 ghost use Prim.Native.Nat.{_<_};
-ghost use Rattle.symmetry_list.specs.Answer.{outcomeOf};
+ghost use Rattle.symmetry_judged.specs.Answer.{outcomeOf};
 ghost use Rattle.symmetry_named.specs.Named.{noRows, storedRow, withRow, flatChecked};
 use symmetry_answers::ListAnswer;
-use symmetry_list::Checked;
+use symmetry_judged::Checked;
+use symmetry_judged::refused;
 use symmetry_list::check_list;
+use symmetry_operators::LIST_MOST;
+use symmetry_operators::ROW_LENGTH;
+use symmetry_operators::ROW_MOST;
 
 // Nine factors, part by part, and three translations in 24ths.
 pub struct Operator {
@@ -15,14 +19,16 @@ pub struct Operator {
 
 // The numbers of 192 rows, and room for no more.
 pub struct Flat {
-    pub numbers: [i8; 2304],
+    pub numbers: [i8; LIST_MOST],
 }
 
 // No rows yet.
 pub fn no_rows() -> Flat
     ensures { λ r. ⌜ r ≡ noRows ⌝ }
 {
-    Flat { numbers: [0; 2304] }
+    Flat {
+        numbers: [0; LIST_MOST],
+    }
 }
 
 // The numbers of an operator, stored as row i.
@@ -33,7 +39,7 @@ fn stored(f: Flat, i: usize, o: Operator) -> Flat
     let mut v = f.numbers;
     let a = o.factors;
     let t = o.translations;
-    let at = 12 * i;
+    let at = ROW_LENGTH * i;
     v[at] = a[0];
     v[at + 1] = a[1];
     v[at + 2] = a[2];
@@ -53,7 +59,7 @@ fn stored(f: Flat, i: usize, o: Operator) -> Flat
 pub fn with_row(f: Flat, i: usize, o: Operator) -> Flat
     ensures { λ r. ⌜ r ≡ withRow f i o ⌝ }
 {
-    if i < 192 {
+    if i < ROW_MOST {
         return stored(f, i, o);
     }
     f
@@ -63,13 +69,10 @@ pub fn with_row(f: Flat, i: usize, o: Operator) -> Flat
 pub fn check_flat(f: Flat, n: usize) -> Checked
     ensures { λ r. ⌜ outcomeOf r ≡ flatChecked f n ⌝ }
 {
-    if n <= 192 {
+    if n <= ROW_MOST {
         let v = f.numbers;
-        let end = 12 * n;
+        let end = ROW_LENGTH * n;
         return check_list(&v[..end]);
     }
-    Checked {
-        answer: ListAnswer::NoList,
-        pairs: 0,
-    }
+    refused(ListAnswer::NoList)
 }

@@ -4,6 +4,7 @@ ghost use lib.IntN.{pos};
 ghost use lib.ListN.{getD};
 ghost use Rattle.symmetry_operators.specs.Operator.{isFactor, isTranslation};
 ghost use Rattle.symmetry_operators.specs.Residues.{reduced};
+use symmetry_operators::MINUS_ONE;
 
 // Whether z may be a factor.
 fn is_factor(z: i8) -> bool
@@ -30,7 +31,7 @@ fn reduced(z: i8) -> u16
     ensures { λ r. ⌜ r ≡ reduced z ⌝ }
 {
     if z < 0 {
-        return 12287 - (-1 - z) as u16;
+        return MINUS_ONE - (-1 - z) as u16;
     }
     z as u16
 }

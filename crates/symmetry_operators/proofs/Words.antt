@@ -100,6 +100,10 @@ list-or-not n h (too-many f) = let k = h .few in omega arith
 list-or-not n h (part-row f) = f (h .whole-rows)
 list-or-not n h (out-of-range s) = fails (s .so) (h .in-range (s .one) (s .inside))
 
+pub not-list : (n : List ℤ) → NoList n → outcome 13 0 ≡ checked n
+unfolding checked
+not-list n h = ap (λ (t : Bool). cond t (judged (rowsOf n)) (outcome 13 0)) (sym (not-holds (shaped n) (λ e. list-or-not n (shaped-is n e) h)))
+
 -- "every determinant is 1 or −1"
 pub turns-is : (r : Row ℤ) → turns r ≡ true → HasUnit r
 unfolding turns

@@ -5,6 +5,11 @@ ghost use Prim.Native.Nat.{_+_, _*_, _%_, _≤_};
 ghost use lib.Dec.{eqb};
 ghost use Rattle.symmetry_operators.specs.Operator.{part};
 ghost use Rattle.symmetry_operators.specs.Residues.{minorN, turnsN, packed, wordAfter, productCode, rowFromN};
+use symmetry_operators::MINUS_ONE;
+use symmetry_operators::MODULUS;
+
+// A number times this is the number with the other sign.
+const NEGATED: u64 = MODULUS - 1;
 
 // A product, and a bound of it.
 fn mul(a: u16, b: u16) -> u64
@@ -16,14 +21,14 @@ fn mul(a: u16, b: u16) -> u64
 fn minor(a: u16, b: u16, c: u16, d: u16) -> u16
     ensures { λ r. ⌜ r ≡ minorN a b c d % 12288 ⌝ }
 {
-    ((mul(a, d) + 12287 * mul(b, c)) % 12288) as u16
+    ((mul(a, d) + NEGATED * mul(b, c)) % MODULUS) as u16
 }
 
 // The determinant, by the minors of the first part.
 fn expanded(a: u16, m: u16, b: u16, n: u16, c: u16, o: u16) -> u16
     ensures { λ r. ⌜ r ≡ (a * m + 12287 * (b * n) + c * o) % 12288 ⌝ }
 {
-    ((mul(a, m) + 12287 * mul(b, n) + mul(c, o)) % 12288) as u16
+    ((mul(a, m) + NEGATED * mul(b, n) + mul(c, o)) % MODULUS) as u16
 }
 
 fn is_unit(n: u16) -> bool
@@ -32,7 +37,7 @@ fn is_unit(n: u16) -> bool
     if n == 1 {
         return true;
     }
-    n == 12287
+    n == MINUS_ONE
 }
 
 // Whether the determinant of a row of residues is 1 or −1.
@@ -49,7 +54,7 @@ pub fn has_unit(numbers: [u16; 12]) -> bool
 fn word_after(x: u16, y: u16, z: u16, t: u16, a: u16, b: u16, c: u16) -> u16
     ensures { λ r. ⌜ r ≡ wordAfter (part x y z t) a b c ⌝ }
 {
-    ((mul(x, a) + mul(y, b) + mul(z, c) + t as u64) % 12288) as u16
+    ((mul(x, a) + mul(y, b) + mul(z, c) + t as u64) % MODULUS) as u16
 }
 
 fn pack(a: u16, b: u16, c: u16) -> u64

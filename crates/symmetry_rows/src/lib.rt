@@ -8,6 +8,8 @@ ghost use Rattle.symmetry_rows.specs.Residues.{cell, cells};
 use symmetry_numbers::factor_at;
 use symmetry_numbers::reduced_at;
 use symmetry_numbers::translation_at;
+use symmetry_operators::MODULUS;
+use symmetry_operators::ROW_LENGTH;
 
 // Whether the numbers of a part, by their places, are in range.
 fn part_fine(numbers: &[i8], x: usize, y: usize, z: usize, t: usize) -> bool
@@ -45,16 +47,16 @@ fn cell(k: usize, n: u16) -> u16
     if k < 9 {
         return n;
     }
-    (512 * n as u64 % 12288) as u16
+    (512 * n as u64 % MODULUS) as u16
 }
 
 // The twelve residues of the row at the head of a list.
-pub fn residues_of(numbers: &[i8]) -> [u16; 12]
+pub fn residues_of(numbers: &[i8]) -> [u16; ROW_LENGTH]
     ensures { λ r. ⌜ r ≡ cells (now (numbers .entry)) ⌝ }
 {
-    let mut out = [0u16; 12];
+    let mut out = [0u16; ROW_LENGTH];
     let mut k = 0;
-    while k < 12 {
+    while k < ROW_LENGTH {
         out[k] = cell(k, reduced_at(numbers, k));
         k += 1;
     }

@@ -2,9 +2,9 @@
 ghost use mathlib.Core.Path.{_≡_};
 ghost use Prim.Native.Nat.{_<_};
 ghost use lib.ListN.{length, getD};
-ghost use Rattle.symmetry_list.specs.Answer.{outcomeOf};
+ghost use Rattle.symmetry_judged.specs.Answer.{outcomeOf};
 ghost use Rattle.symmetry_named.specs.Named.{noOperator, checkedNamed};
-use symmetry_list::Checked;
+use symmetry_judged::Checked;
 use symmetry_named::Operator;
 use symmetry_named::check_flat;
 use symmetry_named::no_rows;

@@ -2,7 +2,8 @@
 -- Assumes nothing.
 use denote.Ref.{now}
 use Prim.Native.Nat.{_-_}
-use Rattle.symmetry_list.proofs.Read.{fine-read, taken, left}
+use mathlib.Core.Path.{ap, _∙_}
+use Rattle.symmetry_judged.proofs.Read.{rest-is, taken, left}
 use Rattle.symmetry_operators.specs.Operator.{fine}
 use Rattle.symmetry_operators.specs.Check.{rowFrom}
 use Rattle.symmetry_operators.proofs.Cut.{Tested, tested-none, tested-more, tested-fails, tested-all}
@@ -23,10 +24,10 @@ loop-holds : tie.Need-loop-holds Inv-loop μ-loop
 loop-holds c = tested-none rowFrom _ _ fine
 
 returns : tie.Need-returns Inv-loop μ-loop
-returns c = let l = c .before .before .before .before in tested-fails rowFrom _ _ fine (l .loop .inv) (c .before .before .before .loop-test .taken) (left (fine-read (now (l .before .args .rows)) (l .loop .at) (c .before .row-fine .ensures)) (c .if1 .taken))
+returns c = let l = c .before .before .before .before in tested-fails rowFrom _ _ fine (l .loop .inv) (c .before .before .before .loop-test .taken) (left (c .before .row-fine .ensures ∙ ap (λ s. fine (rowFrom s)) (rest-is (now (l .before .args .rows)) (l .loop .at))) (c .if1 .taken))
 
 loop-again : tie.Need-loop-again Inv-loop μ-loop
-loop-again c = let l = c .before .before .before .before in tested-more rowFrom _ _ fine (l .loop .inv) (c .before .before .before .loop-test .taken) (taken (fine-read (now (l .before .args .rows)) (l .loop .at) (c .before .row-fine .ensures)) (c .if1 .left))
+loop-again c = let l = c .before .before .before .before in tested-more rowFrom _ _ fine (l .loop .inv) (c .before .before .before .loop-test .taken) (taken (c .before .row-fine .ensures ∙ ap (λ s. fine (rowFrom s)) (rest-is (now (l .before .args .rows)) (l .loop .at))) (c .if1 .left))
 
 returns-2 : tie.Need-returns-2 Inv-loop μ-loop
 returns-2 c = tested-all rowFrom _ _ fine (c .before .loop .inv) (c .loop-test .left)

@@ -51,14 +51,14 @@ use Rattle.symmetry_named.specs.declared.Operator.{Operator}
 use Rattle.symmetry_named.specs.declared.Flat.{Flat}
 use Rattle.symmetry_named.specs.Named.{noOperator, noRows, withRow, filledTo, flatChecked, checkedNamed}
 use Rattle.symmetry_named.proofs.Filling.{first-rows, named-law}
-use Rattle.symmetry_list.specs.declared.Checked.{Checked}
-use Rattle.symmetry_list.specs.Answer.{outcomeOf}
+use Rattle.symmetry_judged.specs.declared.Checked.{Checked}
+use Rattle.symmetry_judged.specs.Answer.{outcomeOf}
 use Rattle.symmetry_named.proofs.Operator as T
 use Rattle.symmetry_named.proofs.Operator.Laws as T′
 use Rattle.symmetry_named.proofs.Flat as F
 use Rattle.symmetry_named.proofs.Flat.Laws as F′
-use Rattle.symmetry_list.proofs.Checked as K
-use Rattle.symmetry_list.proofs.Checked.Laws as K′
+use Rattle.symmetry_judged.proofs.Checked as K
+use Rattle.symmetry_judged.proofs.Checked.Laws as K′
 use Rattle.symmetry_named.proofs.no_rows as nr
 use Rattle.symmetry_named.proofs.no_rows.Symbol as nr-def
 use Rattle.symmetry_named.proofs.no_rows.Symbol.{name as #no-rows}

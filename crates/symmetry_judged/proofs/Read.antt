@@ -10,7 +10,7 @@ use borrow.Author.Tests.{not-true, not-false}
 use lib.IntN.{ℤ}
 use lib.ListN.{length, take, drop, length-drop}
 use lib.Seq.{take-all}
-use Rattle.symmetry_operators.specs.Operator.{Part, Row, fine}
+use Rattle.symmetry_operators.specs.Operator.{Part, Row}
 use Rattle.symmetry_operators.specs.Check.{rowFrom}
 use Rattle.symmetry_operators.specs.Residues.{residues, turnsN, word, packed, wordAfter, productCode, codeRow, code, turning, rowFromN, identityCode}
 use Rattle.symmetry_rows.specs.Residues.{cells}
@@ -26,17 +26,14 @@ identity-last r = λ i. packed (word-itself (r .first) i) (word-itself (r .secon
 
 module _ (s : List ℤ) (k : ℕ) where
   -- the part of a slice from a place on
-  abbrev rest : List ℤ
+  abbrev pub rest : List ℤ
   rest = take (length s - k) (drop k s)
 
-  rest-is : rest ≡ drop k s
+  pub rest-is : rest ≡ drop k s
   rest-is = take-all (length s - k) (drop k s) (rw length-drop (le-refl _))
 
   pub residues-read : {r : List ℕ} → r ≡ cells rest → rowFromN r ≡ residues (rowFrom (drop k s))
   residues-read e = ap rowFromN e ∙ cells-row rest ∙ ap (λ l. residues (rowFrom l)) rest-is
-
-  pub fine-read : {t : Bool} → t ≡ fine (rowFrom rest) → t ≡ fine (rowFrom (drop k s))
-  fine-read e = e ∙ ap (λ l. fine (rowFrom l)) rest-is
 
   pub unit-read : {r : List ℕ} {t : Bool} → r ≡ cells rest → t ≡ turnsN (rowFromN r) → t ≡ turning (rowFrom (drop k s))
   unit-read e f = f ∙ ap turnsN (residues-read e)

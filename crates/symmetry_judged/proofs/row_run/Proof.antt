@@ -2,7 +2,7 @@
 -- Assumes nothing.
 use denote.Ref.{now}
 use Prim.Native.Nat.{_-_}
-use Rattle.symmetry_list.proofs.Read.{taken, left}
+use Rattle.symmetry_judged.proofs.Read.{taken, left}
 use mathlib.Core.Path.{ap, sym, _∙_}
 use lib.Dec.{eqb}
 use lib.ListN.{length}
@@ -10,10 +10,10 @@ use Rattle.text.proofs.Runs.{Passed, start, more, stop, end}
 use Rattle.symmetry_operators.specs.Lists.{has}
 use Rattle.symmetry_operators.specs.Residues.{closesCode, rowFromN}
 use native.Mathlib.Omega.{arith}
-use Rattle.symmetry_list.proofs.row_run.Statement.{statement}
-use Rattle.symmetry_list.proofs.row_run.Tie as tie
-use Rattle.symmetry_list.proofs.row_run.Reads as reads
-use Rattle.symmetry_list.proofs.row_run.Lts as lts
+use Rattle.symmetry_judged.proofs.row_run.Statement.{statement}
+use Rattle.symmetry_judged.proofs.row_run.Tie as tie
+use Rattle.symmetry_judged.proofs.row_run.Reads as reads
+use Rattle.symmetry_judged.proofs.row_run.Lts as lts
 use Rattle.symmetry_codes.proofs.has_hinted.Reads as has-hinted-reads
 use Rattle.symmetry_products.proofs.product_code.Reads as product-code-reads
 

@@ -2,15 +2,15 @@
 -- Assumes nothing.
 use denote.Ref.{now}
 use Prim.Native.Nat.{_-_}
-use Rattle.symmetry_list.proofs.Read.{unit-read, taken, left}
+use Rattle.symmetry_judged.proofs.Read.{unit-read, taken, left}
 use Rattle.symmetry_operators.specs.Residues.{turning}
 use Rattle.symmetry_operators.specs.Check.{rowFrom}
 use Rattle.symmetry_operators.proofs.Cut.{Tested, tested-none, tested-more, tested-fails, tested-all}
 use native.Mathlib.Omega.{arith}
-use Rattle.symmetry_list.proofs.all_units.Statement.{statement}
-use Rattle.symmetry_list.proofs.all_units.Tie as tie
-use Rattle.symmetry_list.proofs.all_units.Reads as reads
-use Rattle.symmetry_list.proofs.all_units.Lts as lts
+use Rattle.symmetry_judged.proofs.all_units.Statement.{statement}
+use Rattle.symmetry_judged.proofs.all_units.Tie as tie
+use Rattle.symmetry_judged.proofs.all_units.Reads as reads
+use Rattle.symmetry_judged.proofs.all_units.Lts as lts
 use Rattle.symmetry_products.proofs.has_unit.Reads as has-unit-reads
 use Rattle.symmetry_rows.proofs.residues_of.Reads as residues-of-reads
 

@@ -1,20 +1,20 @@
 -- `pair_run` meets its contract: at row i the pairs of the rows before it are passed, and `n - i` rows are left.
 -- Assumes nothing.
 use denote.Ref.{now}
-use Rattle.symmetry_list.proofs.Read.{residues-read}
-use Rattle.symmetry_list.proofs.Looked.{Looked, looked-none, looked-fails, looked-more, looked-all, few}
+use Rattle.symmetry_judged.proofs.Read.{residues-read}
+use Rattle.symmetry_judged.proofs.Looked.{Looked, looked-none, looked-fails, looked-more, looked-all, few}
 use Prim.Native.Nat.{_-_}
 use mathlib.Core.Path.{ap, _∙_}
 use lib.ListN.{length}
 use Rattle.text.specs.Run.{runOf}
 use Rattle.symmetry_operators.specs.Residues.{closesCode}
 use native.Mathlib.Omega.{arith}
-use Rattle.symmetry_list.proofs.pair_run.Statement.{statement}
-use Rattle.symmetry_list.proofs.pair_run.Tie as tie
-use Rattle.symmetry_list.proofs.pair_run.Reads as reads
-use Rattle.symmetry_list.proofs.pair_run.Lts as lts
+use Rattle.symmetry_judged.proofs.pair_run.Statement.{statement}
+use Rattle.symmetry_judged.proofs.pair_run.Tie as tie
+use Rattle.symmetry_judged.proofs.pair_run.Reads as reads
+use Rattle.symmetry_judged.proofs.pair_run.Lts as lts
 use Rattle.symmetry_codes.proofs.hints_of.Reads as hints-of-reads
-use Rattle.symmetry_list.proofs.row_run.Reads as row-run-reads
+use Rattle.symmetry_judged.proofs.row_run.Reads as row-run-reads
 use Rattle.symmetry_rows.proofs.residues_of.Reads as residues-of-reads
 
 abbrev Inv-loop : tie.InvT-loop

@@ -1,21 +1,21 @@
 -- `judged` meets its contract.
 -- Assumes nothing.
 use mathlib.Core.Path.{ap, sym, _∙_}
-use Rattle.symmetry_list.specs.Answer.{outcomeOf}
+use Rattle.symmetry_judged.specs.Answer.{outcomeOf}
 use denote.Ref.{now}
-use Rattle.symmetry_list.proofs.Read.{taken, left}
-use Rattle.symmetry_list.proofs.Answers.{no-unit, units}
+use Rattle.symmetry_judged.proofs.Read.{taken, left}
+use Rattle.symmetry_judged.proofs.Answers.{no-unit, units}
 use lib.ListN.{length-take}
 use borrow.Author.Needs.{needs}
 use native.Mathlib.Omega.{arith}
-use Rattle.symmetry_list.proofs.judged.Statement.{statement}
-use Rattle.symmetry_list.proofs.judged.Tie as tie
-use Rattle.symmetry_list.proofs.judged.Reads as reads
-use Rattle.symmetry_list.proofs.judged.Lts as lts
-use Rattle.symmetry_list.proofs.all_units.Reads as all-units-reads
-use Rattle.symmetry_list.proofs.closed.Reads as closed-reads
-use Rattle.symmetry_list.proofs.codes_of.Reads as codes-of-reads
-use Rattle.symmetry_list.proofs.refused.Reads as refused-reads
+use Rattle.symmetry_judged.proofs.judged.Statement.{statement}
+use Rattle.symmetry_judged.proofs.judged.Tie as tie
+use Rattle.symmetry_judged.proofs.judged.Reads as reads
+use Rattle.symmetry_judged.proofs.judged.Lts as lts
+use Rattle.symmetry_judged.proofs.all_units.Reads as all-units-reads
+use Rattle.symmetry_judged.proofs.closed.Reads as closed-reads
+use Rattle.symmetry_judged.proofs.codes_of.Reads as codes-of-reads
+use Rattle.symmetry_judged.proofs.refused.Reads as refused-reads
 
 returns : tie.Need-returns
 returns c = let a = c .before .before .before .args in ap outcomeOf (c .refused .ensures) ∙ no-unit (a .n) (now (a .rows)) (left (c .before .before .all-units .ensures) (c .before .if1 .taken))

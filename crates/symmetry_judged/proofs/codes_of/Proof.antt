@@ -2,17 +2,17 @@
 -- Assumes nothing.
 use denote.Ref.{now}
 use Prim.Native.Nat.{_-_}
-use Rattle.symmetry_list.proofs.Read.{code-read}
+use Rattle.symmetry_judged.proofs.Read.{code-read}
 use Prim.Native.Nat.{ℕ}
 use lib.ListN.{length-replicate}
 use Rattle.symmetry_operators.specs.Residues.{code}
 use Rattle.symmetry_operators.specs.Check.{rowFrom}
 use Rattle.symmetry_operators.proofs.Cut.{Stored, stored-none, stored-more, stored-all}
 use native.Mathlib.Omega.{arith}
-use Rattle.symmetry_list.proofs.codes_of.Statement.{statement}
-use Rattle.symmetry_list.proofs.codes_of.Tie as tie
-use Rattle.symmetry_list.proofs.codes_of.Reads as reads
-use Rattle.symmetry_list.proofs.codes_of.Lts as lts
+use Rattle.symmetry_judged.proofs.codes_of.Statement.{statement}
+use Rattle.symmetry_judged.proofs.codes_of.Tie as tie
+use Rattle.symmetry_judged.proofs.codes_of.Reads as reads
+use Rattle.symmetry_judged.proofs.codes_of.Lts as lts
 use Rattle.symmetry_products.proofs.product_code.Reads as product-code-reads
 use Rattle.symmetry_rows.proofs.residues_of.Reads as residues-of-reads
 

@@ -3,7 +3,7 @@
 use Rattle.symmetry_answers.specs.declared.ListAnswer.{ListAnswer}
 use Rattle.symmetry_answers.specs.Number.{listNumber}
 use Rattle.symmetry_operators.specs.Check.{Outcome, outcome}
-use Rattle.symmetry_list.specs.declared.Checked.{Checked}
+use Rattle.symmetry_judged.specs.declared.Checked.{Checked}
 
 -- the answer's number, and the number of pairs
 abbrev pub outcomeOf : Checked → Outcome

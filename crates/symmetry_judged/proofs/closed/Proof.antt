@@ -1,22 +1,22 @@
 -- `closed` meets its contract: each answer from the tests on the way to it.
 -- Assumes nothing.
 use mathlib.Core.Path.{ap, sym, _∙_}
-use Rattle.symmetry_list.specs.Answer.{outcomeOf}
+use Rattle.symmetry_judged.specs.Answer.{outcomeOf}
 use denote.Ref.{now}
-use Rattle.symmetry_list.proofs.Read.{taken, left}
-use Rattle.symmetry_list.proofs.Looked.{few, found-few}
-use Rattle.symmetry_list.proofs.Answers.{no-identity, equal-rows, all-closed, missing}
+use Rattle.symmetry_judged.proofs.Read.{taken, left}
+use Rattle.symmetry_judged.proofs.Looked.{few, found-few}
+use Rattle.symmetry_judged.proofs.Answers.{no-identity, equal-rows, all-closed, missing}
 use lib.ListN.{length}
 use borrow.Author.Needs.{needs}
 use native.Mathlib.Omega.{arith}
-use Rattle.symmetry_list.proofs.closed.Statement.{statement}
-use Rattle.symmetry_list.proofs.closed.Tie as tie
-use Rattle.symmetry_list.proofs.closed.Reads as reads
-use Rattle.symmetry_list.proofs.closed.Lts as lts
+use Rattle.symmetry_judged.proofs.closed.Statement.{statement}
+use Rattle.symmetry_judged.proofs.closed.Tie as tie
+use Rattle.symmetry_judged.proofs.closed.Reads as reads
+use Rattle.symmetry_judged.proofs.closed.Lts as lts
 use Rattle.symmetry_codes.proofs.are_distinct.Reads as are-distinct-reads
 use Rattle.symmetry_codes.proofs.has_code.Reads as has-code-reads
-use Rattle.symmetry_list.proofs.pair_run.Reads as pair-run-reads
-use Rattle.symmetry_list.proofs.refused.Reads as refused-reads
+use Rattle.symmetry_judged.proofs.pair_run.Reads as pair-run-reads
+use Rattle.symmetry_judged.proofs.refused.Reads as refused-reads
 
 returns : tie.Need-returns
 returns c = ap outcomeOf (c .refused .ensures) ∙ no-identity (length (now (c .before .before .before .before .args .codes))) (now (c .before .before .before .before .args .rows)) (now (c .before .before .before .before .args .codes)) (left (c .before .before .has-code .ensures) (c .before .if1 .taken))
