@@ -1,8 +1,8 @@
 -- The hints, set one after the other.
 -- Assumes nothing.
-use mathlib.Core.Path.{_≡_, refl, sym, ap, _∙_}
-use mathlib.Core.List.{List, [], _∷_}
-use Prim.Native.Nat.{ℕ, zero, suc, _+_, _%_, _≤_, _<_}
+use mathlib.Core.Path.{_≡_, sym, ap, _∙_}
+use mathlib.Core.List.{List}
+use Prim.Native.Nat.{ℕ, suc, _+_, _%_, _≤_, _<_}
 use native.Mathlib.Numerals.{add-one}
 use native.Mathlib.Omega.{arith}
 use lib.ListN.{length, getD, drop, set, length-set, drop-of-length-le}
@@ -14,7 +14,8 @@ pub record Hinted (codes : List ℕ) (i : ℕ) (hints : List ℕ) : Type 0 where
   pub long : length hints ≡ 4096
   pub rest : hintsOf codes ≡ hintsFrom i (drop i codes) hints
 
-pub hinted-more : {codes : List ℕ} {i : ℕ} {hints : List ℕ} → Hinted codes i hints → i < length codes → {k v : ℕ} → k ≡ hintOf (getD codes i 0) → v ≡ i % 256 → Hinted codes (i + 1) (set hints k v)
+pub hinted-more : {codes : List ℕ} {i : ℕ} {hints : List ℕ} → Hinted codes i hints → i < length codes → {k v : ℕ} → k ≡ hintOf (getD codes i 0)
+    → v ≡ i % 256 → Hinted codes (i + 1) (set hints k v)
 unfolding hintsFrom
 hinted-more {codes} {i} {hints} h l {k} {v} e f = record {
   within = omega arith;

@@ -1,12 +1,12 @@
 -- Each answer of the check, from the tests on the way to it.
 -- Assumes nothing.
-use mathlib.Core.Path.{_≡_, refl, sym, ap, _∙_}
-use mathlib.Core.Bool.{Bool, true, false, cond, _&&_}
+use mathlib.Core.Path.{_≡_, sym, ap, _∙_}
+use mathlib.Core.Bool.{Bool, true, false, cond}
 use mathlib.Core.List.{List}
-use Prim.Native.Nat.{ℕ, suc, _+_, _*_, _/_, _%_, _≤_, _<_}
+use Prim.Native.Nat.{ℕ, suc, _+_, _*_, _/_, _≤_, _<_}
 use native.Mathlib.Numerals.{add-one}
 use borrow.Author.Tests.{eq-eqb, ne-eqb, le-leb, lt-leb}
-use lib.Dec.{eqb, leb}
+use lib.Dec.{eqb}
 use lib.IntN.{ℤ}
 use lib.ListN.{length, length-map}
 use Rattle.text.specs.Run.{all}
@@ -35,14 +35,16 @@ module _ (n : ℕ) (l : List ℤ) (codes : List ℕ) where
       all-closed f = ap (λ (t : Bool). cond t (outcome 0 (n * n)) (outcome 17 (suc found))) (sym (eq-eqb found (n * n) f)) ∙ closed-by
 
       pub missing : (found ≡ n * n → ⊥) → outcome 17 (found + 1) ≡ closedN n l codes
-      missing f = ap (outcome 17) (add-one found) ∙ ap (λ (t : Bool). cond t (outcome 0 (n * n)) (outcome 17 (suc found))) (sym (ne-eqb found (n * n) f)) ∙ closed-by
+      missing f = ap (outcome 17) (add-one found)
+          ∙ ap (λ (t : Bool). cond t (outcome 0 (n * n)) (outcome 17 (suc found))) (sym (ne-eqb found (n * n) f)) ∙ closed-by
 
 module _ (n : ℕ) (l : List ℤ) where
   pub no-unit : all turning (rowsFrom n l) ≡ false → outcome 14 0 ≡ judgedN n l
   unfolding judgedN
   no-unit e = rw e
 
-  pub units : all turning (rowsFrom n l) ≡ true → {r : Outcome} (codes : List ℕ) → r ≡ closedN (length codes) l codes → codes ≡ codesOf n l → r ≡ judgedN n l
+  pub units : all turning (rowsFrom n l) ≡ true → {r : Outcome} (codes : List ℕ) → r ≡ closedN (length codes) l codes → codes ≡ codesOf n l
+      → r ≡ judgedN n l
   unfolding judgedN
   units e codes f g =
       let size : length (codesOf n l) ≡ n = length-map (rowsFrom n l) code ∙ length-cut rowFrom n l in

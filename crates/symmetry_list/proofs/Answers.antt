@@ -3,15 +3,14 @@
 use mathlib.Core.Path.{_≡_, refl, sym, ap, _∙_}
 use mathlib.Core.Bool.{Bool, true, false, cond, _&&_}
 use mathlib.Core.List.{List}
-use Prim.Native.Nat.{ℕ, _*_, _/_, _%_, _≤_, _<_}
-use borrow.Author.Tests.{eq-eqb, ne-eqb, leb-true}
-use lib.Dec.{eqb, leb}
+use Prim.Native.Nat.{_*_, _/_, _%_}
+use borrow.Author.Tests.{eq-eqb, ne-eqb}
+use lib.Dec.{leb}
 use lib.IntN.{ℤ}
 use lib.ListN.{length}
 use Rattle.text.specs.Run.{all}
 use Rattle.symmetry_operators.specs.Operator.{fine}
 use Rattle.symmetry_operators.specs.Check.{rowMost, Outcome, outcome, rowsOf, judged, shaped, checked}
-use Rattle.symmetry_operators.specs.Residues.{judgedN}
 use Rattle.symmetry_operators.proofs.Bridge.{judged-codes}
 use Rattle.symmetry_judged.specs.Judged.{judgedFew}
 

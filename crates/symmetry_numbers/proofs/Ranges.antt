@@ -1,12 +1,12 @@
 -- What the tests of a signed number say.
 -- Assumes nothing.
 use mathlib.Core.Path.{_≡_, refl, sym, ap, subst, _∙_}
-use mathlib.Core.Bool.{Bool, true, false, _&&_, _||_, false≢true, true≢false}
-use Prim.Native.Nat.{ℕ, zero, suc, _-_, _%_, _<_, _≤_}
+use mathlib.Core.Bool.{true, false, _&&_, false≢true, true≢false}
+use Prim.Native.Nat.{ℕ, suc, _-_, _<_, _≤_}
 use native.Mathlib.Nat.{mod-eq-of-lt}
 use native.Mathlib.Omega.{arith}
-use borrow.Author.Tests.{ltb-true, ltb-false, leb-true, leb-false, le-leb, lt-leb}
-use lib.Dec.{T, leb, ltb}
+use borrow.Author.Tests.{ltb-true, ltb-false, le-leb, lt-leb}
+use lib.Dec.{T}
 use mir.Syntax.{w8, w16}
 use mir.Val.{SFits, Fits, toZ, ofZ}
 use mir.Facts.{toZ-ofZ}
@@ -61,7 +61,8 @@ module _ (z : ℤ) (f : SFits w8 z) where
           let n : SFits w8 (negsuc 0 -ℤ toZ w8 (ofZ w8 z)) = subst (SFits w8) (sym m) (record { sfits = l }) in
           record { size = a; small = l; is = q; turn-fits = n; turned = toZ-ofZ {w = w8} n ∙ m }
 
-  pub turned-fits : (k : Turned) → T (nonNeg (toZ w8 (ofZ w8 (negsuc 0 -ℤ toZ w8 (ofZ w8 z))))) × Fits w16 (natAbs (toZ w8 (ofZ w8 (negsuc 0 -ℤ toZ w8 (ofZ w8 z)))))
+  pub turned-fits : (k : Turned)
+      → T (nonNeg (toZ w8 (ofZ w8 (negsuc 0 -ℤ toZ w8 (ofZ w8 z))))) × Fits w16 (natAbs (toZ w8 (ofZ w8 (negsuc 0 -ℤ toZ w8 (ofZ w8 z)))))
   turned-fits k = rw (k .turned) (tt, record { fits = omega (arith, k .small) })
 
   pub turned-few : (k : Turned) → natAbs (toZ w8 (ofZ w8 (negsuc 0 -ℤ toZ w8 (ofZ w8 z)))) ≤ 12287

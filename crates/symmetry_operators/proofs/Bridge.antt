@@ -1,21 +1,21 @@
 -- The check over codes answers as the definitions over whole numbers.
 -- Assumes nothing.
-use mathlib.Core.Path.{_≡_, refl, sym, ap, ap₂, subst, _∙_}
-use mathlib.Core.Bool.{Bool, true, false, cond, not, _&&_, _||_, false≢true, true≢false}
-use mathlib.Core.List.{List, [], _∷_, _++_, map}
+use mathlib.Core.Path.{_≡_, refl, sym, ap, ap₂, _∙_}
+use mathlib.Core.Bool.{Bool, true, false, cond, not, _&&_, _||_}
+use mathlib.Core.List.{List, [], _∷_, map}
 use Prim.Native.Nat.{ℕ, zero, suc, _+_, _*_, _-_, _/_, _%_, _<_, _≤_}
 use native.Mathlib.Omega.{arith}
 use native.Mathlib.Nat.{mod-eq-of-lt, mul-add, add-mul, mul-assoc, mul-comm, mul-left-comm}
-use borrow.Author.Tests.{eqb-true, eq-eqb, ne-eqb}
+use borrow.Author.Tests.{eqb-true}
 use lib.Dec.{eqb}
 use lib.IntN.{ℤ, pos, negsuc, negℤ, subℕ, natAbs, _+ℤ_, _-ℤ_, _*ℤ_}
 use lib.ListN.{length, length-map}
 use Rattle.text.specs.Run.{all, runOf}
 use Rattle.text.proofs.Bools.{and-both, not-holds}
-use Rattle.symmetry_operators.specs.Operator.{Part, Row, part, residue, dot, after, product, minor, determinant, identity, eqZ, same, fine, turns}
-use Rattle.symmetry_operators.specs.Lists.{has, distinct, looked, withEach, pairsWith}
-use Rattle.symmetry_operators.specs.Check.{rowFrom, rowsFrom, closes, pairs, closing, judged, outcome, Outcome}
-use Rattle.symmetry_operators.specs.Residues.{reduced, scaled, residuesPart, residues, dotN, afterN, times, minorN, detN, turnsN, word, packed, codeRow, wordAfter, productCode, code, turning, closesCode, runPairs, identityCode, closedBy, closedN, codesOf, judgedN}
+use Rattle.symmetry_operators.specs.Operator.{Part, Row, residue, dot, after, product, minor, determinant, identity, eqZ, same, fine, turns}
+use Rattle.symmetry_operators.specs.Lists.{has, distinct, withEach, pairsWith}
+use Rattle.symmetry_operators.specs.Check.{rowFrom, rowsFrom, closes, pairs, closing, judged, outcome}
+use Rattle.symmetry_operators.specs.Residues.{reduced, scaled, residuesPart, residues, dotN, afterN, times, detN, turnsN, word, packed, codeRow, wordAfter, productCode, code, turning, closesCode, runPairs, identityCode, closedBy, closedN, codesOf, judgedN}
 use Rattle.symmetry_operators.proofs.Residue.{Factor, minus, nought, one, reduced-small, mod-by, congruent, residue-below, scaled-residue}
 use Rattle.symmetry_operators.proofs.Modulo.{part-path, row-path, strip-right}
 use Rattle.symmetry_operators.proofs.Pigeon.{by-cases}
@@ -63,9 +63,12 @@ near-factor one = record { near = omega arith }
 
 near-same : {y z : ℤ} → Near 10 y → Near 10 z → reduced y ≡ reduced z → y ≡ z
 near-same {y = pos a} {z = pos b} h k e = ap pos (sym (mod-eq-of-lt (omega arith)) ∙ e ∙ mod-eq-of-lt (omega arith))
-near-same {y = pos a} {z = negsuc b} h k e = absurd (let p : a % 12288 ≡ a = mod-eq-of-lt (omega arith) in let q : b % 12288 ≡ b = mod-eq-of-lt (omega arith) in omega arith)
-near-same {y = negsuc a} {z = pos b} h k e = absurd (let p : a % 12288 ≡ a = mod-eq-of-lt (omega arith) in let q : b % 12288 ≡ b = mod-eq-of-lt (omega arith) in omega arith)
-near-same {y = negsuc a} {z = negsuc b} h k e = ap negsuc (let p : a % 12288 ≡ a = mod-eq-of-lt (omega arith) in let q : b % 12288 ≡ b = mod-eq-of-lt (omega arith) in omega arith)
+near-same {y = pos a} {z = negsuc b} h k e = absurd
+    (let p : a % 12288 ≡ a = mod-eq-of-lt (omega arith) in let q : b % 12288 ≡ b = mod-eq-of-lt (omega arith) in omega arith)
+near-same {y = negsuc a} {z = pos b} h k e = absurd
+    (let p : a % 12288 ≡ a = mod-eq-of-lt (omega arith) in let q : b % 12288 ≡ b = mod-eq-of-lt (omega arith) in omega arith)
+near-same {y = negsuc a} {z = negsuc b} h k e = ap negsuc
+    (let p : a % 12288 ≡ a = mod-eq-of-lt (omega arith) in let q : b % 12288 ≡ b = mod-eq-of-lt (omega arith) in omega arith)
 
 more : {z : ℤ} {m n : ℕ} → Near m z → m ≤ n → Near n z
 more h k = record { near = omega arith }
@@ -80,7 +83,8 @@ determinant-near f =
     let p = f .first in
     let q = f .second in
     let s = f .third in
-    near-add (near-minus (near-times (p .at-x) (minor-near (q .at-y) (q .at-z) (s .at-y) (s .at-z))) (near-times (p .at-y) (minor-near (q .at-x) (q .at-z) (s .at-x) (s .at-z))))
+    near-add (near-minus (near-times (p .at-x) (minor-near (q .at-y) (q .at-z) (s .at-y) (s .at-z)))
+    (near-times (p .at-y) (minor-near (q .at-x) (q .at-z) (s .at-x) (s .at-z))))
     (near-times (p .at-z) (minor-near (q .at-x) (q .at-y) (s .at-x) (s .at-y)))
 
 test-same : (y z : ℤ) (n : ℕ) → Near 10 y → Near 10 z → reduced y ≡ n % 12288 → eqZ y z ≡ eqb (n % 12288) (reduced z)
@@ -93,7 +97,8 @@ unfolding turns turnsN
 turns-residues {r} f =
     let d = more {n = 10} (determinant-near f) (omega arith) in
     let e = determinant-is f .is in
-    ap₂ _||_ (test-same (determinant r) (pos 1) (detN (residues r)) d (record { near = omega arith }) e) (test-same (determinant r) (negsuc 0) (detN (residues r)) d (record { near = omega arith }) e)
+    ap₂ _||_ (test-same (determinant r) (pos 1) (detN (residues r)) d (record { near = omega arith }) e)
+    (test-same (determinant r) (negsuc 0) (detN (residues r)) d (record { near = omega arith }) e)
 
 pub all-turns : (l : List (Row ℤ)) → all fine l ≡ true → all turns l ≡ all turning l
 unfolding all
@@ -122,7 +127,8 @@ pub fine-near : {r : Row ℤ} → Fine r → NearRow r
 fine-near f = record { first = fine-near-part (f .first); second = fine-near-part (f .second); third = fine-near-part (f .third) }
 
 dot-near : {p : Part ℤ} → FinePart p → {a b c : ℤ} → Factor a → Factor b → Factor c → Near 3 (dot p a b c)
-dot-near f g h k = near-add (near-add (near-times (f .at-x) (near-factor g)) (near-times (f .at-y) (near-factor h))) (near-times (f .at-z) (near-factor k))
+dot-near f g h k = near-add (near-add (near-times (f .at-x) (near-factor g)) (near-times (f .at-y) (near-factor h)))
+    (near-times (f .at-z) (near-factor k))
 
 after-near : {p : Part ℤ} → FinePart p → {s : Row ℤ} → Fine s → NearPart (after p s)
 unfolding after
@@ -166,11 +172,14 @@ digit a b m n h k e = let q : m ≡ n = omega arith in (omega arith, q)
 scaled-most : (z : ℤ) → scaled z ≤ 11776
 scaled-most z = let h = residue-below z in let e = scaled-residue z in omega arith
 
-part-value : {p : Part ℤ} → NearPart p → (word (residuesPart p) + 219) % 12288 ≡ raised (p .x) + 8 * raised (p .y) + 64 * raised (p .z) + scaled (p .t)
+part-value : {p : Part ℤ} → NearPart p
+    → (word (residuesPart p) + 219) % 12288 ≡ raised (p .x) + 8 * raised (p .y) + 64 * raised (p .z) + scaled (p .t)
 unfolding raised
-part-value {p} f = raised-word (reduced (p .x)) (reduced (p .y)) (reduced (p .z)) (scaled (p .t)) (raised-small (f .at-x)) (raised-small (f .at-y)) (raised-small (f .at-z)) (scaled-most (p .t))
+part-value {p} f = raised-word (reduced (p .x)) (reduced (p .y)) (reduced (p .z)) (scaled (p .t)) (raised-small (f .at-x)) (raised-small (f .at-y))
+    (raised-small (f .at-z)) (scaled-most (p .t))
 
-digits : (a b c m a′ b′ c′ m′ : ℕ) → a < 8 → b < 8 → c < 8 → a′ < 8 → b′ < 8 → c′ < 8 → a + 8 * b + 64 * c + 512 * m ≡ a′ + 8 * b′ + 64 * c′ + 512 * m′
+digits : (a b c m a′ b′ c′ m′ : ℕ) → a < 8 → b < 8 → c < 8 → a′ < 8 → b′ < 8 → c′ < 8
+    → a + 8 * b + 64 * c + 512 * m ≡ a′ + 8 * b′ + 64 * c′ + 512 * m′
     → (a ≡ a′) × (b ≡ b′) × (c ≡ c′) × (m ≡ m′)
 digits a b c m a′ b′ c′ m′ h i j h′ i′ j′ e =
     let x = digit a a′ (b + 8 * (c + 8 * m)) (b′ + 8 * (c′ + 8 * m′)) h h′ (omega arith) in
@@ -186,8 +195,10 @@ word-known {p} {q} f g e =
     let v′ = part-value g in
     let same : (word (residuesPart p) + 219) % 12288 ≡ (word (residuesPart q) + 219) % 12288 = ap (λ (n : ℕ). (n + 219) % 12288) e in
     let d = digits (raised (p .x)) (raised (p .y)) (raised (p .z)) (residue (p .t)) (raised (q .x)) (raised (q .y)) (raised (q .z)) (residue (q .t))
-    (raised-small (f .at-x)) (raised-small (f .at-y)) (raised-small (f .at-z)) (raised-small (g .at-x)) (raised-small (g .at-y)) (raised-small (g .at-z))
-    (ap (λ (n : ℕ). raised (p .x) + 8 * raised (p .y) + 64 * raised (p .z) + n) (sym s) ∙ sym v ∙ same ∙ v′ ∙ ap (λ (n : ℕ). raised (q .x) + 8 * raised (q .y) + 64 * raised (q .z) + n) s′) in
+    (raised-small (f .at-x)) (raised-small (f .at-y)) (raised-small (f .at-z)) (raised-small (g .at-x)) (raised-small (g .at-y))
+    (raised-small (g .at-z))
+    (ap (λ (n : ℕ). raised (p .x) + 8 * raised (p .y) + 64 * raised (p .z) + n) (sym s) ∙ sym v ∙ same ∙ v′
+    ∙ ap (λ (n : ℕ). raised (q .x) + 8 * raised (q .y) + 64 * raised (q .z) + n) s′) in
     part-path (raised-same (f .at-x) (g .at-x) (d .0)) (raised-same (f .at-y) (g .at-y) (d .1)) (raised-same (f .at-z) (g .at-z) (d .2))
     (f .at-t ∙ ap pos (d .3) ∙ sym (g .at-t))
 
@@ -195,7 +206,8 @@ word-known {p} {q} f g e =
 word-small : (p : Part ℕ) → word p < 65536
 word-small p = omega arith
 
-packed-known : (a b c a′ b′ c′ : ℕ) → b < 65536 → c < 65536 → b′ < 65536 → c′ < 65536 → packed a b c ≡ packed a′ b′ c′ → (a ≡ a′) × (b ≡ b′) × (c ≡ c′)
+packed-known : (a b c a′ b′ c′ : ℕ) → b < 65536 → c < 65536 → b′ < 65536 → c′ < 65536 → packed a b c ≡ packed a′ b′ c′
+    → (a ≡ a′) × (b ≡ b′) × (c ≡ c′)
 packed-known a b c a′ b′ c′ h i h′ i′ e =
     let x : a * 65536 + b ≡ a′ * 65536 + b′ = omega arith in
     let y : a ≡ a′ = omega arith in
@@ -235,7 +247,8 @@ spread x y z t a b c d e f g h i j k l = simp (mul-add, add-mul, mul-assoc, mul-
 
 strip : (a b c d : ℕ) → (a % 12288 + 8 * (b % 12288) + 64 * (c % 12288) + d % 12288) % 12288 ≡ (a + 8 * b + 64 * c + d) % 12288
 strip a b c d =
-    mod-by (a % 12288 + 8 * (b % 12288) + 64 * (c % 12288) + d % 12288) (a + 8 * b + 64 * c + d) (a / 12288 + 8 * (b / 12288) + 64 * (c / 12288) + d / 12288) 0 (omega arith)
+    mod-by (a % 12288 + 8 * (b % 12288) + 64 * (c % 12288) + d % 12288) (a + 8 * b + 64 * c + d)
+    (a / 12288 + 8 * (b / 12288) + 64 * (c / 12288) + d / 12288) 0 (omega arith)
 
 word-after : (p : Part ℕ) (s : Row ℕ) → word (afterN p s) ≡ wordAfter p (word (s .first)) (word (s .second)) (word (s .third))
 unfolding afterN
@@ -244,11 +257,15 @@ word-after p s =
     let r = s .second in
     let u = s .third in
     strip (dotN p (q .x) (r .x) (u .x)) (dotN p (q .y) (r .y) (u .y)) (dotN p (q .z) (r .z) (u .z)) (dotN p (q .t) (r .t) (u .t) + p .t)
-    ∙ ap (λ (n : ℕ). n % 12288) (spread (p .x) (p .y) (p .z) (p .t) (q .x) (r .x) (u .x) (q .y) (r .y) (u .y) (q .z) (r .z) (u .z) (q .t) (r .t) (u .t))
-    ∙ sym (congruent _ (p .t) _ (p .t) (strip-right (q .x + 8 * q .y + 64 * q .z + q .t) (r .x + 8 * r .y + 64 * r .z + r .t) (u .x + 8 * u .y + 64 * u .z + u .t) (p .x) (p .y) (p .z)) refl)
+    ∙ ap (λ (n : ℕ). n % 12288)
+    (spread (p .x) (p .y) (p .z) (p .t) (q .x) (r .x) (u .x) (q .y) (r .y) (u .y) (q .z) (r .z) (u .z) (q .t) (r .t) (u .t))
+    ∙ sym (congruent _ (p .t) _ (p .t)
+    (strip-right (q .x + 8 * q .y + 64 * q .z + q .t) (r .x + 8 * r .y + 64 * r .z + r .t) (u .x + 8 * u .y + 64 * u .z + u .t) (p .x) (p .y)
+    (p .z)) refl)
 
 -- a code's three words
-unpacked : (a b c : ℕ) → a < 65536 → b < 65536 → c < 65536 → (packed a b c / 4294967296 % 65536 ≡ a) × (packed a b c / 65536 % 65536 ≡ b) × (packed a b c % 65536 ≡ c)
+unpacked : (a b c : ℕ) → a < 65536 → b < 65536 → c < 65536
+    → (packed a b c / 4294967296 % 65536 ≡ a) × (packed a b c / 65536 % 65536 ≡ b) × (packed a b c % 65536 ≡ c)
 unpacked a b c h i j =
     let e : packed a b c / 65536 ≡ a * 65536 + b = omega arith in
     let f : packed a b c / 4294967296 ≡ a = omega arith in
@@ -257,16 +274,20 @@ unpacked a b c h i j =
 pub times-code : (r s : Row ℕ) → codeRow (times r s) ≡ productCode r (codeRow s)
 unfolding codeRow times productCode
 times-code r s =
-    let u = unpacked (word (s .first)) (word (s .second)) (word (s .third)) (word-small (s .first)) (word-small (s .second)) (word-small (s .third)) in
+    let u = unpacked (word (s .first)) (word (s .second)) (word (s .third)) (word-small (s .first)) (word-small (s .second)) (word-small (s .third))
+    in
     (λ i. packed (word-after (r .first) s i) (word-after (r .second) s i) (word-after (r .third) s i))
-    ∙ sym (λ i. packed (wordAfter (r .first) (u .0 i) (u .1 i) (u .2 i)) (wordAfter (r .second) (u .0 i) (u .1 i) (u .2 i)) (wordAfter (r .third) (u .0 i) (u .1 i) (u .2 i)))
+    ∙ sym (λ i. packed (wordAfter (r .first) (u .0 i) (u .1 i) (u .2 i)) (wordAfter (r .second) (u .0 i) (u .1 i) (u .2 i))
+    (wordAfter (r .third) (u .0 i) (u .1 i) (u .2 i)))
 
 -- ---- the pairs
 module _ (l : List (Row ℤ)) (h : all fine l ≡ true) where
   closes-code : {r s : Row ℤ} → Fine r → Fine s → closes l (r, s) ≡ closesCode (map code l) (residues r) (code s)
-  closes-code {r} {s} f g = has-code l h (product-near f g) ∙ ap (has eqb (map code l)) (ap codeRow (product-residues f s) ∙ times-code (residues r) (residues s))
+  closes-code {r} {s} f g = has-code l h (product-near f g)
+      ∙ ap (has eqb (map code l)) (ap codeRow (product-residues f s) ∙ times-code (residues r) (residues s))
 
-  run-with : {r : Row ℤ} → Fine r → (m : List (Row ℤ)) → all fine m ≡ true → run (closes l) (withEach r m) ≡ runOf (closesCode (map code l) (residues r)) (map code m)
+  run-with : {r : Row ℤ} → Fine r → (m : List (Row ℤ)) → all fine m ≡ true
+      → run (closes l) (withEach r m) ≡ runOf (closesCode (map code l) (residues r)) (map code m)
   unfolding all runOf
   run-with f [] k = refl
   run-with f (s ∷ m) k = let b = and-both (fine s) _ k in ap₂ (λ t n. cond t (suc n) 0) (closes-code f (fine-row s (b .0))) (run-with f m (b .1))
@@ -279,7 +300,8 @@ module _ (l : List (Row ℤ)) (h : all fine l ≡ true) where
       let found = run-with (fine-row r (b .0)) l h in
       let size : length (withEach r l) ≡ length (map code l) = length-with r l ∙ sym (length-map l code) in
       run-append (closes l) (withEach r l) (pairsWith k l)
-      ∙ ap (λ (t : Bool). cond t (length (withEach r l) + run (closes l) (pairsWith k l)) (run (closes l) (withEach r l))) (all-run (closes l) (withEach r l))
+      ∙ ap (λ (t : Bool). cond t (length (withEach r l) + run (closes l) (pairsWith k l)) (run (closes l) (withEach r l)))
+      (all-run (closes l) (withEach r l))
       ∙ (λ x. cond (eqb (found x) (size x)) (size x + run-pairs k (b .1) x) (found x))
 
 -- ---- the whole check

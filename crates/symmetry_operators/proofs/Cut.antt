@@ -1,12 +1,12 @@
 -- Loops over rows of twelve: at row i, the place is 12 i, and what is left decides.
 -- Assumes nothing.
-use mathlib.Core.Path.{_≡_, refl, sym, ap, ap₂, subst, _∙_}
-use mathlib.Core.Bool.{Bool, true, false, cond, _&&_}
+use mathlib.Core.Path.{_≡_, refl, sym, ap, _∙_}
+use mathlib.Core.Bool.{Bool, true, false, _&&_}
 use mathlib.Core.List.{List, [], _∷_, _++_, map, append-assoc}
 use Prim.Native.Nat.{ℕ, zero, suc, _+_, _*_, _-_, _<_, _≤_}
 use native.Mathlib.Omega.{arith}
 use native.Mathlib.Numerals.{add-one}
-use lib.ListN.{length, drop, getD, take, set, length-set}
+use lib.ListN.{length, drop, take, set, length-set}
 use lib.Seq.{drop-drop, take-suc-set}
 use Rattle.text.specs.Run.{all}
 use Rattle.symmetry_operators.specs.Lists.{cut}
@@ -54,7 +54,8 @@ module _ {A B : Type 0} (row : List A → B) (n : ℕ) (s : List A) where
 
     pub tested-more : {i k : ℕ} → Tested i k → i < n → p (row (drop k s)) ≡ true → Tested (i + 1) (k + 12)
     unfolding all
-    tested-more {i} {k} h l e = record { at = at-next (h .at) l; rest = h .rest ∙ ap (all p) (one-left (h .at) l) ∙ ap (λ (t : Bool). t && all p (left (i + 1) (k + 12))) e }
+    tested-more {i} {k} h l e = record
+        { at = at-next (h .at) l; rest = h .rest ∙ ap (all p) (one-left (h .at) l) ∙ ap (λ (t : Bool). t && all p (left (i + 1) (k + 12))) e }
 
     pub tested-fails : {i k : ℕ} → Tested i k → i < n → p (row (drop k s)) ≡ false → false ≡ all p (cut row n s)
     unfolding all
@@ -74,15 +75,20 @@ module _ {A B : Type 0} (row : List A → B) (n : ℕ) (s : List A) where
     pub stored-none : (out : List ℕ) → length out ≡ size → Stored 0 0 out
     stored-none out e = record { at = at-first; long = e; rest = ap (map value) (sym all-left) }
 
-    pub stored-more : {i k : ℕ} {out : List ℕ} → Stored i k out → i < n → i < size → {v : ℕ} → v ≡ value (row (drop k s)) → Stored (i + 1) (k + 12) (set out i v)
+    pub stored-more : {i k : ℕ} {out : List ℕ} → Stored i k out → i < n → i < size → {v : ℕ} → v ≡ value (row (drop k s))
+        → Stored (i + 1) (k + 12) (set out i v)
     stored-more {i} {k} {out} h l m {v} e = record {
       at = at-next (h .at) l;
       long = length-set out i v ∙ h .long;
-      rest = h .rest ∙ ap (λ l. take i out ++ map value l) (one-left (h .at) l) ∙ ap (λ (w : ℕ). take i out ++ (w ∷ map value (left (i + 1) (k + 12)))) (sym e)
-          ∙ sym (append-assoc (take i out) (v ∷ []) (map value (left (i + 1) (k + 12)))) ∙ ap (λ (w : List ℕ). w ++ map value (left (i + 1) (k + 12))) (sym (ap (λ (w : ℕ). take w (set out i v)) (add-one i) ∙ take-suc-set out i v (omega (arith, h .long))));
+      rest = h .rest ∙ ap (λ l. take i out ++ map value l) (one-left (h .at) l)
+          ∙ ap (λ (w : ℕ). take i out ++ (w ∷ map value (left (i + 1) (k + 12)))) (sym e)
+          ∙ sym (append-assoc (take i out) (v ∷ []) (map value (left (i + 1) (k + 12))))
+          ∙ ap (λ (w : List ℕ). w ++ map value (left (i + 1) (k + 12)))
+          (sym (ap (λ (w : ℕ). take w (set out i v)) (add-one i) ∙ take-suc-set out i v (omega (arith, h .long))));
     }
 
     pub stored-all : {i k : ℕ} {out : List ℕ} → Stored i k out → n ≤ i → take n out ≡ map value (cut row n s)
     stored-all {i} {k} {out} h l =
         let e : i ≡ n = omega (arith, h .at .within) in
-        sym (h .rest ∙ ap (λ m. take i out ++ map value m) (none-left (h .at) l) ∙ mathlib.Core.List.append-nil (take i out) ∙ ap (λ (w : ℕ). take w out) e)
+        sym (h .rest ∙ ap (λ m. take i out ++ map value m) (none-left (h .at) l) ∙ mathlib.Core.List.append-nil (take i out)
+        ∙ ap (λ (w : ℕ). take w out) e)

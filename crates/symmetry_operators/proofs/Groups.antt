@@ -1,14 +1,12 @@
 -- An accepted list of operators is a group.
 -- Assumes nothing.
 use mathlib.Core.Path.{_≡_, refl, sym, ap, subst, _∙_}
-use mathlib.Core.Bool.{Bool, true, false, cond, not, _&&_, _||_, false≢true}
+use mathlib.Core.Bool.{Bool, true, false≢true}
 use mathlib.Core.List.{List, [], _∷_, _++_}
-use Prim.Native.Nat.{ℕ, zero, suc, _+_, _*_, _-_, _/_, _%_, _<_, _≤_}
+use Prim.Native.Nat.{ℕ, _+_, _*_, _-_, _%_, _<_}
 use native.Mathlib.Omega.{arith}
-use lib.Dec.{eqb, leb}
-use lib.ListN.{length}
-use lib.IntN.{ℤ, pos, negsuc}
-use Rattle.symmetry_operators.specs.Operator.{Part, Row, part, residue, product, identity, same, fine, turns}
+use lib.IntN.{ℤ}
+use Rattle.symmetry_operators.specs.Operator.{Part, Row, product, identity, same, fine, turns}
 use Rattle.symmetry_operators.specs.Lists.{has, distinct, withEach, pairsWith}
 use Rattle.symmetry_operators.specs.Check.{closes, pairs}
 use Rattle.symmetry_operators.specs.Wording.{In}
@@ -16,9 +14,9 @@ use Rattle.symmetry_operators.specs.Group.{Inverse, Group}
 use Rattle.text.specs.Run.{all}
 use Rattle.text.proofs.Bools.{and-both}
 use Rattle.symmetry_operators.proofs.Residue.{reduced-small, scaled-small}
-use Rattle.symmetry_operators.specs.Residues.{reduced, scaled, residuesPart, residues, dotN, afterN, times}
+use Rattle.symmetry_operators.specs.Residues.{residuesPart, residues, afterN, times}
 use Rattle.symmetry_operators.proofs.Modulo.{times-assoc, part-path, row-path}
-use Rattle.symmetry_operators.proofs.Pigeon.{in-cases, has-in, in-has, reached, by-cases}
+use Rattle.symmetry_operators.proofs.Pigeon.{in-cases, has-in, in-has, reached}
 use Rattle.symmetry_operators.proofs.Rows.{Fine, fine-row, same-is, same-self, product-residues, known, cancel}
 
 abbrev Has : List (Row ℤ) → Row ℤ → Type 0
@@ -63,9 +61,12 @@ each-pair p (c ∷ l) m r s e i j = in-cases same same-is same-self c l r i
 identity-residues : (s : Row ℤ) → times (residues identity) (residues s) ≡ residues s
 unfolding times afterN identity
 identity-residues s = row-path
-    (part-path (at-first _ _ (reduced-small (s .first .x))) (at-first _ _ (reduced-small (s .first .y))) (at-first _ _ (reduced-small (s .first .z))) (at-first₀ _ _ (scaled-small (s .first .t))))
-    (part-path (at-second _ _ (reduced-small (s .second .x))) (at-second _ _ (reduced-small (s .second .y))) (at-second _ _ (reduced-small (s .second .z))) (at-second₀ _ _ (scaled-small (s .second .t))))
-    (part-path (at-third _ _ (reduced-small (s .third .x))) (at-third _ _ (reduced-small (s .third .y))) (at-third _ _ (reduced-small (s .third .z))) (at-third₀ _ _ (scaled-small (s .third .t))))
+    (part-path (at-first _ _ (reduced-small (s .first .x))) (at-first _ _ (reduced-small (s .first .y))) (at-first _ _ (reduced-small (s .first .z)))
+    (at-first₀ _ _ (scaled-small (s .first .t))))
+    (part-path (at-second _ _ (reduced-small (s .second .x))) (at-second _ _ (reduced-small (s .second .y)))
+    (at-second _ _ (reduced-small (s .second .z))) (at-second₀ _ _ (scaled-small (s .second .t))))
+    (part-path (at-third _ _ (reduced-small (s .third .x))) (at-third _ _ (reduced-small (s .third .y))) (at-third _ _ (reduced-small (s .third .z)))
+    (at-third₀ _ _ (scaled-small (s .third .t))))
   where
     at-first : {n : ℕ} (b c : ℕ) → n < 12288 → (1 * n + 0 * b + 0 * c) % 12288 ≡ n
     at-first b c h = omega arith
@@ -87,7 +88,8 @@ identity-residues s = row-path
 
 after-identity : (p : Part ℤ) → afterN (residuesPart p) (residues identity) ≡ residuesPart p
 unfolding afterN identity
-after-identity p = part-path (omega (arith, reduced-small (p .x))) (omega (arith, reduced-small (p .y))) (omega (arith, reduced-small (p .z))) (omega (arith, scaled-small (p .t)))
+after-identity p = part-path (omega (arith, reduced-small (p .x))) (omega (arith, reduced-small (p .y))) (omega (arith, reduced-small (p .z)))
+    (omega (arith, scaled-small (p .t)))
 
 residues-identity : (s : Row ℤ) → times (residues s) (residues identity) ≡ residues s
 unfolding times
@@ -131,7 +133,8 @@ module _ (l : List (Row ℤ)) (ok : Passed l) where
       let b = right s j in
       let t = b .0 in
       let k = b .1 .0 in
-      let back : r ≡ t = sym (identity-right r i) ∙ ap (product r) (sym (b .1 .1)) ∙ sym (associative r s t i j k) ∙ ap (λ w. product w t) (a .1 .1) ∙ identity-left t k in
+      let back : r ≡ t = sym (identity-right r i) ∙ ap (product r) (sym (b .1 .1)) ∙ sym (associative r s t i j k) ∙ ap (λ w. product w t) (a .1 .1)
+      ∙ identity-left t k in
       record { row = s; inside = has-in same same-is same-self l s j; right = a .1 .1; left = ap (product s) back ∙ b .1 .1 }
 
   has-it : {r : Row ℤ} → In l r → Has l r

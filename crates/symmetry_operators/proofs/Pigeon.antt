@@ -1,9 +1,9 @@
 -- Lists without two equal elements: a map into the list that takes no two elements to one takes some element to each.
 -- Assumes nothing.
 use mathlib.Core.Path.{_≡_, refl, sym, ap, subst, _∙_}
-use mathlib.Core.Bool.{Bool, true, false, cond, not, _&&_, _||_, false≢true, true≢false}
+use mathlib.Core.Bool.{Bool, true, false, cond, not, _||_, false≢true, true≢false}
 use mathlib.Core.List.{List, [], _∷_, map}
-use Prim.Native.Nat.{ℕ, zero, suc, _+_, _≤_, _<_}
+use Prim.Native.Nat.{ℕ, zero, suc, _≤_, _<_}
 use native.Mathlib.Omega.{arith}
 use lib.ListN.{length, length-map, getD}
 use Rattle.text.proofs.Bools.{and-both, not-holds}
@@ -66,7 +66,8 @@ module _ {A : Type 0} (same : A → A → Bool) (is-same : (a b : A) → same a 
   still-in [] a b n i = absurd (false≢true i)
   still-in (c ∷ l) a b n i = by-cases (same a c)
       (λ e. rw e (in-cases c l b i (λ q. absurd (n (q ∙ sym (is-same a c e)))) (λ j. j)))
-      (λ e. rw e (in-cases c l b i (λ q. subst (λ d. Has (c ∷ remove l a) d) (sym q) (in-head c (remove l a))) (λ j. in-tail c (remove l a) b (still-in l a b n j))))
+      (λ e. rw e (in-cases c l b i (λ q. subst (λ d. Has (c ∷ remove l a) d) (sym q) (in-head c (remove l a)))
+      (λ j. in-tail c (remove l a) b (still-in l a b n j))))
 
   -- where the distinct l are all in m, and m is no longer, all of m are in l
   pub fills : (l m : List A) → distinct same l ≡ true → ((a : A) → Has l a → Has m a) → length m ≤ length l → (b : A) → Has m b → Has l b
@@ -86,7 +87,8 @@ module _ {A : Type 0} (same : A → A → Bool) (is-same : (a b : A) → same a 
   in-image f (c ∷ l) b i = in-cases (f c) (map f l) b i (λ e. (c, (in-head c l, sym e)))
       (λ j. let r = in-image f l b j in (r .0, (in-tail c l (r .0) (r .1 .0), r .1 .1)))
 
-  distinct-image : (f : A → A) (l : List A) → ((a b : A) → Has l a → Has l b → f a ≡ f b → a ≡ b) → distinct same l ≡ true → distinct same (map f l) ≡ true
+  distinct-image : (f : A → A) (l : List A) → ((a b : A) → Has l a → Has l b → f a ≡ f b → a ≡ b) → distinct same l ≡ true
+      → distinct same (map f l) ≡ true
   distinct-image f [] one d = refl
   distinct-image f (a ∷ l) one d =
       let new = not-is (has same l a) (and-both (not (has same l a)) (distinct same l) d .0) in
@@ -95,7 +97,8 @@ module _ {A : Type 0} (same : A → A → Bool) (is-same : (a b : A) → same a 
       rw other (distinct-image f l (λ b c i j. one b c (in-tail a l b i) (in-tail a l c j)) (and-both (not (has same l a)) (distinct same l) d .1))
 
   -- the pigeonhole principle
-  pub reached : (f : A → A) (l : List A) → distinct same l ≡ true → ((a : A) → Has l a → Has l (f a)) → ((a b : A) → Has l a → Has l b → f a ≡ f b → a ≡ b)
+  pub reached : (f : A → A) (l : List A) → distinct same l ≡ true → ((a : A) → Has l a → Has l (f a))
+      → ((a b : A) → Has l a → Has l b → f a ≡ f b → a ≡ b)
       → (b : A) → Has l b → (a : A) × (Has l a × (f a ≡ b))
   reached f l d into one b i =
       let size = length-map l f in

@@ -2,13 +2,13 @@
 -- Assumes nothing.
 use mathlib.Core.Path.{_≡_, refl, sym, ap, subst, _∙_}
 use mathlib.Core.Bool.{Bool, true, false, cond, false≢true}
-use mathlib.Core.Logic.{_⊎_, inl, inr}
+use mathlib.Core.Logic.{inl, inr}
 use mathlib.Core.List.{List, [], _∷_, _++_}
 use Prim.Native.Nat.{ℕ, zero, suc, _+_, _*_, _-_, _<_, _≤_}
 use native.Mathlib.Nat.{suc-mul, zero-mul, zero-add, mul-le-mul-right}
 use native.Mathlib.Omega.{arith}
-use borrow.Author.Tests.{ltb-true, ltb-false, eqb-true, eqb-false}
-use lib.Dec.{ltb, eqb}
+use borrow.Author.Tests.{ltb-true, ltb-false, eqb-false}
+use lib.Dec.{ltb}
 use lib.IntN.{ℤ}
 use lib.ListN.{length, getD, List·getD-append}
 use lib.Seq.{getD-append-add}
@@ -16,7 +16,7 @@ use Rattle.text.specs.Run.{all}
 use Rattle.symmetry_operators.specs.Operator.{Row, product, identity, same, turns}
 use Rattle.symmetry_operators.specs.Lists.{has, distinct, looked, withEach, pairsWith}
 use Rattle.symmetry_operators.specs.Check.{rowsOf, closes, pairs, closing, judged, shaped, checked, outcome, Outcome}
-use Rattle.symmetry_operators.specs.Wording.{rowAt, Earlier, Closes, ProductMissing, FirstMissing, Counted}
+use Rattle.symmetry_operators.specs.Wording.{rowAt, Earlier, ProductMissing, FirstMissing, Counted}
 use Rattle.symmetry_operators.proofs.Pigeon.{by-cases}
 use Rattle.symmetry_operators.proofs.Runs.{run, run-le, all-run, looked-run, first-fails, before-holds, length-with, length-pairs}
 use Rattle.symmetry_operators.proofs.Words.{has-row, row-has, in-at}
@@ -33,11 +33,13 @@ module _ {A : Type 0} (d : A) where
   pair-at (a ∷ l) m zero j h k =
       let e : 0 * length m + j ≡ j = ap (λ (n : ℕ). n + j) (zero-mul (length m)) ∙ zero-add j in
       let s = length-with a m in
-      ap (λ (n : ℕ). getD (withEach a m ++ pairsWith l m) n (d, d)) e ∙ List·getD-append (withEach a m) (pairsWith l m) (d, d) j (omega arith) ∙ with-at a m j k
+      ap (λ (n : ℕ). getD (withEach a m ++ pairsWith l m) n (d, d)) e ∙ List·getD-append (withEach a m) (pairsWith l m) (d, d) j (omega arith)
+      ∙ with-at a m j k
   pair-at (a ∷ l) m (suc i) j h k =
       let s = length-with a m in
       let e : suc i * length m + j ≡ length (withEach a m) + (i * length m + j) = ap (λ (n : ℕ). n + j) (suc-mul i (length m)) ∙ omega arith in
-      ap (λ (n : ℕ). getD (withEach a m ++ pairsWith l m) n (d, d)) e ∙ getD-append-add (withEach a m) (pairsWith l m) (i * length m + j) (d, d) ∙ pair-at l m i j (omega arith) k
+      ap (λ (n : ℕ). getD (withEach a m ++ pairsWith l m) n (d, d)) e ∙ getD-append-add (withEach a m) (pairsWith l m) (i * length m + j) (d, d)
+      ∙ pair-at l m i j (omega arith) k
 
 -- a position among a times b, by rows of b
 record Split (a b p : ℕ) : Type 0 where
@@ -50,7 +52,14 @@ record Split (a b p : ℕ) : Type 0 where
 split : (a b p : ℕ) → p < a * b → Split a b p
 split zero b p h = absurd (omega (arith, zero-mul b))
 split (suc a) b p h = by-cases (ltb p b)
-    (λ t. record { first = 0; second = p; first-within = omega arith; second-within = ltb-true p b t; is = sym (ap (λ (n : ℕ). n + p) (zero-mul b) ∙ zero-add p) })
+    (λ t. record {
+      first = 0;
+      second = p;
+      first-within = omega arith;
+      second-within = ltb-true p b t;
+      is = sym
+          (ap (λ (n : ℕ). n + p) (zero-mul b) ∙ zero-add p);
+    })
     (λ t. let k = ltb-false p b t in let e = suc-mul a b in let s = split a b (p - b) (omega arith) in
     let q = s .is in let w = s .first-within in let g = suc-mul (s .first) b in
     record { first = suc (s .first); second = s .second; first-within = omega arith; second-within = s .second-within; is = omega arith })
@@ -59,7 +68,8 @@ module _ (l : List (Row ℤ)) where
   abbrev size : ℕ
   size = length l
 
-  closes-at : (i j : ℕ) → i < size → j < size → {t : Bool} → closes l (getD (pairs l) (i * size + j) (identity, identity)) ≡ t → has same l (product (rowAt l i) (rowAt l j)) ≡ t
+  closes-at : (i j : ℕ) → i < size → j < size → {t : Bool} → closes l (getD (pairs l) (i * size + j) (identity, identity)) ≡ t
+      → has same l (product (rowAt l i) (rowAt l j)) ≡ t
   closes-at i j h k e = sym (ap (closes l) (pair-at identity l l i j h k)) ∙ e
 
   earlier : (i j k m : ℕ) → j < size → Earlier i j k m → i * size + j < k * size + m
@@ -80,7 +90,9 @@ module _ (l : List (Row ℤ)) where
         counted = looked-run (closes l) (pairs l) ∙ ap (λ (t : Bool). cond t (length (pairs l)) (suc p)) e ∙ ap suc (s .is);
         missing = λ i. false≢true (sym (closes-at (s .first) (s .second) (s .first-within) (s .second-within)
             (ap (λ (n : ℕ). closes l (getD (pairs l) n d)) (sym (s .is)) ∙ first-fails (closes l) (pairs l) d e)) ∙ row-has l _ i);
-        before = λ i j h k b. has-row l _ (closes-at i j h k (before-holds (closes l) (pairs l) d (i * size + j) (subst (λ (n : ℕ). i * size + j < n) (sym (s .is)) (earlier i j (s .first) (s .second) k b))));
+        before = λ i j h k b. has-row l _
+            (closes-at i j h k (before-holds (closes l) (pairs l) d (i * size + j)
+            (subst (λ (n : ℕ). i * size + j < n) (sym (s .is)) (earlier i j (s .first) (s .second) k b))));
       }
     where
       below : {p n m : ℕ} → p ≤ n → n ≡ m → (p ≡ n → ⊥) → p < m
@@ -126,4 +138,5 @@ unfolding checked judged
 count-position n =
     let l = rowsOf n in
     refused-counted l (shaped n) 13 (omega arith) (omega arith) (refused-counted l (all turns l) 14 (omega arith) (omega arith)
-    (refused-counted l (has same l identity) 15 (omega arith) (omega arith) (refused-counted l (distinct same l) 16 (omega arith) (omega arith) (closing-counted l))))
+    (refused-counted l (has same l identity) 15 (omega arith) (omega arith)
+    (refused-counted l (distinct same l) 16 (omega arith) (omega arith) (closing-counted l))))

@@ -1,13 +1,13 @@
 -- Whole numbers modulo 12288: sums, negatives and multiples by a factor. `Is z n`: n is z modulo 12288.
 -- Assumes nothing.
 use mathlib.Core.Path.{_≡_, refl, sym, ap, _∙_}
-use mathlib.Core.Bool.{Bool, true, false, cond, _&&_, false≢true}
-use Prim.Native.Nat.{ℕ, zero, suc, _+_, _*_, _-_, _/_, _%_, _<_, _≤_}
+use mathlib.Core.Bool.{Bool, true, false, false≢true}
+use Prim.Native.Nat.{ℕ, zero, suc, _+_, _*_, _-_, _/_, _%_, _<_}
 use native.Mathlib.Nat.{add-mul-mod-self-left, mod-eq-of-lt, add-comm, one-mul}
 use native.Mathlib.Omega.{arith}
 use borrow.Author.Tests.{ltb-true, ltb-false, leb-true}
 use lib.Dec.{ltb, leb}
-use lib.IntN.{ℤ, pos, negsuc, negℤ, subℕ, natAbs, _+ℤ_, _-ℤ_, _*ℤ_}
+use lib.IntN.{ℤ, pos, negsuc, negℤ, subℕ, _+ℤ_, _-ℤ_, _*ℤ_}
 use Rattle.symmetry_operators.specs.Operator.{residue, isFactor, isTranslation}
 use Rattle.symmetry_operators.specs.Residues.{reduced, scaled}
 use Rattle.text.proofs.Bools.{and-both}
@@ -34,7 +34,8 @@ rest : (n : ℕ) → n % 12288 < 12288
 rest n = omega arith
 
 pub reduced-neg : (n : ℕ) → 12287 - n % 12288 ≡ (12287 * suc n) % 12288
-reduced-neg n = sym (mod-eq-of-lt (omega (arith, rest n))) ∙ mod-by (12287 - n % 12288) (12287 * suc n) (12287 * (n / 12288) + n % 12288) 0 (omega (arith, rest n))
+reduced-neg n = sym (mod-eq-of-lt (omega (arith, rest n)))
+    ∙ mod-by (12287 - n % 12288) (12287 * suc n) (12287 * (n / 12288) + n % 12288) 0 (omega (arith, rest n))
 
 pub congruent : (a b m n : ℕ) → a % 12288 ≡ m % 12288 → b % 12288 ≡ n % 12288 → (a + b) % 12288 ≡ (m + n) % 12288
 congruent a b m n h k = omega arith
@@ -44,10 +45,13 @@ multiple a m h = mod-by (12287 * a) (12287 * m) (12287 * (m / 12288)) (12287 * (
 
 pub is-add : {y z : ℤ} {m n : ℕ} → Is y m → Is z n → Is (y +ℤ z) (m + n)
 is-add {y = pos a} {z = pos b} {m} {n} h k = record { is = congruent a b m n (h .is) (k .is) }
-is-add {y = pos a} {z = negsuc b} {m} {n} h k = record { is = reduced-sub a (suc b) ∙ congruent a (12287 * suc b) m n (h .is) (sym (reduced-neg b) ∙ k .is) }
-is-add {y = negsuc a} {z = pos b} {m} {n} h k = record { is = reduced-sub b (suc a) ∙ congruent b (12287 * suc a) n m (k .is) (sym (reduced-neg a) ∙ h .is) ∙ ap (λ (i : ℕ). i % 12288) (add-comm n m) }
+is-add {y = pos a} {z = negsuc b} {m} {n} h k = record
+    { is = reduced-sub a (suc b) ∙ congruent a (12287 * suc b) m n (h .is) (sym (reduced-neg b) ∙ k .is) }
+is-add {y = negsuc a} {z = pos b} {m} {n} h k = record
+    { is = reduced-sub b (suc a) ∙ congruent b (12287 * suc a) n m (k .is) (sym (reduced-neg a) ∙ h .is) ∙ ap (λ (i : ℕ). i % 12288) (add-comm n m) }
 is-add {y = negsuc a} {z = negsuc b} {m} {n} h k = record {
-  is = reduced-neg (suc (a + b)) ∙ ap (λ (i : ℕ). i % 12288) (omega arith) ∙ congruent (12287 * suc a) (12287 * suc b) m n (sym (reduced-neg a) ∙ h .is) (sym (reduced-neg b) ∙ k .is);
+  is = reduced-neg (suc (a + b)) ∙ ap (λ (i : ℕ). i % 12288) (omega arith)
+      ∙ congruent (12287 * suc a) (12287 * suc b) m n (sym (reduced-neg a) ∙ h .is) (sym (reduced-neg b) ∙ k .is);
 }
 
 neg-is : (m n : ℕ) → m % 12288 ≡ n % 12288 → reduced (negℤ (pos m)) ≡ (12287 * n) % 12288
@@ -56,7 +60,8 @@ neg-is (suc m) n e = reduced-neg m ∙ multiple (suc m) n e
 
 pub is-neg : {z : ℤ} {n : ℕ} → Is z n → Is (negℤ z) (12287 * n)
 is-neg {z = pos a} {n} h = record { is = neg-is a n (h .is) }
-is-neg {z = negsuc a} {n} h = record { is = mod-by (suc a) (12287 * (12287 * suc a)) (12286 * suc a) 0 (omega arith) ∙ multiple (12287 * suc a) n (sym (reduced-neg a) ∙ h .is) }
+is-neg {z = negsuc a} {n} h = record
+    { is = mod-by (suc a) (12287 * (12287 * suc a)) (12286 * suc a) 0 (omega arith) ∙ multiple (12287 * suc a) n (sym (reduced-neg a) ∙ h .is) }
 
 pub is-minus : {y z : ℤ} {m n : ℕ} → Is y m → Is z n → Is (y -ℤ z) (m + 12287 * n)
 is-minus h k = is-add h (is-neg k)

@@ -1,12 +1,12 @@
 -- Runs: how many come before the first that fails, over two lists joined, and what is looked at.
 -- Assumes nothing.
-use mathlib.Core.Path.{_≡_, refl, sym, ap, ap₂, subst, _∙_}
-use mathlib.Core.Bool.{Bool, true, false, cond, not, _&&_, _||_, false≢true}
+use mathlib.Core.Path.{_≡_, refl, sym, ap, ap₂, _∙_}
+use mathlib.Core.Bool.{Bool, true, false, cond, _&&_, false≢true}
 use mathlib.Core.List.{List, [], _∷_, _++_}
 use Prim.Native.Nat.{ℕ, zero, suc, _+_, _*_, _<_, _≤_}
 use native.Mathlib.Omega.{arith}
 use native.Mathlib.Nat.{zero-add}
-use borrow.Author.Tests.{eq-eqb, ne-eqb}
+use borrow.Author.Tests.{ne-eqb}
 use lib.Dec.{eqb}
 use lib.ListN.{length, getD, length-append}
 use Rattle.text.specs.Run.{all}
@@ -69,7 +69,8 @@ module _ {A : Type 0} (p : A → Bool) where
   first-fails [] d e = absurd (false≢true (sym e))
   first-fails (a ∷ l) d e = go (first-fails l d) (p a) refl e
     where
-      go : (all p l ≡ false → p (getD l (run p l) d) ≡ false) → (t : Bool) → p a ≡ t → (t && all p l) ≡ false → p (getD (a ∷ l) (cond t (suc (run p l)) 0) d) ≡ false
+      go : (all p l ≡ false → p (getD l (run p l) d) ≡ false) → (t : Bool) → p a ≡ t → (t && all p l) ≡ false
+          → p (getD (a ∷ l) (cond t (suc (run p l)) 0) d) ≡ false
       go ih true q e = ih e
       go ih false q e = q
 
@@ -77,7 +78,8 @@ module _ {A : Type 0} (p : A → Bool) where
   before-holds [] d k h = absurd (omega arith)
   before-holds (a ∷ l) d k h = go (before-holds l d) (p a) refl k h
     where
-      go : ((k : ℕ) → k < run p l → p (getD l k d) ≡ true) → (t : Bool) → p a ≡ t → (k : ℕ) → k < cond t (suc (run p l)) 0 → p (getD (a ∷ l) k d) ≡ true
+      go : ((k : ℕ) → k < run p l → p (getD l k d) ≡ true) → (t : Bool) → p a ≡ t → (k : ℕ) → k < cond t (suc (run p l)) 0
+          → p (getD (a ∷ l) k d) ≡ true
       go ih true q zero h = q
       go ih true q (suc k) h = ih k (omega arith)
       go ih false q k h = absurd (omega arith)
@@ -89,4 +91,5 @@ module _ {A : Type 0} where
 
   pub length-pairs : (l m : List A) → length (pairsWith l m) ≡ length l * length m
   length-pairs [] m = omega arith
-  length-pairs (a ∷ l) m = length-append (withEach a m) (pairsWith l m) ∙ ap₂ _+_ (length-with a m) (length-pairs l m) ∙ sym (native.Mathlib.Nat.suc-mul (length l) (length m) ∙ native.Mathlib.Nat.add-comm (length l * length m) (length m))
+  length-pairs (a ∷ l) m = length-append (withEach a m) (pairsWith l m) ∙ ap₂ _+_ (length-with a m) (length-pairs l m)
+      ∙ sym (native.Mathlib.Nat.suc-mul (length l) (length m) ∙ native.Mathlib.Nat.add-comm (length l * length m) (length m))

@@ -1,10 +1,10 @@
 -- The tests of the check are the request's words, both ways; an accepted list is a group.
 -- Assumes nothing.
 use mathlib.Core.Path.{_≡_, refl, sym, ap, subst, _∙_}
-use mathlib.Core.Bool.{Bool, true, false, cond, not, _&&_, _||_, false≢true, true≢false}
+use mathlib.Core.Bool.{Bool, true, false, cond, not, _&&_, false≢true, true≢false}
 use mathlib.Core.Logic.{_⊎_, inl, inr, ⊎-elim, _↔_}
 use mathlib.Core.List.{List, [], _∷_, _++_}
-use Prim.Native.Nat.{ℕ, zero, suc, _+_, _*_, _%_, _<_, _≤_}
+use Prim.Native.Nat.{ℕ, zero, suc, _+_, _*_, _%_, _<_}
 use native.Mathlib.Omega.{arith}
 use borrow.Author.Tests.{eqb-true, eqb-false, eq-eqb, leb-true, leb-false, le-leb}
 use lib.Dec.{eqb, leb}
@@ -15,7 +15,7 @@ use Rattle.text.proofs.Bools.{and-both, or-either, not-holds}
 use Rattle.symmetry_operators.specs.Operator.{Row, product, determinant, identity, eqZ, same, fine, turns}
 use Rattle.symmetry_operators.specs.Lists.{has, distinct, withEach, pairsWith}
 use Rattle.symmetry_operators.specs.Check.{rowMost, rowsOf, closes, pairs, closing, judged, shaped, checked, outcome, Outcome}
-use Rattle.symmetry_operators.specs.Wording.{In, Some, rowAt, NoList, too-many, part-row, out-of-range, HasUnit, NoUnit, NoIdentity, EqualRows, ProductMissing, IsList, Accepted}
+use Rattle.symmetry_operators.specs.Wording.{In, Some, rowAt, NoList, too-many, part-row, out-of-range, HasUnit, NoUnit, EqualRows, ProductMissing, IsList, Accepted}
 use Rattle.symmetry_operators.specs.Group.{Group}
 use Rattle.symmetry_operators.proofs.Pigeon.{by-cases, has-in, in-has, or-left, or-right}
 use Rattle.symmetry_operators.proofs.Rows.{eqZ-is, eqZ-self, same-is, same-self}
@@ -141,7 +141,14 @@ equal-rows (a ∷ l) e = go (equal-rows l) (has same l a) refl e
     go ih true q e =
         let i = has-row l a q in
         let w = i .within in
-        record { first = 0; second = suc (i .place); apart = omega arith; within = omega arith; equal = sym (getD-any l (i .place) identity a w ∙ i .here) }
+        record {
+          first = 0;
+          second = suc (i .place);
+          apart = omega arith;
+          within = omega arith;
+          equal = sym
+              (getD-any l (i .place) identity a w ∙ i .here);
+        }
     go ih false q e =
         let r = ih e in
         let h = r .apart in
@@ -149,7 +156,8 @@ equal-rows (a ∷ l) e = go (equal-rows l) (has same l a) refl e
         record { first = suc (r .first); second = suc (r .second); apart = omega arith; within = omega arith; equal = r .equal }
 
 pub distinct-taken : (l : List (Row ℤ)) → ((i j : ℕ) → i < j → j < length l → rowAt l i ≡ rowAt l j → ⊥) → distinct same l ≡ true
-distinct-taken l f = by-cases (distinct same l) (λ e. e) (λ e. let r = equal-rows l e in absurd (f (r .first) (r .second) (r .apart) (r .within) (r .equal)))
+distinct-taken l f = by-cases (distinct same l) (λ e. e)
+    (λ e. let r = equal-rows l e in absurd (f (r .first) (r .second) (r .apart) (r .within) (r .equal)))
 
 -- "each product of two, or of one with itself, is in the list"
 pub closes-is : (l : List (Row ℤ)) → all (closes l) (pairs l) ≡ true → (r s : Row ℤ) → In l r → In l s → In l (product r s)
@@ -168,7 +176,8 @@ all-with p r (s ∷ m) f = rw (f s (in-first s m)) (all-with p r m (λ q i. f q 
 all-pairs : (p : Row ℤ × Row ℤ → Bool) (l m : List (Row ℤ)) → ((r s : Row ℤ) → In l r → In m s → p (r, s) ≡ true) → all p (pairsWith l m) ≡ true
 unfolding all
 all-pairs p [] m f = refl
-all-pairs p (r ∷ l) m f = all-append p (withEach r m) (pairsWith l m) (all-with p r m (λ s j. f r s (in-first r l) j)) (all-pairs p l m (λ q s i j. f q s (in-rest r i) j))
+all-pairs p (r ∷ l) m f = all-append p (withEach r m) (pairsWith l m) (all-with p r m (λ s j. f r s (in-first r l) j))
+    (all-pairs p l m (λ q s i j. f q s (in-rest r i) j))
 
 pub closes-taken : (l : List (Row ℤ)) → ((r s : Row ℤ) → In l r → In l s → In l (product r s)) → all (closes l) (pairs l) ≡ true
 closes-taken l f = all-pairs (closes l) l l (λ r s i j. row-has l (product r s) (f r s i j))
@@ -199,7 +208,11 @@ all-passed n e =
     let c = cond-answer (has same l identity) _ (outcome 15 0) (λ h. omega arith) (b .1) in
     let d = cond-answer (distinct same l) (closing l) (outcome 16 0) (λ h. omega arith) (c .1) in
     let f = and-both (leb (length n) (12 * rowMost)) (all fine l) (and-both (eqb (length n % 12) 0) _ (a .0) .1) in
-    record { list = a .0; passed = record { ranges = f .1; determinants = b .0; identity-there = c .0; none-twice = d .0; products = closed-all _ (d .1) } }
+    record {
+      list = a .0;
+      passed = record
+          { ranges = f .1; determinants = b .0; identity-there = c .0; none-twice = d .0; products = closed-all _ (d .1) };
+    }
 
 pub accepted-is : (n : List ℤ) → checked n .answer ≡ 0 → IsList n × Accepted (rowsOf n)
 accepted-is n e =
@@ -219,7 +232,13 @@ pub accepted-taken : (n : List ℤ) → IsList n → Accepted (rowsOf n) → che
 unfolding checked judged closing
 accepted-taken n h a =
     let l = rowsOf n in
-    rw (shaped-taken n h, all-of turns l (λ r i. turns-taken r (a .determinants r i)), row-has l identity (a .identity-there), distinct-taken l (a .none-equal), closes-taken l (a .products))
+    rw (
+      shaped-taken n h,
+      all-of turns l (λ r i. turns-taken r (a .determinants r i)),
+      row-has l identity (a .identity-there),
+      distinct-taken l (a .none-equal),
+      closes-taken l (a .products),
+    )
 
 -- "Accept it exactly when every determinant is 1 or −1, the identity is there, no two are equal and each product of two, or of one with itself, is in the list."
 pub accepted-exactly : (n : List ℤ) → (checked n .answer ≡ 0) ↔ (IsList n × Accepted (rowsOf n))

@@ -2,7 +2,7 @@
 -- 24th, so that 24 of them are 0. A part is then one number, x + 8 y + 64 z + 512 t, its word; an operator is three words, its code. The word of a part after
 -- an operator is a sum of multiples of that operator's words: no number is taken modulo 24 by itself.
 -- Assumes nothing.
-use Prim.Native.Nat.{ℕ, zero, suc, _+_, _*_, _-_, _/_, _%_}
+use Prim.Native.Nat.{ℕ, suc, _+_, _*_, _-_, _/_, _%_}
 use mathlib.Core.Bool.{Bool, cond, _||_}
 use mathlib.Core.List.{List, [], _∷_, map}
 use lib.Dec.{eqb}

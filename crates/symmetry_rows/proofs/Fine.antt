@@ -1,7 +1,7 @@
 -- The tests of a part and of a row, one after the other.
 -- Assumes nothing.
-use mathlib.Core.Path.{_≡_, refl, sym, ap, _∙_}
-use mathlib.Core.Bool.{Bool, true, false, not, _&&_}
+use mathlib.Core.Path.{_≡_, sym, _∙_}
+use mathlib.Core.Bool.{Bool, true, false, not}
 use mathlib.Core.List.{List}
 use borrow.Author.Tests.{not-true, not-false}
 use lib.IntN.{ℤ, pos}
@@ -38,6 +38,7 @@ module _ (l : List ℤ) {a : Bool} (p : a ≡ finePart (part (getD l 0 (pos 0)) 
     unfolding fine rowFrom
     row-2 i = rw (sym p ∙ not-false a e, sym q ∙ not-true b i)
 
-    pub row-3 : not b ≡ false → {c : Bool} → c ≡ finePart (part (getD l 6 (pos 0)) (getD l 7 (pos 0)) (getD l 8 (pos 0)) (getD l 11 (pos 0))) → c ≡ fine (rowFrom l)
+    pub row-3 : not b ≡ false → {c : Bool} → c ≡ finePart (part (getD l 6 (pos 0)) (getD l 7 (pos 0)) (getD l 8 (pos 0)) (getD l 11 (pos 0)))
+        → c ≡ fine (rowFrom l)
     unfolding fine rowFrom
     row-3 i r = rw (sym p ∙ not-false a e, sym q ∙ not-false b i) r

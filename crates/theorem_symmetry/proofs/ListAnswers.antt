@@ -1,8 +1,8 @@
 -- The check of a list of symmetry operators answers by its table.
 -- Assumes nothing.
-use mathlib.Core.Path.{_≡_, refl, sym, ap, _∙_, subst⁻¹}
+use mathlib.Core.Path.{_≡_, refl, subst⁻¹}
 use mathlib.Core.Bool.{Bool, true, false, cond}
-use mathlib.Core.List.{List, []}
+use mathlib.Core.List.{List}
 use Prim.Native.Nat.{ℕ}
 use lib.IntN.{ℤ}
 use Rattle.text.specs.Run.{all}
@@ -27,7 +27,8 @@ module _ (n : List ℤ) where
       → First (listTable n) (number a b c d e)
   by-tests false b c d e p q r s t = this (not-shaped n p) refl
   by-tests true false c d e p q r s t = next (list-or-not n (shaped-is n p)) (this (no-unit l q) refl)
-  by-tests true true false d e p q r s t = next (list-or-not n (shaped-is n p)) (next (units-or-not l q) (this (λ i. fails r (row-has l identity i)) refl))
+  by-tests true true false d e p q r s t = next (list-or-not n (shaped-is n p))
+      (next (units-or-not l q) (this (λ i. fails r (row-has l identity i)) refl))
   by-tests true true true false e p q r s t =
       next (list-or-not n (shaped-is n p)) (next (units-or-not l q) (next (λ none. none (has-row l identity r)) (this (equal-rows l s) refl)))
   by-tests true true true true false p q r s t =
@@ -49,4 +50,5 @@ module _ (n : List ℤ) where
   pub list-table : Answers (listTable n) (checked n .answer)
   list-table =
       subst⁻¹ (Answers (listTable n)) number-is
-      (answers (listTable n) _ refl (by-tests (shaped n) (all turns l) (has same l identity) (distinct same l) (all (closes l) (pairs l)) refl refl refl refl refl))
+      (answers (listTable n) _ refl
+      (by-tests (shaped n) (all turns l) (has same l identity) (distinct same l) (all (closes l) (pairs l)) refl refl refl refl refl))

@@ -1,6 +1,8 @@
+-- `are_distinct` meets its contract: at place i the codes before it differ from all after them, and `length codes - i` are left.
+-- Assumes nothing.
 use Rattle.symmetry_codes.proofs.Search.{Different, none-seen, differs, twice, all-differ}
-use lib.ListN.{length, length-take, length-drop}
-use Prim.Native.Nat.{_-_, _≤_}
+use lib.ListN.{length}
+use Prim.Native.Nat.{_-_}
 use native.Mathlib.Omega.{arith}
 use Rattle.symmetry_codes.proofs.are_distinct.Statement.{statement}
 use Rattle.symmetry_codes.proofs.are_distinct.Tie as tie
@@ -42,13 +44,17 @@ has-code-requires : tie.Need-has-code-requires Inv-loop μ-loop
 has-code-requires c κs = omega arith
 
 returns : tie.Need-returns Inv-loop μ-loop
-returns c = twice _ (c .before .before .before .before .before .loop .inv) (c .before .before .before .before .loop-test .taken) (c .if1 .taken) (c .before .has-code .ensures)
+returns c =
+    twice _ (c .before .before .before .before .before .loop .inv) (c .before .before .before .before .loop-test .taken) (c .if1 .taken)
+    (c .before .has-code .ensures)
 
 loop-less : tie.Need-loop-less Inv-loop μ-loop
 loop-less c = omega arith
 
 loop-again : tie.Need-loop-again Inv-loop μ-loop
-loop-again c = differs _ (c .before .before .before .before .before .loop .inv) (c .before .before .before .before .loop-test .taken) (c .if1 .left) (c .before .has-code .ensures)
+loop-again c =
+    differs _ (c .before .before .before .before .before .loop .inv) (c .before .before .before .before .loop-test .taken) (c .if1 .left)
+    (c .before .has-code .ensures)
 
 returns-2 : tie.Need-returns-2 Inv-loop μ-loop
 returns-2 c = all-differ _ (c .before .loop .inv) (c .loop-test .left)

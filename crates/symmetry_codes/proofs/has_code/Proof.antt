@@ -1,7 +1,9 @@
+-- `has_code` meets its contract: at place i it is known whether the code is among those before it, and `length codes - i` are left.
+-- Assumes nothing.
 use Rattle.symmetry_codes.proofs.Search.{Searched, none-yet, here, other, all-seen}
 use mathlib.Core.Logic.{⊎-elim}
 use lib.ListN.{length}
-use Prim.Native.Nat.{_-_, _≤_}
+use Prim.Native.Nat.{_-_}
 use native.Mathlib.Omega.{arith}
 use Rattle.symmetry_codes.proofs.has_code.Statement.{statement}
 use Rattle.symmetry_codes.proofs.has_code.Tie as tie
@@ -31,7 +33,8 @@ loop-less c = omega arith
 
 loop-again : tie.Need-loop-again Inv-loop μ-loop
 loop-again c = let l = c .before .before .before in
-    ⊎-elim (λ w. here _ _ (l .loop .inv) (omega arith) (w .0 .taken) (w .1)) (λ w. other _ _ (l .loop .inv) (omega arith) (w .0 .left) (w .1)) (c .if1 .came)
+    ⊎-elim (λ w. here _ _ (l .loop .inv) (omega arith) (w .0 .taken) (w .1)) (λ w. other _ _ (l .loop .inv) (omega arith) (w .0 .left) (w .1))
+    (c .if1 .came)
 
 returns : tie.Need-returns Inv-loop μ-loop
 returns c = all-seen _ _ (c .before .loop .inv) (c .loop-test .left)

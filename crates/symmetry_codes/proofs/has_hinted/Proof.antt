@@ -13,7 +13,18 @@ use Rattle.symmetry_codes.proofs.hint_of.Reads as hint-of-reads
 use Rattle.symmetry_codes.proofs.wide.Reads as wide-reads
 
 returns : tie.Need-returns
-returns c = is-there (now (c .before .before .before .before .before .before .before .args .codes)) _ _ (c .before .before .if1 .taken) (c .if2 .taken)
+returns c =
+    is-there (now (c .before .before .before .before .before .before .before .args .codes)) _ _ (c .before .before .if1 .taken) (c .if2 .taken)
 
 pub has-hinted-spec : {M : Type 1} → statement M
-has-hinted-spec = tie.close (tie.spec (λ c κs. omega arith) (λ c. search needs) (λ c κs. search needs) (λ c. omega arith) (λ c. omega arith) returns (λ c κs. search needs) (λ c. search needs))
+has-hinted-spec =
+    tie.close
+    (tie.spec
+    (λ c κs. omega arith)
+    (λ c. search needs)
+    (λ c κs. search needs)
+    (λ c. omega arith)
+    (λ c. omega arith)
+    returns
+    (λ c κs. search needs)
+    (λ c. search needs))

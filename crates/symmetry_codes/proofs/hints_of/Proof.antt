@@ -30,4 +30,18 @@ returns : tie.Need-returns Inv-loop μ-loop
 returns c = hinted-all (c .before .loop .inv) (c .loop-test .left)
 
 pub hints-of-spec : {M : Type 1} → statement M
-hints-of-spec = tie.close (tie.spec Inv-loop μ-loop loop-holds (λ c. omega arith) (λ c. omega arith) (λ c. omega arith) (λ c κs. omega arith) array-write-hints (λ c. omega arith) (λ c. omega arith) loop-again returns)
+hints-of-spec =
+    tie.close
+    (tie.spec
+    Inv-loop
+    μ-loop
+    loop-holds
+    (λ c. omega arith)
+    (λ c. omega arith)
+    (λ c. omega arith)
+    (λ c κs. omega arith)
+    array-write-hints
+    (λ c. omega arith)
+    (λ c. omega arith)
+    loop-again
+    returns)

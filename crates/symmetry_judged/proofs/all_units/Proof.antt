@@ -24,13 +24,37 @@ loop-holds : tie.Need-loop-holds Inv-loop μ-loop
 loop-holds c = tested-none rowFrom _ _ turning
 
 returns : tie.Need-returns Inv-loop μ-loop
-returns c = let l = c .before .before .before .before .before in tested-fails rowFrom _ _ turning (l .loop .inv) (c .before .before .before .before .loop-test .taken) (left (unit-read (now (l .before .args .rows)) (l .loop .at) (c .before .before .residues-of .ensures) (c .before .has-unit .ensures)) (c .if1 .taken))
+returns c =
+    let l = c .before .before .before .before .before in
+    tested-fails rowFrom _ _ turning (l .loop .inv) (c .before .before .before .before .loop-test .taken)
+    (left (unit-read (now (l .before .args .rows)) (l .loop .at) (c .before .before .residues-of .ensures) (c .before .has-unit .ensures))
+    (c .if1 .taken))
 
 loop-again : tie.Need-loop-again Inv-loop μ-loop
-loop-again c = let l = c .before .before .before .before .before in tested-more rowFrom _ _ turning (l .loop .inv) (c .before .before .before .before .loop-test .taken) (taken (unit-read (now (l .before .args .rows)) (l .loop .at) (c .before .before .residues-of .ensures) (c .before .has-unit .ensures)) (c .if1 .left))
+loop-again c =
+    let l = c .before .before .before .before .before in
+    tested-more rowFrom _ _ turning (l .loop .inv) (c .before .before .before .before .loop-test .taken)
+    (taken (unit-read (now (l .before .args .rows)) (l .loop .at) (c .before .before .residues-of .ensures) (c .before .has-unit .ensures))
+    (c .if1 .left))
 
 returns-2 : tie.Need-returns-2 Inv-loop μ-loop
 returns-2 c = tested-all rowFrom _ _ turning (c .before .loop .inv) (c .loop-test .left)
 
 pub all-units-spec : {M : Type 1} → statement M
-all-units-spec = tie.close (tie.spec Inv-loop μ-loop loop-holds (λ c. omega arith) (λ c. omega arith) (λ c. omega arith) (λ c κs. omega arith) (λ c κs. omega arith) returns (λ c. omega arith) (λ c. omega arith) (λ c. omega arith) loop-again returns-2)
+all-units-spec =
+    tie.close
+    (tie.spec
+    Inv-loop
+    μ-loop
+    loop-holds
+    (λ c. omega arith)
+    (λ c. omega arith)
+    (λ c. omega arith)
+    (λ c κs. omega arith)
+    (λ c κs. omega arith)
+    returns
+    (λ c. omega arith)
+    (λ c. omega arith)
+    (λ c. omega arith)
+    loop-again
+    returns-2)

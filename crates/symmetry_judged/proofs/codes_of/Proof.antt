@@ -29,10 +29,30 @@ array-write-codes : tie.Need-array-write-codes Inv-loop μ-loop
 array-write-codes c = omega (arith, c .before .before .before .before .loop .inv .long)
 
 loop-again : tie.Need-loop-again Inv-loop μ-loop
-loop-again c = let l = c .before .before .before .before in stored-more rowFrom _ _ code 192 (l .loop .inv) (c .before .before .before .loop-test .taken) (omega arith) (code-read (now (l .before .args .rows)) (l .loop .at) (c .before .residues-of .ensures) (c .product-code .ensures))
+loop-again c =
+    let l = c .before .before .before .before in
+    stored-more rowFrom _ _ code 192 (l .loop .inv) (c .before .before .before .loop-test .taken) (omega arith)
+    (code-read (now (l .before .args .rows)) (l .loop .at) (c .before .residues-of .ensures) (c .product-code .ensures))
 
 returns : tie.Need-returns Inv-loop μ-loop
 returns c = stored-all rowFrom _ _ code 192 (c .before .loop .inv) (c .loop-test .left)
 
 pub codes-of-spec : {M : Type 1} → statement M
-codes-of-spec = tie.close (tie.spec Inv-loop μ-loop loop-holds (λ c. omega arith) (λ c. omega arith) (λ c. omega arith) (λ c κs. omega arith) (λ c κs. omega arith) (λ c. omega arith) array-write-codes (λ c. omega arith) (λ c. omega arith) (λ c. omega arith) loop-again returns)
+codes-of-spec =
+    tie.close
+    (tie.spec
+    Inv-loop
+    μ-loop
+    loop-holds
+    (λ c. omega arith)
+    (λ c. omega arith)
+    (λ c. omega arith)
+    (λ c κs. omega arith)
+    (λ c κs. omega arith)
+    (λ c. omega arith)
+    array-write-codes
+    (λ c. omega arith)
+    (λ c. omega arith)
+    (λ c. omega arith)
+    loop-again
+    returns)

@@ -24,13 +24,33 @@ abbrev μ-loop : tie.MeasureT-loop
 μ-loop first codes hints j₀ j = length codes - j
 
 returns : tie.Need-returns Inv-loop μ-loop
-returns c = stop _ _ (c .before .before .before .before .before .loop .inv) (c .before .before .before .before .loop-test .taken) (ap (has eqb (now (c .before .before .before .before .before .before .before .args .codes))) (sym (c .before .before .product-code .ensures)) ∙ left (c .before .has-hinted .ensures) (c .if1 .taken))
+returns c =
+    stop _ _ (c .before .before .before .before .before .loop .inv) (c .before .before .before .before .loop-test .taken)
+    (ap (has eqb (now (c .before .before .before .before .before .before .before .args .codes))) (sym (c .before .before .product-code .ensures))
+    ∙ left (c .before .has-hinted .ensures) (c .if1 .taken))
 
 loop-again : tie.Need-loop-again Inv-loop μ-loop
-loop-again c = more _ _ (c .before .before .before .before .before .loop .inv) (c .before .before .before .before .loop-test .taken) (ap (has eqb (now (c .before .before .before .before .before .before .before .args .codes))) (sym (c .before .before .product-code .ensures)) ∙ taken (c .before .has-hinted .ensures) (c .if1 .left))
+loop-again c =
+    more _ _ (c .before .before .before .before .before .loop .inv) (c .before .before .before .before .loop-test .taken)
+    (ap (has eqb (now (c .before .before .before .before .before .before .before .args .codes))) (sym (c .before .before .product-code .ensures))
+    ∙ taken (c .before .has-hinted .ensures) (c .if1 .left))
 
 returns-2 : tie.Need-returns-2 Inv-loop μ-loop
 returns-2 c = end _ _ (c .before .loop .inv) (c .loop-test .left)
 
 pub row-run-spec : {M : Type 1} → statement M
-row-run-spec = tie.close (tie.spec Inv-loop μ-loop (λ c. start _ _) (λ c. omega arith) (λ c. omega arith) (λ c κs. omega arith) (λ c κs. omega arith) returns (λ c. omega arith) (λ c. omega arith) loop-again returns-2)
+row-run-spec =
+    tie.close
+    (tie.spec
+    Inv-loop
+    μ-loop
+    (λ c. start _ _)
+    (λ c. omega arith)
+    (λ c. omega arith)
+    (λ c κs. omega arith)
+    (λ c κs. omega arith)
+    returns
+    (λ c. omega arith)
+    (λ c. omega arith)
+    loop-again
+    returns-2)

@@ -24,13 +24,34 @@ loop-holds : tie.Need-loop-holds Inv-loop μ-loop
 loop-holds c = tested-none rowFrom _ _ fine
 
 returns : tie.Need-returns Inv-loop μ-loop
-returns c = let l = c .before .before .before .before in tested-fails rowFrom _ _ fine (l .loop .inv) (c .before .before .before .loop-test .taken) (left (c .before .row-fine .ensures ∙ ap (λ s. fine (rowFrom s)) (rest-is (now (l .before .args .rows)) (l .loop .at))) (c .if1 .taken))
+returns c =
+    let l = c .before .before .before .before in
+    tested-fails rowFrom _ _ fine (l .loop .inv) (c .before .before .before .loop-test .taken)
+    (left (c .before .row-fine .ensures ∙ ap (λ s. fine (rowFrom s)) (rest-is (now (l .before .args .rows)) (l .loop .at))) (c .if1 .taken))
 
 loop-again : tie.Need-loop-again Inv-loop μ-loop
-loop-again c = let l = c .before .before .before .before in tested-more rowFrom _ _ fine (l .loop .inv) (c .before .before .before .loop-test .taken) (taken (c .before .row-fine .ensures ∙ ap (λ s. fine (rowFrom s)) (rest-is (now (l .before .args .rows)) (l .loop .at))) (c .if1 .left))
+loop-again c =
+    let l = c .before .before .before .before in
+    tested-more rowFrom _ _ fine (l .loop .inv) (c .before .before .before .loop-test .taken)
+    (taken (c .before .row-fine .ensures ∙ ap (λ s. fine (rowFrom s)) (rest-is (now (l .before .args .rows)) (l .loop .at))) (c .if1 .left))
 
 returns-2 : tie.Need-returns-2 Inv-loop μ-loop
 returns-2 c = tested-all rowFrom _ _ fine (c .before .loop .inv) (c .loop-test .left)
 
 pub all-fine-spec : {M : Type 1} → statement M
-all-fine-spec = tie.close (tie.spec Inv-loop μ-loop loop-holds (λ c. omega arith) (λ c. omega arith) (λ c. omega arith) (λ c κs. omega arith) returns (λ c. omega arith) (λ c. omega arith) (λ c. omega arith) loop-again returns-2)
+all-fine-spec =
+    tie.close
+    (tie.spec
+    Inv-loop
+    μ-loop
+    loop-holds
+    (λ c. omega arith)
+    (λ c. omega arith)
+    (λ c. omega arith)
+    (λ c κs. omega arith)
+    returns
+    (λ c. omega arith)
+    (λ c. omega arith)
+    (λ c. omega arith)
+    loop-again
+    returns-2)

@@ -18,10 +18,24 @@ returns : tie.Need-returns
 returns c = ap outcomeOf (c .refused .ensures) ∙ part-row (now (c .before .before .args .rows)) (c .before .if1 .taken)
 
 returns-2 : tie.Need-returns-2
-returns-2 c = ap outcomeOf (c .refused2 .ensures) ∙ out-of-range (now (c .before .before .before .before .args .rows)) (c .before .before .before .if1 .left) (left (c .before .before .all-fine .ensures) (c .before .if2 .taken))
+returns-2 c =
+    ap outcomeOf (c .refused2 .ensures)
+    ∙ out-of-range (now (c .before .before .before .before .args .rows)) (c .before .before .before .if1 .left)
+    (left (c .before .before .all-fine .ensures) (c .before .if2 .taken))
 
 returns-3 : tie.Need-returns-3
-returns-3 c = in-range (now (c .before .before .before .before .args .rows)) (c .before .before .before .if1 .left) (taken (c .before .before .all-fine .ensures) (c .before .if2 .left)) (c .judge .ensures)
+returns-3 c =
+    in-range (now (c .before .before .before .before .args .rows)) (c .before .before .before .if1 .left)
+    (taken (c .before .before .all-fine .ensures) (c .before .if2 .left)) (c .judge .ensures)
 
 pub check-list-spec : {M : Type 1} → statement M
-check-list-spec = tie.close (tie.spec (λ c κs. search needs) returns (λ c κs. search needs) (λ c κs. search needs) returns-2 (λ c κs. search needs) returns-3)
+check-list-spec =
+    tie.close
+    (tie.spec
+    (λ c κs. search needs)
+    returns
+    (λ c κs. search needs)
+    (λ c κs. search needs)
+    returns-2
+    (λ c κs. search needs)
+    returns-3)

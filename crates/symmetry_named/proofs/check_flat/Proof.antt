@@ -29,4 +29,13 @@ returns-2 : tie.Need-returns-2
 returns-2 c = let a = c .before .before .args in ap outcomeOf (c .refused .ensures) ∙ many-rows (a .f) (a .n) (omega arith)
 
 pub check-flat-spec : {M : Type 1} → statement M
-check-flat-spec = tie.close (tie.spec (λ c. search needs) array-share-prefix-v slice-aggregate-check-list (λ c κs. search needs) returns (λ c κs. search needs) returns-2)
+check-flat-spec =
+    tie.close
+    (tie.spec
+    (λ c. search needs)
+    array-share-prefix-v
+    slice-aggregate-check-list
+    (λ c κs. search needs)
+    returns
+    (λ c κs. search needs)
+    returns-2)

@@ -1,3 +1,5 @@
+-- `no_rows` meets its contract.
+-- Assumes nothing.
 use mathlib.Core.Path.{refl}
 use Rattle.symmetry_named.specs.Named.{noRows}
 use Rattle.symmetry_named.proofs.no_rows.Statement.{statement}

@@ -1,3 +1,5 @@
+-- `with_row` meets its contract.
+-- Assumes nothing.
 use Rattle.symmetry_named.proofs.Filling.{with-room, no-room}
 use mathlib.Core.Path.{_∙_}
 use borrow.Author.Needs.{needs}

@@ -12,7 +12,9 @@ use Rattle.symmetry_numbers.proofs.factor_at.Lts as lts
 use Rattle.symmetry_numbers.proofs.is_factor.Reads as is-factor-reads
 
 returns : tie.Need-returns
-returns c = let a = c .before .before .before .args in passed-on isFactor (now (a .numbers)) (a .i) (c .before .is-factor-arg .given) (c .is-factor .ensures)
+returns c =
+    let a = c .before .before .before .args in
+    passed-on isFactor (now (a .numbers)) (a .i) (c .before .is-factor-arg .given) (c .is-factor .ensures)
 
 returns-2 : tie.Need-returns-2
 returns-2 c = let a = c .before .args in past-end isFactor (now (a .numbers)) (a .i) (c .if1 .left) refl

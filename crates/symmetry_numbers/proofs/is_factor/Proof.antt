@@ -1,3 +1,5 @@
+-- `is_factor` meets its contract.
+-- Assumes nothing.
 use lib.IntN.{pos, negsuc}
 use Rattle.symmetry_numbers.proofs.Ranges.{held-below, held-above}
 use Rattle.symmetry_numbers.proofs.is_factor.Statement.{statement}

@@ -1,4 +1,6 @@
-use lib.IntN.{pos, negsuc}
+-- `is_translation` meets its contract.
+-- Assumes nothing.
+use lib.IntN.{pos}
 use Rattle.symmetry_numbers.proofs.Ranges.{held-below, held-above}
 use Rattle.symmetry_numbers.proofs.is_translation.Statement.{statement}
 use Rattle.symmetry_numbers.proofs.is_translation.Tie as tie

@@ -12,7 +12,9 @@ use Rattle.symmetry_numbers.proofs.reduced_at.Lts as lts
 use Rattle.symmetry_numbers.proofs.reduced.Reads as reduced-reads
 
 returns : tie.Need-returns
-returns c = let a = c .before .before .before .args in passed-on reduced (now (a .numbers)) (a .i) (c .before .reduced-arg .given) (c .reduced .ensures)
+returns c =
+    let a = c .before .before .before .args in
+    passed-on reduced (now (a .numbers)) (a .i) (c .before .reduced-arg .given) (c .reduced .ensures)
 
 returns-2 : tie.Need-returns-2
 returns-2 c = let a = c .before .args in past-end reduced (now (a .numbers)) (a .i) (c .if1 .left) refl

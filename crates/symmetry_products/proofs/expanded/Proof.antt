@@ -1,6 +1,5 @@
 -- `expanded` meets its contract.
 -- Assumes nothing.
-use mathlib.Core.Path.{_≡_, ap}
 use Prim.Native.Nat.{_+_, _*_, _%_}
 use native.Mathlib.Omega.{arith}
 use Rattle.symmetry_products.proofs.expanded.Statement.{statement}
@@ -13,4 +12,14 @@ returns : tie.Need-returns
 returns c = λ j. (c .before .before .mul .ensures .0 j + 12287 * c .before .mul2 .ensures .0 j + c .mul3 .ensures .0 j) % 12288
 
 pub expanded-spec : {M : Type 1} → statement M
-expanded-spec = tie.close (tie.spec (λ c κs. omega arith) (λ c κs. omega arith) (λ c. omega arith) (λ c. omega arith) (λ c κs. omega arith) (λ c. omega arith) (λ c. omega arith) returns)
+expanded-spec =
+    tie.close
+    (tie.spec
+    (λ c κs. omega arith)
+    (λ c κs. omega arith)
+    (λ c. omega arith)
+    (λ c. omega arith)
+    (λ c κs. omega arith)
+    (λ c. omega arith)
+    (λ c. omega arith)
+    returns)

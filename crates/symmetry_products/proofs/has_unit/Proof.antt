@@ -11,7 +11,32 @@ use Rattle.symmetry_products.proofs.is_unit.Reads as is-unit-reads
 use Rattle.symmetry_products.proofs.minor.Reads as minor-reads
 
 returns : tie.Need-returns
-returns c = unit-law (c .before .before .before .before .before .args .t1) (c .before .before .before .before .minor .ensures) (c .before .before .before .minor2 .ensures) (c .before .before .minor3 .ensures) (c .before .expanded .ensures) (c .is-unit .ensures)
+returns c =
+    unit-law (c .before .before .before .before .before .args .t1) (c .before .before .before .before .minor .ensures)
+    (c .before .before .before .minor2 .ensures) (c .before .before .minor3 .ensures) (c .before .expanded .ensures) (c .is-unit .ensures)
 
 pub has-unit-spec : {M : Type 1} → statement M
-has-unit-spec = tie.close (tie.spec (λ c. omega arith) (λ c. omega arith) (λ c. omega arith) (λ c. omega arith) (λ c κs. omega arith) (λ c. omega arith) (λ c. omega arith) (λ c. omega arith) (λ c. omega arith) (λ c κs. omega arith) (λ c. omega arith) (λ c. omega arith) (λ c. omega arith) (λ c. omega arith) (λ c κs. omega arith) (λ c. omega arith) (λ c. omega arith) (λ c. omega arith) (λ c κs. omega arith) (λ c κs. omega arith) returns)
+has-unit-spec =
+    tie.close
+    (tie.spec
+    (λ c. omega arith)
+    (λ c. omega arith)
+    (λ c. omega arith)
+    (λ c. omega arith)
+    (λ c κs. omega arith)
+    (λ c. omega arith)
+    (λ c. omega arith)
+    (λ c. omega arith)
+    (λ c. omega arith)
+    (λ c κs. omega arith)
+    (λ c. omega arith)
+    (λ c. omega arith)
+    (λ c. omega arith)
+    (λ c. omega arith)
+    (λ c κs. omega arith)
+    (λ c. omega arith)
+    (λ c. omega arith)
+    (λ c. omega arith)
+    (λ c κs. omega arith)
+    (λ c κs. omega arith)
+    returns)

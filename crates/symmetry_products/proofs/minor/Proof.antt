@@ -1,6 +1,5 @@
 -- `minor` meets its contract.
 -- Assumes nothing.
-use mathlib.Core.Path.{_≡_, ap}
 use Prim.Native.Nat.{_+_, _*_, _%_}
 use native.Mathlib.Omega.{arith}
 use Rattle.symmetry_products.proofs.minor.Statement.{statement}
@@ -13,4 +12,12 @@ returns : tie.Need-returns
 returns c = λ j. (c .before .mul .ensures .0 j + 12287 * c .mul2 .ensures .0 j) % 12288
 
 pub minor-spec : {M : Type 1} → statement M
-minor-spec = tie.close (tie.spec (λ c κs. omega arith) (λ c κs. omega arith) (λ c. omega arith) (λ c. omega arith) (λ c. omega arith) returns)
+minor-spec =
+    tie.close
+    (tie.spec
+    (λ c κs. omega arith)
+    (λ c κs. omega arith)
+    (λ c. omega arith)
+    (λ c. omega arith)
+    (λ c. omega arith)
+    returns)

@@ -24,10 +24,24 @@ array-write-out : tie.Need-array-write-out Inv-loop μ-loop
 array-write-out c = omega (arith, c .before .before .before .loop .inv .long)
 
 loop-again : tie.Need-loop-again Inv-loop μ-loop
-loop-again c = filled-more (c .before .before .before .loop .inv) (c .before .before .loop-test .taken) (c .before .reduced-at .ensures) (c .cell .ensures)
+loop-again c =
+    filled-more (c .before .before .before .loop .inv) (c .before .before .loop-test .taken) (c .before .reduced-at .ensures) (c .cell .ensures)
 
 returns : tie.Need-returns Inv-loop μ-loop
 returns c = filled-all (c .before .loop .inv) (c .loop-test .left)
 
 pub residues-of-spec : {M : Type 1} → statement M
-residues-of-spec = tie.close (tie.spec Inv-loop μ-loop loop-holds (λ c κs. omega arith) (λ c κs. omega arith) (λ c. omega arith) array-write-out (λ c. omega arith) (λ c. omega arith) loop-again returns)
+residues-of-spec =
+    tie.close
+    (tie.spec
+    Inv-loop
+    μ-loop
+    loop-holds
+    (λ c κs. omega arith)
+    (λ c κs. omega arith)
+    (λ c. omega arith)
+    array-write-out
+    (λ c. omega arith)
+    (λ c. omega arith)
+    loop-again
+    returns)
