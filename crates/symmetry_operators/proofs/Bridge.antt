@@ -1,28 +1,29 @@
--- The check over residues and codes answers as the definitions over whole numbers.
+-- The check over codes answers as the definitions over whole numbers.
 -- Assumes nothing.
-use mathlib.Core.Path.{_≡_, refl, sym, ap, ap₂, subst, _∙_}
-use mathlib.Core.Bool.{Bool, true, false, cond, not, _&&_, _||_, false≢true, true≢false}
-use mathlib.Core.Logic.{_⊎_, inl, inr, ⊎-elim}
-use mathlib.Core.List.{List, [], _∷_, _++_, map, map-map}
+use mathlib.Core.Path.{_≡_, refl, sym, ap, ap₂, _∙_}
+use mathlib.Core.Bool.{Bool, true, false, cond, not, _&&_, _||_}
+use mathlib.Core.List.{List, [], _∷_, map}
 use Prim.Native.Nat.{ℕ, zero, suc, _+_, _*_, _-_, _/_, _%_, _<_, _≤_}
 use native.Mathlib.Omega.{arith}
-use native.Mathlib.Nat.{mod-eq-of-lt}
-use borrow.Author.Tests.{eqb-true, eq-eqb, ne-eqb}
+use native.Mathlib.Nat.{mod-eq-of-lt, mul-add, add-mul, mul-assoc, mul-comm, mul-left-comm}
+use borrow.Author.Tests.{eqb-true}
 use lib.Dec.{eqb}
 use lib.IntN.{ℤ, pos, negsuc, negℤ, subℕ, natAbs, _+ℤ_, _-ℤ_, _*ℤ_}
-use lib.ListN.{length, drop, getD, List·getD-map, length-append}
-use Rattle.symmetry_operators.specs.Operator.{Part, Row, part, residue, dot, after, product, minor, determinant, identity, eqZ, same, fine, turns}
-use Rattle.symmetry_operators.specs.Lists.{all, has, distinct, looked, withEach, pairsWith}
-use Rattle.symmetry_operators.specs.Check.{rowFrom, rowsFrom, closes, pairs, closing, judged, outcome, Outcome}
-use Rattle.symmetry_operators.specs.Residues.{residuesPart, residues, dotN, afterN, times, minorN, detN, turnsN, codePart, codeRow, rowFromN, rowsN, closesN, run, outcome17, codesOf, identityCode, closedN, judgedN}
-use Rattle.symmetry_operators.proofs.Residue.{Factor, minus, nought, one, factor-of, residue-small, and-left, and-right}
-use Rattle.symmetry_operators.proofs.Modulo.{part-path, row-path}
-use Rattle.symmetry_operators.proofs.Pigeon.{by-cases, is-false, or-either}
-use Rattle.symmetry_operators.proofs.Runs.{run-append, all-run, looked-run, length-pairs as pairs-length}
+use lib.ListN.{length, length-map}
+use Rattle.text.specs.Run.{all, runOf}
+use Rattle.text.proofs.Bools.{and-both, not-holds}
+use Rattle.symmetry_operators.specs.Operator.{Part, Row, residue, dot, after, product, minor, determinant, identity, eqZ, same, fine, turns}
+use Rattle.symmetry_operators.specs.Lists.{has, distinct, withEach, pairsWith}
+use Rattle.symmetry_operators.specs.Check.{rowFrom, rowsFrom, closes, pairs, closing, judged, outcome}
+use Rattle.symmetry_operators.specs.Residues.{reduced, scaled, residuesPart, residues, dotN, afterN, times, detN, turnsN, word, packed, codeRow, wordAfter, productCode, code, turning, closesCode, runPairs, identityCode, closedBy, closedN, codesOf, judgedN}
+use Rattle.symmetry_operators.proofs.Residue.{Factor, minus, nought, one, reduced-small, mod-by, congruent, residue-below, scaled-residue}
+use Rattle.symmetry_operators.proofs.Modulo.{part-path, row-path, strip-right}
+use Rattle.symmetry_operators.proofs.Pigeon.{by-cases}
+use Rattle.symmetry_operators.proofs.Runs.{run, run-append, all-run, looked-run, length-with, length-pairs}
 use Rattle.symmetry_operators.proofs.Cut.{length-cut}
-use Rattle.symmetry_operators.proofs.Rows.{FinePart, Fine, fine-row, same-is, same-self, eqZ-is, eqZ-self, product-residues, known, determinant-is}
+use Rattle.symmetry_operators.proofs.Rows.{FinePart, Fine, fine-row, same-is, same-self, eqZ-is, eqZ-self, product-residues, determinant-is}
 
--- ---- numbers near zero are known by their residues
+-- ---- numbers near zero are known by their reduceds
 pub record Near (n : ℕ) (z : ℤ) : Type 0 where
   pub near : natAbs z ≤ n
 
@@ -60,13 +61,16 @@ near-factor minus = record { near = omega arith }
 near-factor nought = record { near = omega arith }
 near-factor one = record { near = omega arith }
 
-near-same : {y z : ℤ} → Near 10 y → Near 10 z → residue y ≡ residue z → y ≡ z
+near-same : {y z : ℤ} → Near 10 y → Near 10 z → reduced y ≡ reduced z → y ≡ z
 near-same {y = pos a} {z = pos b} h k e = ap pos (sym (mod-eq-of-lt (omega arith)) ∙ e ∙ mod-eq-of-lt (omega arith))
-near-same {y = pos a} {z = negsuc b} h k e = absurd (let p : a % 24 ≡ a = mod-eq-of-lt (omega arith) in let q : b % 24 ≡ b = mod-eq-of-lt (omega arith) in omega arith)
-near-same {y = negsuc a} {z = pos b} h k e = absurd (let p : a % 24 ≡ a = mod-eq-of-lt (omega arith) in let q : b % 24 ≡ b = mod-eq-of-lt (omega arith) in omega arith)
-near-same {y = negsuc a} {z = negsuc b} h k e = ap negsuc (let p : a % 24 ≡ a = mod-eq-of-lt (omega arith) in let q : b % 24 ≡ b = mod-eq-of-lt (omega arith) in omega arith)
+near-same {y = pos a} {z = negsuc b} h k e = absurd
+    (let p : a % 12288 ≡ a = mod-eq-of-lt (omega arith) in let q : b % 12288 ≡ b = mod-eq-of-lt (omega arith) in omega arith)
+near-same {y = negsuc a} {z = pos b} h k e = absurd
+    (let p : a % 12288 ≡ a = mod-eq-of-lt (omega arith) in let q : b % 12288 ≡ b = mod-eq-of-lt (omega arith) in omega arith)
+near-same {y = negsuc a} {z = negsuc b} h k e = ap negsuc
+    (let p : a % 12288 ≡ a = mod-eq-of-lt (omega arith) in let q : b % 12288 ≡ b = mod-eq-of-lt (omega arith) in omega arith)
 
-pub more : {z : ℤ} {m : ℕ} → Near m z → m ≤ 10 → Near 10 z
+more : {z : ℤ} {m n : ℕ} → Near m z → m ≤ n → Near n z
 more h k = record { near = omega arith }
 
 -- ---- the determinant
@@ -79,30 +83,33 @@ determinant-near f =
     let p = f .first in
     let q = f .second in
     let s = f .third in
-    near-add (near-minus (near-times (p .at-x) (minor-near (q .at-y) (q .at-z) (s .at-y) (s .at-z))) (near-times (p .at-y) (minor-near (q .at-x) (q .at-z) (s .at-x) (s .at-z))))
+    near-add (near-minus (near-times (p .at-x) (minor-near (q .at-y) (q .at-z) (s .at-y) (s .at-z)))
+    (near-times (p .at-y) (minor-near (q .at-x) (q .at-z) (s .at-x) (s .at-z))))
     (near-times (p .at-z) (minor-near (q .at-x) (q .at-y) (s .at-x) (s .at-y)))
 
-test-same : (y z : ℤ) (n : ℕ) → Near 10 y → Near 10 z → residue y ≡ n % 24 → eqZ y z ≡ eqb (n % 24) (residue z)
-test-same y z n h k e = by-cases (eqb (n % 24) (residue z))
+test-same : (y z : ℤ) (n : ℕ) → Near 10 y → Near 10 z → reduced y ≡ n % 12288 → eqZ y z ≡ eqb (n % 12288) (reduced z)
+test-same y z n h k e = by-cases (eqb (n % 12288) (reduced z))
     (λ t. ap (eqZ y) (sym (near-same h k (e ∙ eqb-true _ _ t))) ∙ eqZ-self y ∙ sym t)
-    (λ t. is-false (eqZ y z) (λ q. borrow.Author.Tests.eqb-false (n % 24) (residue z) t (sym e ∙ ap residue (eqZ-is y z q))) ∙ sym t)
+    (λ t. not-holds (eqZ y z) (λ q. borrow.Author.Tests.eqb-false (n % 12288) (reduced z) t (sym e ∙ ap reduced (eqZ-is y z q))) ∙ sym t)
 
 pub turns-residues : {r : Row ℤ} → Fine r → turns r ≡ turnsN (residues r)
 unfolding turns turnsN
 turns-residues {r} f =
-    let d = more (determinant-near f) (omega arith) in
+    let d = more {n = 10} (determinant-near f) (omega arith) in
     let e = determinant-is f .is in
-    ap₂ _||_ (test-same (determinant r) (pos 1) (detN (residues r)) d (record { near = omega arith }) e) (test-same (determinant r) (negsuc 0) (detN (residues r)) d (record { near = omega arith }) e)
+    ap₂ _||_ (test-same (determinant r) (pos 1) (detN (residues r)) d (record { near = omega arith }) e)
+    (test-same (determinant r) (negsuc 0) (detN (residues r)) d (record { near = omega arith }) e)
 
-pub all-turns : (l : List (Row ℤ)) → all fine l ≡ true → all turns l ≡ all turnsN (map residues l)
+pub all-turns : (l : List (Row ℤ)) → all fine l ≡ true → all turns l ≡ all turning l
+unfolding all
 all-turns [] h = refl
-all-turns (r ∷ l) h = ap₂ _&&_ (turns-residues (fine-row r (and-left (fine r) _ h))) (all-turns l (and-right (fine r) _ h))
+all-turns (r ∷ l) h = let b = and-both (fine r) _ h in ap₂ _&&_ (turns-residues (fine-row r (b .0))) (all-turns l (b .1))
 
--- ---- rows that may be a product of two: factors near zero
+-- ---- rows that may be a product of two: factors from −3 to 3
 pub record NearPart (p : Part ℤ) : Type 0 where
-  pub at-x : Near 10 (p .x)
-  pub at-y : Near 10 (p .y)
-  pub at-z : Near 10 (p .z)
+  pub at-x : Near 3 (p .x)
+  pub at-y : Near 3 (p .y)
+  pub at-z : Near 3 (p .z)
   pub at-t : p .t ≡ pos (residue (p .t))
 
 pub record NearRow (r : Row ℤ) : Type 0 where
@@ -110,14 +117,18 @@ pub record NearRow (r : Row ℤ) : Type 0 where
   pub second : NearPart (r .second)
   pub third : NearPart (r .third)
 
+near-3 : {a : ℤ} → Factor a → Near 3 a
+near-3 f = more (near-factor f) (omega arith)
+
 fine-near-part : {p : Part ℤ} → FinePart p → NearPart p
-fine-near-part f = record { at-x = more (near-factor (f .at-x)) (omega arith); at-y = more (near-factor (f .at-y)) (omega arith); at-z = more (near-factor (f .at-z)) (omega arith); at-t = f .at-t }
+fine-near-part f = record { at-x = near-3 (f .at-x); at-y = near-3 (f .at-y); at-z = near-3 (f .at-z); at-t = f .at-t }
 
 pub fine-near : {r : Row ℤ} → Fine r → NearRow r
 fine-near f = record { first = fine-near-part (f .first); second = fine-near-part (f .second); third = fine-near-part (f .third) }
 
-dot-near : {p : Part ℤ} → FinePart p → {a b c : ℤ} → Factor a → Factor b → Factor c → Near 10 (dot p a b c)
-dot-near f g h k = more (near-add (near-add (near-times (f .at-x) (near-factor g)) (near-times (f .at-y) (near-factor h))) (near-times (f .at-z) (near-factor k))) (omega arith)
+dot-near : {p : Part ℤ} → FinePart p → {a b c : ℤ} → Factor a → Factor b → Factor c → Near 3 (dot p a b c)
+dot-near f g h k = near-add (near-add (near-times (f .at-x) (near-factor g)) (near-times (f .at-y) (near-factor h)))
+    (near-times (f .at-z) (near-factor k))
 
 after-near : {p : Part ℤ} → FinePart p → {s : Row ℤ} → Fine s → NearPart (after p s)
 unfolding after
@@ -125,146 +136,209 @@ after-near {p} f {s} g = record {
   at-x = dot-near f (g .first .at-x) (g .second .at-x) (g .third .at-x);
   at-y = dot-near f (g .first .at-y) (g .second .at-y) (g .third .at-y);
   at-z = dot-near f (g .first .at-z) (g .second .at-z) (g .third .at-z);
-  at-t = ap pos (sym (mod-eq-of-lt (residue-small (dot p (s .first .t) (s .second .t) (s .third .t) +ℤ p .t))));
+  at-t = ap pos (sym (mod-eq-of-lt (residue-below (dot p (s .first .t) (s .second .t) (s .third .t) +ℤ p .t))));
 }
 
 pub product-near : {r s : Row ℤ} → Fine r → Fine s → NearRow (product r s)
 unfolding product
 product-near f g = record { first = after-near (f .first) g; second = after-near (f .second) g; third = after-near (f .third) g }
 
-near-known-part : {p q : Part ℤ} → NearPart p → NearPart q → residuesPart p ≡ residuesPart q → p ≡ q
-near-known-part f g e = part-path (near-same (f .at-x) (g .at-x) (ap (λ p. p .x) e)) (near-same (f .at-y) (g .at-y) (ap (λ p. p .y) e)) (near-same (f .at-z) (g .at-z) (ap (λ p. p .z) e))
-    (f .at-t ∙ ap (λ p. pos (p .t)) e ∙ sym (g .at-t))
+-- ---- a word tells its part: each number raised by 3 is a digit below 8
+raised : ℤ → ℕ
+raised z = (reduced z + 3) % 12288
 
-near-known : {r s : Row ℤ} → NearRow r → NearRow s → residues r ≡ residues s → r ≡ s
-near-known f g e = row-path (near-known-part (f .first) (g .first) (ap (λ r. r .first) e)) (near-known-part (f .second) (g .second) (ap (λ r. r .second) e)) (near-known-part (f .third) (g .third) (ap (λ r. r .third) e))
+raised-small : {z : ℤ} → Near 3 z → raised z < 8
+unfolding raised
+raised-small {z = pos a} h = let k = h .near in omega arith
+raised-small {z = negsuc a} h = let k = h .near in omega arith
+
+raised-same : {y z : ℤ} → Near 3 y → Near 3 z → raised y ≡ raised z → y ≡ z
+unfolding raised
+raised-same {y} {z} h k e = near-same (more h (omega arith)) (more k (omega arith)) (go (reduced y) (reduced z) (reduced-small y) (reduced-small z) e)
+  where
+    go : (m n : ℕ) → m < 12288 → n < 12288 → (m + 3) % 12288 ≡ (n + 3) % 12288 → m ≡ n
+    go m n h k e = omega arith
+
+raised-word : (x y z t : ℕ) → (x + 3) % 12288 < 8 → (y + 3) % 12288 < 8 → (z + 3) % 12288 < 8 → t ≤ 11776
+    → ((x + 8 * y + 64 * z + t) % 12288 + 219) % 12288 ≡ (x + 3) % 12288 + 8 * ((y + 3) % 12288) + 64 * ((z + 3) % 12288) + t
+raised-word x y z t h k l m =
+    mod-by ((x + 8 * y + 64 * z + t) % 12288 + 219) ((x + 3) % 12288 + 8 * ((y + 3) % 12288) + 64 * ((z + 3) % 12288) + t)
+    ((x + 8 * y + 64 * z + t) / 12288) ((x + 3) / 12288 + 8 * ((y + 3) / 12288) + 64 * ((z + 3) / 12288)) (omega arith)
+    ∙ mod-eq-of-lt (omega arith)
+
+digit : (a b m n : ℕ) → a < 8 → b < 8 → a + 8 * m ≡ b + 8 * n → (a ≡ b) × (m ≡ n)
+digit a b m n h k e = let q : m ≡ n = omega arith in (omega arith, q)
+
+scaled-most : (z : ℤ) → scaled z ≤ 11776
+scaled-most z = let h = residue-below z in let e = scaled-residue z in omega arith
+
+part-value : {p : Part ℤ} → NearPart p
+    → (word (residuesPart p) + 219) % 12288 ≡ raised (p .x) + 8 * raised (p .y) + 64 * raised (p .z) + scaled (p .t)
+unfolding raised
+part-value {p} f = raised-word (reduced (p .x)) (reduced (p .y)) (reduced (p .z)) (scaled (p .t)) (raised-small (f .at-x)) (raised-small (f .at-y))
+    (raised-small (f .at-z)) (scaled-most (p .t))
+
+digits : (a b c m a′ b′ c′ m′ : ℕ) → a < 8 → b < 8 → c < 8 → a′ < 8 → b′ < 8 → c′ < 8
+    → a + 8 * b + 64 * c + 512 * m ≡ a′ + 8 * b′ + 64 * c′ + 512 * m′
+    → (a ≡ a′) × (b ≡ b′) × (c ≡ c′) × (m ≡ m′)
+digits a b c m a′ b′ c′ m′ h i j h′ i′ j′ e =
+    let x = digit a a′ (b + 8 * (c + 8 * m)) (b′ + 8 * (c′ + 8 * m′)) h h′ (omega arith) in
+    let y = digit b b′ (c + 8 * m) (c′ + 8 * m′) i i′ (x .1) in
+    let z = digit c c′ m m′ j j′ (y .1) in
+    (x .0, y .0, z .0, z .1)
+
+word-known : {p q : Part ℤ} → NearPart p → NearPart q → word (residuesPart p) ≡ word (residuesPart q) → p ≡ q
+word-known {p} {q} f g e =
+    let s = scaled-residue (p .t) in
+    let s′ = scaled-residue (q .t) in
+    let v = part-value f in
+    let v′ = part-value g in
+    let same : (word (residuesPart p) + 219) % 12288 ≡ (word (residuesPart q) + 219) % 12288 = ap (λ (n : ℕ). (n + 219) % 12288) e in
+    let d = digits (raised (p .x)) (raised (p .y)) (raised (p .z)) (residue (p .t)) (raised (q .x)) (raised (q .y)) (raised (q .z)) (residue (q .t))
+    (raised-small (f .at-x)) (raised-small (f .at-y)) (raised-small (f .at-z)) (raised-small (g .at-x)) (raised-small (g .at-y))
+    (raised-small (g .at-z))
+    (ap (λ (n : ℕ). raised (p .x) + 8 * raised (p .y) + 64 * raised (p .z) + n) (sym s) ∙ sym v ∙ same ∙ v′
+    ∙ ap (λ (n : ℕ). raised (q .x) + 8 * raised (q .y) + 64 * raised (q .z) + n) s′) in
+    part-path (raised-same (f .at-x) (g .at-x) (d .0)) (raised-same (f .at-y) (g .at-y) (d .1)) (raised-same (f .at-z) (g .at-z) (d .2))
+    (f .at-t ∙ ap pos (d .3) ∙ sym (g .at-t))
 
 -- ---- codes
-first-digits : (m n a b : ℕ) → a < 32 → b < 32 → m * 32 + a ≡ n * 32 + b → m ≡ n
-first-digits m n a b h k e = omega arith
+word-small : (p : Part ℕ) → word p < 65536
+word-small p = omega arith
 
-last-digit : (m n a b : ℕ) → a < 32 → b < 32 → m * 32 + a ≡ n * 32 + b → a ≡ b
-last-digit m n a b h k e = omega (arith, first-digits m n a b h k e)
+packed-known : (a b c a′ b′ c′ : ℕ) → b < 65536 → c < 65536 → b′ < 65536 → c′ < 65536 → packed a b c ≡ packed a′ b′ c′
+    → (a ≡ a′) × (b ≡ b′) × (c ≡ c′)
+packed-known a b c a′ b′ c′ h i h′ i′ e =
+    let x : a * 65536 + b ≡ a′ * 65536 + b′ = omega arith in
+    let y : a ≡ a′ = omega arith in
+    (y, omega arith, omega arith)
 
-small : (z : ℤ) → residue z < 32
-small z = omega (arith, residue-small z)
-
-code-part : (m n : ℕ) (p q : Part ℤ) → codePart m (residuesPart p) ≡ codePart n (residuesPart q) → (m ≡ n) × (residuesPart p ≡ residuesPart q)
-code-part m n p q e =
-    let e₁ = first-digits _ _ _ _ (small (p .t)) (small (q .t)) e in
-    let e₂ = first-digits _ _ _ _ (small (p .z)) (small (q .z)) e₁ in
-    let e₃ = first-digits _ _ _ _ (small (p .y)) (small (q .y)) e₂ in (
-      first-digits _ _ _ _ (small (p .x)) (small (q .x)) e₃,
-      part-path (last-digit m n _ _ (small (p .x)) (small (q .x)) e₃) (last-digit (m * 32 + residue (p .x)) (n * 32 + residue (q .x)) _ _ (small (p .y)) (small (q .y)) e₂) (last-digit _ _ _ _ (small (p .z)) (small (q .z)) e₁) (last-digit _ _ _ _ (small (p .t)) (small (q .t)) e),
-    )
-
-abbrev pub code : Row ℤ → ℕ
-code r = codeRow (residues r)
-
-code-known : (r s : Row ℤ) → code r ≡ code s → residues r ≡ residues s
+code-known : {r s : Row ℤ} → NearRow r → NearRow s → code r ≡ code s → r ≡ s
 unfolding codeRow
-code-known r s e =
-    let c = code-part (codePart (codePart 0 (residuesPart (r .first))) (residuesPart (r .second))) (codePart (codePart 0 (residuesPart (s .first))) (residuesPart (s .second))) (r .third) (s .third) e in
-    let b = code-part (codePart 0 (residuesPart (r .first))) (codePart 0 (residuesPart (s .first))) (r .second) (s .second) (c .0) in
-    let a = code-part 0 0 (r .first) (s .first) (b .0) in
-    row-path (a .1) (b .1) (c .1)
+code-known {r} {s} f g e =
+    let w = residues r in
+    let v = residues s in
+    let k = packed-known (word (w .first)) (word (w .second)) (word (w .third)) (word (v .first)) (word (v .second)) (word (v .third))
+    (word-small (w .second)) (word-small (w .third)) (word-small (v .second)) (word-small (v .third)) e in
+    row-path (word-known (f .first) (g .first) (k .0)) (word-known (f .second) (g .second) (k .1)) (word-known (f .third) (g .third) (k .2))
 
 pub same-code : {r s : Row ℤ} → NearRow r → NearRow s → same r s ≡ eqb (code r) (code s)
 same-code {r} {s} f g = by-cases (eqb (code r) (code s))
-    (λ t. ap (same r) (sym (near-known f g (code-known r s (eqb-true _ _ t)))) ∙ same-self r ∙ sym t)
-    (λ t. is-false (same r s) (λ q. borrow.Author.Tests.eqb-false (code r) (code s) t (ap code (same-is r s q))) ∙ sym t)
+    (λ t. ap (same r) (sym (code-known f g (eqb-true _ _ t))) ∙ same-self r ∙ sym t)
+    (λ t. not-holds (same r s) (λ q. borrow.Author.Tests.eqb-false (code r) (code s) t (ap code (same-is r s q))) ∙ sym t)
 
 pub has-code : (l : List (Row ℤ)) → all fine l ≡ true → {r : Row ℤ} → NearRow r → has same l r ≡ has eqb (map code l) (code r)
+unfolding all
 has-code [] h f = refl
-has-code (s ∷ l) h f = ap₂ _||_ (same-code f (fine-near (fine-row s (and-left (fine s) _ h)))) (has-code l (and-right (fine s) _ h) f)
+has-code (s ∷ l) h f = let b = and-both (fine s) _ h in ap₂ _||_ (same-code f (fine-near (fine-row s (b .0)))) (has-code l (b .1) f)
 
 pub distinct-code : (l : List (Row ℤ)) → all fine l ≡ true → distinct same l ≡ distinct eqb (map code l)
+unfolding all
 distinct-code [] h = refl
 distinct-code (s ∷ l) h =
-    let k = and-right (fine s) _ h in
-    ap₂ _&&_ (ap not (has-code l k (fine-near (fine-row s (and-left (fine s) _ h))))) (distinct-code l k)
+    let b = and-both (fine s) _ h in
+    ap₂ _&&_ (ap not (has-code l (b .1) (fine-near (fine-row s (b .0))))) (distinct-code l (b .1))
+
+-- ---- the code of a product, from the words of the second
+spread : (x y z t a b c d e f g h i j k l : ℕ)
+    → (x * a + y * b + z * c) + 8 * (x * d + y * e + z * f) + 64 * (x * g + y * h + z * i) + (x * j + y * k + z * l + t)
+    ≡ x * (a + 8 * d + 64 * g + j) + y * (b + 8 * e + 64 * h + k) + z * (c + 8 * f + 64 * i + l) + t
+spread x y z t a b c d e f g h i j k l = simp (mul-add, add-mul, mul-assoc, mul-comm, mul-left-comm) (omega arith)
+
+strip : (a b c d : ℕ) → (a % 12288 + 8 * (b % 12288) + 64 * (c % 12288) + d % 12288) % 12288 ≡ (a + 8 * b + 64 * c + d) % 12288
+strip a b c d =
+    mod-by (a % 12288 + 8 * (b % 12288) + 64 * (c % 12288) + d % 12288) (a + 8 * b + 64 * c + d)
+    (a / 12288 + 8 * (b / 12288) + 64 * (c / 12288) + d / 12288) 0 (omega arith)
+
+word-after : (p : Part ℕ) (s : Row ℕ) → word (afterN p s) ≡ wordAfter p (word (s .first)) (word (s .second)) (word (s .third))
+unfolding afterN
+word-after p s =
+    let q = s .first in
+    let r = s .second in
+    let u = s .third in
+    strip (dotN p (q .x) (r .x) (u .x)) (dotN p (q .y) (r .y) (u .y)) (dotN p (q .z) (r .z) (u .z)) (dotN p (q .t) (r .t) (u .t) + p .t)
+    ∙ ap (λ (n : ℕ). n % 12288)
+    (spread (p .x) (p .y) (p .z) (p .t) (q .x) (r .x) (u .x) (q .y) (r .y) (u .y) (q .z) (r .z) (u .z) (q .t) (r .t) (u .t))
+    ∙ sym (congruent _ (p .t) _ (p .t)
+    (strip-right (q .x + 8 * q .y + 64 * q .z + q .t) (r .x + 8 * r .y + 64 * r .z + r .t) (u .x + 8 * u .y + 64 * u .z + u .t) (p .x) (p .y)
+    (p .z)) refl)
+
+-- a code's three words
+unpacked : (a b c : ℕ) → a < 65536 → b < 65536 → c < 65536
+    → (packed a b c / 4294967296 % 65536 ≡ a) × (packed a b c / 65536 % 65536 ≡ b) × (packed a b c % 65536 ≡ c)
+unpacked a b c h i j =
+    let e : packed a b c / 65536 ≡ a * 65536 + b = omega arith in
+    let f : packed a b c / 4294967296 ≡ a = omega arith in
+    (ap (λ (n : ℕ). n % 65536) f ∙ mod-eq-of-lt h, ap (λ (n : ℕ). n % 65536) e ∙ omega arith, omega arith)
+
+pub times-code : (r s : Row ℕ) → codeRow (times r s) ≡ productCode r (codeRow s)
+unfolding codeRow times productCode
+times-code r s =
+    let u = unpacked (word (s .first)) (word (s .second)) (word (s .third)) (word-small (s .first)) (word-small (s .second)) (word-small (s .third))
+    in
+    (λ i. packed (word-after (r .first) s i) (word-after (r .second) s i) (word-after (r .third) s i))
+    ∙ sym (λ i. packed (wordAfter (r .first) (u .0 i) (u .1 i) (u .2 i)) (wordAfter (r .second) (u .0 i) (u .1 i) (u .2 i))
+    (wordAfter (r .third) (u .0 i) (u .1 i) (u .2 i)))
 
 -- ---- the pairs
-pub closes-code : (l : List (Row ℤ)) → all fine l ≡ true → {r s : Row ℤ} → Fine r → Fine s → closes l (r, s) ≡ closesN (map code l) (residues r, residues s)
-closes-code l h {r} {s} f g = has-code l h (product-near f g) ∙ ap (λ w. has eqb (map code l) (codeRow w)) (product-residues f s)
+module _ (l : List (Row ℤ)) (h : all fine l ≡ true) where
+  closes-code : {r s : Row ℤ} → Fine r → Fine s → closes l (r, s) ≡ closesCode (map code l) (residues r) (code s)
+  closes-code {r} {s} f g = has-code l h (product-near f g)
+      ∙ ap (has eqb (map code l)) (ap codeRow (product-residues f s) ∙ times-code (residues r) (residues s))
 
-run-with : (l : List (Row ℤ)) → all fine l ≡ true → {r : Row ℤ} → Fine r → (m : List (Row ℤ)) → all fine m ≡ true
-    → run (closes l) (withEach r m) ≡ run (closesN (map code l)) (withEach (residues r) (map residues m))
-run-with l h f [] k = refl
-run-with l h f (s ∷ m) k = ap₂ (λ t n. cond t (suc n) 0) (closes-code l h f (fine-row s (and-left (fine s) _ k))) (run-with l h f m (and-right (fine s) _ k))
+  run-with : {r : Row ℤ} → Fine r → (m : List (Row ℤ)) → all fine m ≡ true
+      → run (closes l) (withEach r m) ≡ runOf (closesCode (map code l) (residues r)) (map code m)
+  unfolding all runOf
+  run-with f [] k = refl
+  run-with f (s ∷ m) k = let b = and-both (fine s) _ k in ap₂ (λ t n. cond t (suc n) 0) (closes-code f (fine-row s (b .0))) (run-with f m (b .1))
 
-all-with : (l : List (Row ℤ)) → all fine l ≡ true → {r : Row ℤ} → Fine r → (m : List (Row ℤ)) → all fine m ≡ true
-    → all (closes l) (withEach r m) ≡ all (closesN (map code l)) (withEach (residues r) (map residues m))
-all-with l h f [] k = refl
-all-with l h f (s ∷ m) k = ap₂ _&&_ (closes-code l h f (fine-row s (and-left (fine s) _ k))) (all-with l h f m (and-right (fine s) _ k))
-
-length-with : {A B : Type 0} (a : A) (b : B) (f : A → B) (m : List A) → length (withEach a m) ≡ length (withEach b (map f m))
-length-with a b f [] = refl
-length-with a b f (c ∷ m) = ap suc (length-with a b f m)
-
-pub run-pairs : (l : List (Row ℤ)) → all fine l ≡ true → (k m : List (Row ℤ)) → all fine k ≡ true → all fine m ≡ true
-    → run (closes l) (pairsWith k m) ≡ run (closesN (map code l)) (pairsWith (map residues k) (map residues m))
-run-pairs l h [] m i j = refl
-run-pairs l h (r ∷ k) m i j =
-    let f = fine-row r (and-left (fine r) _ i) in
-    run-append (closes l) (withEach r m) (pairsWith k m)
-    ∙ (λ x. cond (all-with l h f m j x) (length-with r (residues r) residues m x + run-pairs l h k m (and-right (fine r) _ i) j x) (run-with l h f m j x))
-    ∙ sym (run-append (closesN (map code l)) (withEach (residues r) (map residues m)) (pairsWith (map residues k) (map residues m)))
-
--- ---- the rows of a list of numbers
-drop-map : {A B : Type 0} (f : A → B) (n : ℕ) (l : List A) → drop n (map f l) ≡ map f (drop n l)
-drop-map f zero l = refl
-drop-map f (suc n) [] = refl
-drop-map f (suc n) (a ∷ l) = drop-map f n l
-
-row-residues : (l : List ℤ) → rowFromN (map residue l) ≡ residues (rowFrom l)
-unfolding rowFromN rowFrom
-row-residues l = row-path (part-path (get 0) (get 1) (get 2) (get 9)) (part-path (get 3) (get 4) (get 5) (get 10)) (part-path (get 6) (get 7) (get 8) (get 11))
-  where
-    get : (k : ℕ) → getD (map residue l) k 0 ≡ residue (getD l k (pos 0))
-    get k = List·getD-map residue l k (pos 0)
-
-pub rows-residues : (n : ℕ) (l : List ℤ) → rowsN n (map residue l) ≡ map residues (rowsFrom n l)
-rows-residues zero l = refl
-rows-residues (suc n) l = ap₂ _∷_ (row-residues l) (ap (rowsN n) (drop-map residue 12 l) ∙ rows-residues n (drop 12 l))
+  run-pairs : (k : List (Row ℤ)) → all fine k ≡ true → run (closes l) (pairsWith k l) ≡ runPairs (map code l) k
+  unfolding all
+  run-pairs [] i = refl
+  run-pairs (r ∷ k) i =
+      let b = and-both (fine r) _ i in
+      let found = run-with (fine-row r (b .0)) l h in
+      let size : length (withEach r l) ≡ length (map code l) = length-with r l ∙ sym (length-map l code) in
+      run-append (closes l) (withEach r l) (pairsWith k l)
+      ∙ ap (λ (t : Bool). cond t (length (withEach r l) + run (closes l) (pairsWith k l)) (run (closes l) (withEach r l)))
+      (all-run (closes l) (withEach r l))
+      ∙ (λ x. cond (eqb (found x) (size x)) (size x + run-pairs k (b .1) x) (found x))
 
 -- ---- the whole check
-closing-run : (l : List (Row ℤ)) → closing l ≡ outcome17 (run (closes l) (pairs l)) (length l * length l)
+closing-run : (l : List (Row ℤ)) → closing l ≡ closedBy (run (closes l) (pairs l)) (length l * length l)
 unfolding closing
 closing-run l =
     ap (λ (n : ℕ). outcome (cond (all (closes l) (pairs l)) 0 17) n) (looked-run (closes l) (pairs l))
     ∙ ap (λ (t : Bool). outcome (cond t 0 17) (cond t (length (pairs l)) (suc (run (closes l) (pairs l))))) (all-run (closes l) (pairs l))
     ∙ go (eqb (run (closes l) (pairs l)) (length (pairs l))) (length (pairs l)) (suc (run (closes l) (pairs l)))
-    ∙ ap (outcome17 (run (closes l) (pairs l))) (pairs-length l l)
+    ∙ ap (closedBy (run (closes l) (pairs l))) (length-pairs l l)
   where
     go : (t : Bool) (m n : ℕ) → outcome (cond t 0 17) (cond t m n) ≡ cond t (outcome 0 m) (outcome 17 n)
     go true m n = refl
     go false m n = refl
 
+near-pos : {n : ℕ} → n ≤ 3 → Near 3 (pos n)
+near-pos h = record { near = h }
+
 identity-near : NearRow identity
 unfolding identity
 identity-near = record {
-  first = record { at-x = record { near = omega arith }; at-y = record { near = omega arith }; at-z = record { near = omega arith }; at-t = refl };
-  second = record { at-x = record { near = omega arith }; at-y = record { near = omega arith }; at-z = record { near = omega arith }; at-t = refl };
-  third = record { at-x = record { near = omega arith }; at-y = record { near = omega arith }; at-z = record { near = omega arith }; at-t = refl };
+  first = record { at-x = near-pos (omega arith); at-y = near-pos (omega arith); at-z = near-pos (omega arith); at-t = refl };
+  second = record { at-x = near-pos (omega arith); at-y = near-pos (omega arith); at-z = near-pos (omega arith); at-t = refl };
+  third = record { at-x = near-pos (omega arith); at-y = near-pos (omega arith); at-z = near-pos (omega arith); at-t = refl };
 }
 
 identity-code : code identity ≡ identityCode
 unfolding identity codeRow
 identity-code = refl
 
-pub judged-residues : (n : ℕ) (m : List ℤ) → all fine (rowsFrom n m) ≡ true → judged (rowsFrom n m) ≡ judgedN n (map residue m)
+pub judged-codes : (n : ℕ) (m : List ℤ) → all fine (rowsFrom n m) ≡ true → judged (rowsFrom n m) ≡ judgedN n m
 unfolding judged judgedN closedN
-judged-residues n m h =
+judged-codes n m h =
     let l = rowsFrom n m in
-    let rows = rows-residues n m in
-    let codes : codesOf n (map residue m) ≡ map code l = ap (map codeRow) rows ∙ map-map codeRow residues l in
-    let turning : all turns l ≡ all turnsN (rowsN n (map residue m)) = all-turns l h ∙ ap (all turnsN) (sym rows) in
-    let there : has same l identity ≡ has eqb (codesOf n (map residue m)) identityCode = has-code l h identity-near ∙ ap₂ (λ c i. has eqb c i) (sym codes) identity-code in
-    let differ : distinct same l ≡ distinct eqb (codesOf n (map residue m)) = distinct-code l h ∙ ap (distinct eqb) (sym codes) in
-    let found : run (closes l) (pairs l) ≡ run (closesN (codesOf n (map residue m))) (pairsWith (rowsN n (map residue m)) (rowsN n (map residue m)))
-    = run-pairs l h l l h h ∙ ap₂ (λ c r. run (closesN c) (pairsWith r r)) (sym codes) (sym rows) in
+    let there : has same l identity ≡ has eqb (codesOf n m) identityCode = has-code l h identity-near ∙ ap (has eqb (codesOf n m)) identity-code in
+    let found = run-pairs l h l h in
     let size : length l ≡ n = length-cut rowFrom n m in
-    (λ i. cond (turning i) (cond (there i) (cond (differ i) (closing-run l i) (outcome 16 0)) (outcome 15 0)) (outcome 14 0))
-    ∙ (λ i. cond (all turnsN (rowsN n (map residue m))) (cond (has eqb (codesOf n (map residue m)) identityCode)
-    (cond (distinct eqb (codesOf n (map residue m))) (outcome17 (found i) (size i * size i)) (outcome 16 0)) (outcome 15 0)) (outcome 14 0))
+    (λ i. cond (all-turns l h i) (cond (there i) (cond (distinct-code l h i) (closing-run l i) (outcome 16 0)) (outcome 15 0)) (outcome 14 0))
+    ∙ (λ i. cond (all turning l) (cond (has eqb (codesOf n m) identityCode)
+    (cond (distinct eqb (codesOf n m)) (closedBy (found i) (size i * size i)) (outcome 16 0)) (outcome 15 0)) (outcome 14 0))

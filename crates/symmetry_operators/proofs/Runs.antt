@@ -1,19 +1,25 @@
 -- Runs: how many come before the first that fails, over two lists joined, and what is looked at.
 -- Assumes nothing.
-use mathlib.Core.Path.{_≡_, refl, sym, ap, ap₂, subst, _∙_}
-use mathlib.Core.Bool.{Bool, true, false, cond, not, _&&_, _||_, false≢true}
+use mathlib.Core.Path.{_≡_, refl, sym, ap, ap₂, _∙_}
+use mathlib.Core.Bool.{Bool, true, false, cond, _&&_, false≢true}
 use mathlib.Core.List.{List, [], _∷_, _++_}
 use Prim.Native.Nat.{ℕ, zero, suc, _+_, _*_, _<_, _≤_}
 use native.Mathlib.Omega.{arith}
 use native.Mathlib.Nat.{zero-add}
-use borrow.Author.Tests.{eq-eqb, ne-eqb}
+use borrow.Author.Tests.{ne-eqb}
 use lib.Dec.{eqb}
 use lib.ListN.{length, getD, length-append}
-use Rattle.symmetry_operators.specs.Lists.{all, looked, withEach, pairsWith}
-use Rattle.symmetry_operators.specs.Residues.{run}
+use Rattle.text.specs.Run.{all}
+use Rattle.symmetry_operators.specs.Lists.{looked, withEach, pairsWith}
+
+-- how many come before the first that fails
+abbrev pub run : {A : Type 0} → (A → Bool) → List A → ℕ
+run p [] = 0
+run p (a ∷ l) = cond (p a) (suc (run p l)) 0
 
 module _ {A : Type 0} (p : A → Bool) where
   pub run-append : (l m : List A) → run p (l ++ m) ≡ cond (all p l) (length l + run p m) (run p l)
+  unfolding all
   run-append [] m = sym (zero-add (run p m))
   run-append (a ∷ l) m = go (run-append l m) (p a) refl
     where
@@ -35,6 +41,7 @@ module _ {A : Type 0} (p : A → Bool) where
       go ih false = omega arith
 
   pub all-run : (l : List A) → all p l ≡ eqb (run p l) (length l)
+  unfolding all
   all-run [] = refl
   all-run (a ∷ l) = go (all-run l) (p a)
     where
@@ -43,6 +50,7 @@ module _ {A : Type 0} (p : A → Bool) where
       go ih false = sym (ne-eqb 0 (suc (length l)) (λ e. omega arith))
 
   pub looked-run : (l : List A) → looked p l ≡ cond (all p l) (length l) (suc (run p l))
+  unfolding all
   looked-run [] = refl
   looked-run (a ∷ l) = go (looked-run l) (p a)
     where
@@ -57,10 +65,12 @@ module _ {A : Type 0} (p : A → Bool) where
 
   -- the first that fails stands where the run ends, and all before it hold
   pub first-fails : (l : List A) (d : A) → all p l ≡ false → p (getD l (run p l) d) ≡ false
+  unfolding all
   first-fails [] d e = absurd (false≢true (sym e))
   first-fails (a ∷ l) d e = go (first-fails l d) (p a) refl e
     where
-      go : (all p l ≡ false → p (getD l (run p l) d) ≡ false) → (t : Bool) → p a ≡ t → (t && all p l) ≡ false → p (getD (a ∷ l) (cond t (suc (run p l)) 0) d) ≡ false
+      go : (all p l ≡ false → p (getD l (run p l) d) ≡ false) → (t : Bool) → p a ≡ t → (t && all p l) ≡ false
+          → p (getD (a ∷ l) (cond t (suc (run p l)) 0) d) ≡ false
       go ih true q e = ih e
       go ih false q e = q
 
@@ -68,7 +78,8 @@ module _ {A : Type 0} (p : A → Bool) where
   before-holds [] d k h = absurd (omega arith)
   before-holds (a ∷ l) d k h = go (before-holds l d) (p a) refl k h
     where
-      go : ((k : ℕ) → k < run p l → p (getD l k d) ≡ true) → (t : Bool) → p a ≡ t → (k : ℕ) → k < cond t (suc (run p l)) 0 → p (getD (a ∷ l) k d) ≡ true
+      go : ((k : ℕ) → k < run p l → p (getD l k d) ≡ true) → (t : Bool) → p a ≡ t → (k : ℕ) → k < cond t (suc (run p l)) 0
+          → p (getD (a ∷ l) k d) ≡ true
       go ih true q zero h = q
       go ih true q (suc k) h = ih k (omega arith)
       go ih false q k h = absurd (omega arith)
@@ -80,4 +91,5 @@ module _ {A : Type 0} where
 
   pub length-pairs : (l m : List A) → length (pairsWith l m) ≡ length l * length m
   length-pairs [] m = omega arith
-  length-pairs (a ∷ l) m = length-append (withEach a m) (pairsWith l m) ∙ ap₂ _+_ (length-with a m) (length-pairs l m) ∙ sym (native.Mathlib.Nat.suc-mul (length l) (length m) ∙ native.Mathlib.Nat.add-comm (length l * length m) (length m))
+  length-pairs (a ∷ l) m = length-append (withEach a m) (pairsWith l m) ∙ ap₂ _+_ (length-with a m) (length-pairs l m)
+      ∙ sym (native.Mathlib.Nat.suc-mul (length l) (length m) ∙ native.Mathlib.Nat.add-comm (length l * length m) (length m))

@@ -1,14 +1,12 @@
--- What it means that a list of operators, with the product, is a group.
+-- What it means that a list of operators, with the product, is a group (document 02, No. 5): "An accepted list is proved to be a group: inverses are there too."
+-- Assumes nothing.
 use mathlib.Core.Path.{_≡_}
-use mathlib.Core.Bool.{Bool, true}
 use mathlib.Core.List.{List}
 use lib.IntN.{ℤ}
-use Rattle.symmetry_operators.specs.Operator.{Row, product, identity, same}
-use Rattle.symmetry_operators.specs.Lists.{has}
+use Rattle.symmetry_operators.specs.Operator.{Row, product, identity}
+use Rattle.symmetry_operators.specs.Wording.{In}
 
-abbrev pub In : List (Row ℤ) → Row ℤ → Type 0
-In l r = has same l r ≡ true
-
+-- an inverse of r in the list, on both sides
 pub record Inverse (l : List (Row ℤ)) (r : Row ℤ) : Type 0 where
   pub row : Row ℤ
   pub inside : In l row
