@@ -3,11 +3,11 @@
 ghost use mathlib.Core.Path.{_≡_};
 ghost use Rattle.symmetry_parts.specs.Reading.{factor};
 ghost use Rattle.symmetry_text.specs.Reading.{rowPart, partsOf, secondOf, readingOf};
-use symmetry_readings::Reading;
-use symmetry_readings::RowPart;
 use symmetry_fractions::WHOLE;
 use symmetry_parts::PartReading;
 use symmetry_parts::Sum;
+use symmetry_readings::Reading;
+use symmetry_readings::RowPart;
 
 // A factor by its residue modulo 24.
 fn factor_of(n: u8) -> i8
