@@ -1,20 +1,23 @@
-//! Links the proved archives, and makes Rust constants of the numbers in include/desk.h. The archives'
+//! Links the proved archives, and makes Rust constants of the numbers in the headers. The archives'
 //! folder is PROVED_LIBS, taken from this package's folder, or else ../target/staticlib.
 
 use std::env::var_os;
 use std::fs;
 use std::path::{Path, PathBuf};
 
-const LIBRARIES: [&str; 3] = ["export_wall", "export_desk", "test_probe"];
+const LIBRARIES: [&str; 4] = ["export_wall", "export_desk", "export_symmetry", "test_probe"];
+const HEADERS: [&str; 2] = ["desk.h", "symmetry.h"];
 
 fn main() {
     let package = PathBuf::from(var_os("CARGO_MANIFEST_DIR").expect("cargo sets it"));
     link(&package);
-    let header = package.join("../include/desk.h");
-    println!("cargo:rerun-if-changed={}", header.display());
-    let text = fs::read_to_string(&header).expect("the header is there");
-    let made = PathBuf::from(var_os("OUT_DIR").expect("cargo sets it")).join("desk.rs");
-    fs::write(made, constants(&text)).expect("cargo's folder takes it");
+    let text = |name| {
+        let header = package.join("../include").join(name);
+        println!("cargo:rerun-if-changed={}", header.display());
+        fs::read_to_string(&header).expect("the header is there")
+    };
+    let made = PathBuf::from(var_os("OUT_DIR").expect("cargo sets it")).join("headers.rs");
+    fs::write(made, constants(&HEADERS.map(text).concat())).expect("cargo's folder takes it");
 }
 
 fn link(package: &Path) {
@@ -34,9 +37,9 @@ fn link(package: &Path) {
     }
 }
 
-/// A constant for each number that the header defines, and a list of them all.
-fn constants(header: &str) -> String {
-    let numbers: Vec<(&str, usize)> = header.lines().filter_map(defined).collect();
+/// A constant for each number that the headers define, and a list of them all.
+fn constants(headers: &str) -> String {
+    let numbers: Vec<(&str, usize)> = headers.lines().filter_map(defined).collect();
     let constants = numbers
         .iter()
         .map(|(name, number)| format!("pub const {name}: usize = {number};\n"))

@@ -14,7 +14,7 @@ esac
 need "$desk"
 kit=${RATTLE_HOME:-/opt/rattle}
 own=$kit/on/$(uname -m)
-archives=(export_wall export_desk test_probe)
+archives=(export_wall export_desk export_symmetry test_probe)
 
 # toolchain FOLDER LEVEL: the kit's, but that it keeps each linked program there as 1, 2 and so on, and compiles a static library at this level.
 toolchain() {

@@ -31,13 +31,13 @@ commands() {
     long=$(printf 'a%.0s' {1..300})
     runs "camp: version" 0 "camp $(sed -n 's/^#define CAMP_VERSION "\(.*\)"$/\1/p' client/camp/version.h)"$'\n' '' "$camp" --version
     runs "camp: --help is help" 0 "$("$camp" help)"$'\n' '' "$camp" --help
-    for name in cif help refusals; do
+    for name in cif help refusals symmetry; do
         runs "camp help: $name is listed" 0 $'1\n' '' bash -c '"$1" help | grep -c "^  $2  *[a-z]"' - "$camp" "$name"
         runs "camp help: $name" 0 $'usage: camp '"$name"$'\n' '' bash -c '"$1" help "$2" | head -n 1 | cut -d " " -f 1-3' - "$camp" "$name"
         runs "camp help: $name has an example" 0 $'Example:\n' '' bash -c '"$1" help "$2" | grep -x Example:' - "$camp" "$name"
         runs "camp: $name --help" 0 "$("$camp" help "$name")"$'\n' '' "$camp" "$name" --help
     done
-    runs "camp help: nothing else is listed" 0 $'3\n' '' bash -c '"$1" help | sed -n "/The commands:/,/^.camp help/p" | grep -c "^  "' - "$camp"
+    runs "camp help: nothing else is listed" 0 $'4\n' '' bash -c '"$1" help | sed -n "/The commands:/,/^.camp help/p" | grep -c "^  "' - "$camp"
     misuse "no command" "a command is missing; $help"
     misuse "no such command" "'xyz' is not a command; $help" xyz
     misuse "a command in capitals" "'CIF' is not a command; $help" CIF
@@ -55,6 +55,9 @@ commands() {
     misuse "cif: three arguments" "cif: 'c\\x0ad' is one argument too many; see 'camp help cif'" cif a "$work/b" $'c\nd'
     misuse "cif: FILE is empty" "cif: '' is not the name of a file; see 'camp help cif'" cif camp-1 ''
     misuse "cif: FILE is an option" "cif: '--force' is not an option; see 'camp help cif'" cif camp-1 --force
+    misuse "symmetry of two" "symmetry: 'b' is one argument too many; see 'camp help symmetry'" symmetry a b
+    misuse "symmetry: an option" "symmetry: '--all' is not an option; see 'camp help symmetry'" symmetry --all
+    misuse "symmetry: an empty name" "symmetry: '' is not the name of a file; see 'camp help symmetry'" symmetry ''
     misuse "a long command" "'$long' is not a command; $help" "$long"
 }
 
@@ -74,6 +77,8 @@ examples() {
     example cif bash -c '"$1" cif camp-1 sheet.cif <session && cat sheet.cif' - "$camp"
     echo '_refine_ls_wR_factor_gt 0.16' | typed 1 >"$work/example/session"
     example refusals "$camp" refusals session
+    printf '%s\n' x,y,z -x,y+1/2,-z -x,-y,-z >"$work/example/operators"
+    example symmetry "$camp" symmetry operators
 }
 
 # refusals_of NAME FILE: what camp refusals prints of a session, by the reference's answers; NAME as messages name it.
@@ -194,10 +199,101 @@ END_OF_LINES
         bash -c 'cd "$1" && cp "$2/crates/desk/stdin" session && "$2/tools/camp" refusals session 2>/dev/null' - "$work" "$PWD"
 }
 
+# finds NAME STATUS MESSAGES LINE..: what camp symmetry tells of these lines; each message after 'camp: standard input: '.
+finds() {
+    local name=$1 status=$2 messages=$3
+    shift 3
+    runs "camp symmetry: $name" "$status" "$(sed 's/^/camp: standard input: /' <<<"$messages")"$'\n' '' "$camp" symmetry < <(printf '%b\n' "$@")
+}
+
+# stops NAME LINE COLUMN WHAT: a line that is no operator, where, and what is told of it.
+stops() {
+    finds "$1" 1 "line 1, column $3: 13, not an operator: $4" "$2"
+}
+
+# blocks PAGE NUMBER: that indented block of a page.
+blocks() {
+    awk -v number="$2" '/^    / { if (!on) count++; on = 1; if (count == number) print substr($0, 5); next } { on = 0 }' "$1"
+}
+
+symmetry() {
+    local name product='17, a product is missing: that of'
+    finds "the identity" 0 'a group of 1 operator' x,y,z
+    finds "four operators" 0 'a group of 4 operators' x,y,z -x,1/2+y,1/2-z -x,-y,-z x,-y-1/2,z+1/2
+    finds "in any order and spelling" 0 'a group of 4 operators' +x,-1/2-y,+z-1/2 -x,-y,-z -x,+1/2+y,-z+1/2 x,y,z
+    finds "empty lines, comments and CRLF" 0 'a group of 2 operators' '# P -1\r' 'x,y,z\r' '\r' '' '#' '-x,-y,-z\r'
+    runs "camp symmetry: no newline at the end" 0 $'camp: standard input: a group of 2 operators\n' '' "$camp" symmetry - < <(printf 'x,y,z\n-x,-y,-z')
+    runs "camp symmetry: a carriage return at the very end" 0 $'camp: standard input: a group of 1 operator\n' '' "$camp" symmetry - < <(printf 'x,y,z\r')
+
+    stops "an empty part" x,,z 3 '`,` cannot stand after `x,`'
+    stops "two parts" x,y 4 '`x,y` ends too early'
+    stops "four parts" x,y,z,x 6 '`,` cannot stand after `x,y,z`'
+    stops "a space" 'x, y, z' 3 '` ` cannot stand after `x,`'
+    stops "a space at the end" 'x,y,z ' 6 '` ` cannot stand after `x,y,z`'
+    stops "quotes" "'x,y,z'" 1 "\`'\` cannot begin one"
+    stops "a space first" ' # x' 1 '` ` cannot begin one'
+    stops "a capital" X,y,z 1 '`X` cannot begin one'
+    stops "a letter twice" x,y-y,z 5 '`y` cannot stand after `x,y-`'
+    stops "a sign twice" x,y,--z 6 '`-` cannot stand after `x,y,-`'
+    stops "a sign at the end" x,y,z- 7 '`x,y,z-` ends too early'
+    stops "all letters and a sign" x,y,x+y+z- 11 '`x,y,x+y+z-` ends too early'
+    stops "all letters, a fraction and a sign" x,y,1/2+x+y+z- 14 '`-` cannot stand after `x,y,1/2+x+y+z`'
+    stops "4/4" x+4/4,y,z 5 '`4` cannot stand after `x+4/`'
+    stops "a denominator of 5" x+1/5,y,z 5 '`5` cannot stand after `x+1/`'
+    stops "numerator 0" x+0/2,y,z 3 '`0` cannot stand after `x+`'
+    stops "numerator 8" 8/8+x,y,z 1 '`8` cannot begin one'
+    stops "half a fraction" x,y,z+1/ 9 '`x,y,z+1/` ends too early'
+    stops "a numerator alone" x,y,7 6 '`x,y,7` ends too early'
+    stops "a fraction alone" x,1/2,z 6 '`,` cannot stand after `x,1/2`'
+    stops "a fraction between letters" x+1/2+y,y,z 6 '`+` cannot stand after `x+1/2`'
+    stops "two fractions" 1/2+x+1/2,y,z 7 '`1` cannot stand after `1/2+x+`'
+    stops "a byte that is none" 'x,y\0,z' 4 '`\x00` cannot stand after `x,y`'
+    stops "a carriage return inside" 'x,\ry,z' 3 '`\x0d` cannot stand after `x,`'
+    stops "letters of others" 'x,y,\303\251' 5 '`\xc3` cannot stand after `x,y,`'
+    finds "each line that is none" 1 $'line 2, column 2: 13, not an operator: `x` ends too early\nline 5, column 1: 13, not an operator: `q` cannot begin one' x,y,z x '' -x,-y,-z q x,y,z
+    runs "camp symmetry: a line of a million bytes" 1 $'camp: standard input: line 1, column 2: 13, not an operator: `x` cannot stand after `x`\n' '' \
+        "$camp" symmetry < <(head -c 1000000 /dev/zero | tr '\0' x)
+
+    finds "determinants" 1 $'line 2: 14, the determinant is not 1 or -1: `x,x,z`\nline 4: 14, the determinant is not 1 or -1: `y+z,x+z,x+y`' x,y,z x,x,z -x,-y,-z y+z,x+z,x+y x,y,z
+    finds "no identity" 1 '15, the identity x,y,z is missing' -x,-y,-z x+1/2,y,z -x,-y,-z
+    finds "no operator" 1 '15, the identity x,y,z is missing: there is no operator' '# none'
+    runs "camp symmetry: an empty file" 1 $'camp: standard input: 15, the identity x,y,z is missing: there is no operator\n' '' "$camp" symmetry - </dev/null
+    finds "equal operators" 1 $'lines 2 and 5: 16, the same operator twice: `-x,y-1/2,-z` and `-x,1/2+y,-z`\nlines 1 and 6: 16, the same operator twice: `x,y,z` and `+x,+y,+z`' \
+        x,y,z -x,y-1/2,-z '# again' -x,-y,-z -x,1/2+y,-z +x,+y,+z
+    finds "one three times" 1 $'lines 1 and 2: 16, the same operator twice: `x,y,z` and `x,y,z`\nlines 1 and 3: 16, the same operator twice: `x,y,z` and `x,y,z`' x,y,z x,y,z x,y,z
+    finds "the first pair has no product" 1 "line 1: $product \`-y,x,z\` applied after itself, which is \`-x,-y,z\`" -y,x,z x,y,z
+    finds "the last pair has no product" 1 "line 4: $product \`-x,y,z+1/4\` applied after itself, which is \`x,y,z+1/2\`" '' x,y,z '' -x,y,z+1/4
+    finds "a product without a text" 1 "lines 2 and 3: $product \`x+1/3,y,z\` applied after \`x+1/8,y,z\`" x,y,z x+1/3,y,z x+1/8,y,z x+2/3,y,z
+    finds "a factor of 2" 1 "line 2: $product \`x+y,y,z\` applied after itself" x,y,z x+y,y,z
+    finds "a pair between" 1 "lines 2 and 4: $product \`z,x,y\` applied after \`-y,x,z\`, which is \`z,-y,x\`" x,y,z z,x,y y,z,x -y,x,z
+    finds "the second is applied first" 1 "lines 2 and 5: $product \`z,x,y\` applied after \`z,-y,x\`, which is \`x,z,-y\`" x,y,z z,x,y y,z,x -y,x,z z,-y,x
+
+    { echo '# many'; yes x,y,z | head -n 200; } >"$work/many"
+    runs "camp symmetry: 200 operators" 1 "camp: $work/many: line 194: 13, a list has at most 192 operators, and this one has 200"$'\n' '' "$camp" symmetry "$work/many"
+    head -n 194 "$work/many" >"$work/193"
+    runs "camp symmetry: 193 operators" 1 "camp: $work/193: line 194: 13, a list has at most 192 operators, and this one has 193"$'\n' '' "$camp" symmetry "$work/193"
+    runs "camp symmetry: 192 operators" 1 $'191\n' '' bash -o pipefail -c 'head -n 193 "$2" | "$1" symmetry | grep -c "^camp: standard input: lines 2 and [0-9]*: 16, "' - "$camp" "$work/many"
+    # The guide: its first block is the file, whole and without its last line.
+    blocks docs/guide/symmetry.md 1 >"$work/operators"
+    blocks docs/guide/symmetry.md 3 >"$work/want"
+    blocks docs/guide/symmetry.md 4 >>"$work/want"
+    (cd "$work" && "$camp" symmetry operators && sed -i '$d' operators && "$camp" symmetry operators) >"$work/out"
+    same "camp symmetry: the guide's example is true" "$work/want" "$work/out"
+    for name in 17 18; do
+        "$harness" operator-lines $name 3000 >"$work/texts"
+        "$harness" operator-answers "$work/texts" <"$work/texts" >"$work/want"
+        "$camp" symmetry "$work/texts" >"$work/out" 2>&1
+        same "camp symmetry: 3000 generated texts, seed $name" "$work/want" "$work/out"
+    done
+    fails "symmetry: no such file" "none: No such file or directory" "$camp" symmetry none
+    fails "symmetry: a folder" "harness: Is a directory" "$camp" symmetry harness
+    fails "symmetry: input is closed" "standard input: Bad file descriptor" bash -c 'exec "$1" symmetry <&-' - "$camp"
+}
+
 # Where some of the output is not written, it is told, and the exit is 1.
 outputs() {
     local full="standard output: No space left on device" closed="standard output: Bad file descriptor" words
-    for words in help 'help cif' 'cif --help' --version 'cif camp-1' 'cif camp-1 -' "refusals $first.in" "refusals $work/random"; do
+    for words in help 'help cif' 'cif --help' --version 'cif camp-1' 'cif camp-1 -' "refusals $first.in" "refusals $work/random" symmetry "symmetry $work/many"; do
         if [ -c /dev/full ]; then
             fails "${words/$work\//}: output cannot be written" "$full" bash -c '"$1" $2 >/dev/full' - "$camp" "$words" <$first.in
         fi
@@ -279,6 +375,7 @@ cif_file() {
 commands
 examples
 refusals
+symmetry
 outputs
 cif
 cif_file

@@ -54,13 +54,13 @@ refuses() {
     if [ $status -ne "$wanted" ]; then fail "$name" "exit $status, not $wanted"; else ok "$name"; fi
 }
 
-# told NAME FILE COMMAND..: camp, run so, tells of the file's refusals what it tells otherwise, with the same exit.
+# told NAME WORD FILE COMMAND..: camp, run so, tells of the file by its command WORD what it tells otherwise, with the same exit.
 told() {
-    local name=$1 input=$2 wanted status
-    shift 2
-    "$camp" refusals "$input" >"$work/want"
+    local name=$1 word=$2 input=$3 wanted status
+    shift 3
+    "$camp" "$word" "$input" >"$work/want"
     wanted=$?
-    "$@" refusals "$input" >"$work/out" 2>"$work/err"
+    "$@" "$word" "$input" >"$work/out" 2>"$work/err"
     status=$?
     if [ $status -ne $wanted ] || [ -s "$work/err" ]; then
         fail "$name" "exit $status, not $wanted, $(head -c 300 "$work/err" | tr '\n' ' ')"
@@ -69,9 +69,9 @@ told() {
     fi
 }
 
-# clean_told NAME FILE: the same under valgrind, without a fault.
+# clean_told NAME WORD FILE: the same under valgrind, without a fault.
 clean_told() {
-    told "$1" "$2" "${watched[@]}" "$camp"
+    told "$1" "$2" "$3" "${watched[@]}" "$camp"
     said "$1"
 }
 
@@ -104,6 +104,9 @@ inputs() {
     head -c "$huge" /dev/zero >"$work/zeros"
     "$harness" client-lines 21 "$lines" >"$work/lines"
     "$harness" client-values 22 "$lines" >"$work/values"
+    "$harness" operator-lines 23 $((lines / 4)) >"$work/operators"
+    yes x,y,z | head -n 300 >"$work/many"
+    printf '%s\n' '# a group' x,y,z -x,1/2+y,1/2-z '' -x,-y,-z x,-y-1/2,z+1/2 >"$work/group"
 }
 
 # Without valgrind: each program on much input.
@@ -117,18 +120,21 @@ unwatched() {
 # The C clients compiled with gcc's own checks of memory and arithmetic, which see their arrays too.
 sanitized() {
     local checks=(-std=c11 -O1 -g -Iinclude -fsanitize=address,undefined -fno-sanitize-recover=all) libraries=${PROVED_LIBS:-target/staticlib} input
-    if ! gcc "${checks[@]}" client/camp/*.c "$libraries/libexport_desk.a" -o "$work/camp" 2>/dev/null ||
+    if ! gcc "${checks[@]}" client/camp/*.c "$libraries"/libexport_{desk,symmetry}.a -o "$work/camp" 2>/dev/null ||
         ! gcc "${checks[@]}" client/wall_screen.c "$libraries/libexport_wall.a" -o "$work/wall_screen" 2>/dev/null; then
         echo "skipped: the C clients with gcc's checks (its libraries for them are not there)"
         return
     fi
     for input in harness/desk-sessions/*.in; do
         prints "camp cif with gcc's checks: $(basename "$input" .in)" "${input%.in}.cif" "$input" "$work/camp" cif camp-1
-        told "camp refusals with gcc's checks: $(basename "$input" .in)" "$input" "$work/camp"
+        told "camp refusals with gcc's checks: $(basename "$input" .in)" refusals "$input" "$work/camp"
     done
     expect "$work/random"
     prints "camp cif with gcc's checks: $random random bytes" "$work/want.cif" "$work/random" "$work/camp" cif camp-1
-    told "camp refusals with gcc's checks: $random random bytes" "$work/random" "$work/camp"
+    told "camp refusals with gcc's checks: $random random bytes" refusals "$work/random" "$work/camp"
+    for input in random operators many group; do
+        told "camp symmetry with gcc's checks: $input" symmetry "$work/$input" "$work/camp"
+    done
     prints "wall_screen with gcc's checks: $random random bytes" "$work/want.wall" "$work/random" "$work/wall_screen"
     "$harness" client-answers <"$work/lines" >"$work/want"
     prints "wall_screen with gcc's checks: $lines lines" "$work/want" "$work/lines" "$work/wall_screen"
@@ -175,8 +181,11 @@ programs() {
         clean "desk: $name" "${input%.in}.out" "$input" "$desk"
         clean "camp cif: $name" "${input%.in}.cif" "$input" "$camp" cif camp-1
     done
-    clean_told "camp refusals: refused lines" harness/desk-sessions/refused_lines.in
-    clean_told "camp refusals: $random random bytes" "$work/random"
+    clean_told "camp refusals: refused lines" refusals harness/desk-sessions/refused_lines.in
+    clean_told "camp refusals: $random random bytes" refusals "$work/random"
+    for input in short operators many group empty; do
+        clean_told "camp symmetry: $input" symmetry "$work/$input"
+    done
     "$harness" client-answers <"$work/lines" >"$work/want"
     clean "wall_screen: $lines lines" "$work/want" "$work/lines" "$client"
     "$harness" client-answers 6 <"$work/values" >"$work/want"
@@ -191,6 +200,9 @@ refusals() {
     refuses "camp cif: no such folder" 1 "$camp" cif camp-1 "$work/none/a.cif" <$first
     refuses "camp cif: no argument" 2 "$camp" cif <$first
     refuses "camp refusals: no such file" 1 "$camp" refusals "$work/none"
+    refuses "camp symmetry: no such file" 1 "$camp" symmetry "$work/none"
+    refuses "camp symmetry: a product missing" 1 "$camp" symmetry < <(printf 'x,y,z\n-y,x,z\n')
+    refuses "camp symmetry: two arguments" 2 "$camp" symmetry a b
     refuses "camp: no such command" 2 "$camp" xyz
     refuses "camp help" 0 "$camp" help
     refuses "wall_screen: unknown option" 2 "$client" --rwo 6

@@ -10,6 +10,7 @@
 
 #include "desk.h"
 #include "probe.h"
+#include "symmetry.h"
 #include "wall.h"
 
 enum { STACK = 1 << 20, PAINT = 0xA5 };
@@ -31,6 +32,8 @@ static uint8_t texts[DESK_TEXTS];
 static size_t numbers[DESK_NUMBERS];
 static uint8_t log_bytes[4096];
 static uint8_t file_bytes[DESK_FILE];
+/* A list of 192 operators: shifts, which are all looked at in pairs. */
+static int8_t rows[SYMMETRY_MOST * SYMMETRY_ROW];
 static volatile unsigned sink;
 
 /* One key of a bench. */
@@ -81,6 +84,14 @@ static void file(void) {
     sink += desk_file(texts, DESK_TEXTS, numbers, DESK_NUMBERS, (const uint8_t *)"camp-1", 6, file_bytes, sizeof file_bytes).answer;
 }
 
+static void read_operator(void) {
+    sink += symmetry_read((const uint8_t *)"-y+1/2,x-y,5/6-z", 16).answer;
+}
+
+static void check_list(void) {
+    sink += symmetry_check(rows, sizeof rows).answer;
+}
+
 static void *run(void *call) {
     (*(void (**)(void))call)();
     return NULL;
@@ -99,6 +110,17 @@ static size_t touched(void (*call)(void)) {
     while (clean < STACK && stack[clean] == PAINT) clean++;
     free(stack);
     return STACK - clean;
+}
+
+/* Fills the list with the shifts by twelfths of x and quarters of y and z; it is a group. */
+static void shift(void) {
+    for (int at = 0; at < SYMMETRY_MOST; at++) {
+        int8_t *row = rows + at * SYMMETRY_ROW;
+        row[0] = row[4] = row[8] = 1;
+        row[9] = (int8_t)(2 * (at % 12));
+        row[10] = (int8_t)(6 * (at / 12 % 4));
+        row[11] = (int8_t)(6 * (at / 48));
+    }
 }
 
 /* Types a line without its Enter, or only the Enter of one; every key is accepted. */
@@ -130,5 +152,9 @@ int main(void) {
     print("desk_report", report, base);
     print("desk_who", who, base);
     print("desk_file", file, base);
+    print("symmetry_read", read_operator, base);
+    shift();
+    print("symmetry_check, 192 operators", check_list, base);
+    if (symmetry_check(rows, sizeof rows).pairs != SYMMETRY_MOST * SYMMETRY_MOST) abort();
     return 0;
 }

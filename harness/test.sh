@@ -17,9 +17,11 @@ compiles() {
 headers() {
     local name source='#include "wall.h"
 #include "desk.h"
+#include "symmetry.h"
 #include "probe.h"
 #include "wall.h"
 #include "desk.h"
+#include "symmetry.h"
 #include "probe.h"
 uint8_t ask(uint8_t *texts, size_t *numbers, uint8_t *log);
 uint8_t ask(uint8_t *texts, size_t *numbers, uint8_t *log)
@@ -28,7 +30,8 @@ uint8_t ask(uint8_t *texts, size_t *numbers, uint8_t *log)
                      desk_key(texts, DESK_TEXTS, numbers, DESK_NUMBERS, log, 0, 0, 10) +
                      desk_report(texts, DESK_TEXTS, numbers, DESK_NUMBERS).rows[11].level +
                      desk_who(texts, DESK_TEXTS, numbers, DESK_NUMBERS, 1).bench +
-                     desk_file(texts, DESK_TEXTS, numbers, DESK_NUMBERS, log, 0, log, 0).answer);
+                     desk_file(texts, DESK_TEXTS, numbers, DESK_NUMBERS, log, 0, log, 0).answer +
+                     symmetry_check(symmetry_read(texts, 0).row, SYMMETRY_ROW).answer);
 }'
     echo "$source" >"$work/headers.c"
     cp "$work/headers.c" "$work/headers.cc"
@@ -38,34 +41,35 @@ uint8_t ask(uint8_t *texts, size_t *numbers, uint8_t *log)
     done
     if command -v g++ >/dev/null; then
         compiles "headers as C++" g++ -std=c++17 "${warnings[@]}" -Iinclude -Iharness -c "$work/headers.cc" -o "$work/headers++.o"
-        nm -u "$work/headers++.o" | awk '{ print $2 }' | grep -E '^(wall|probe|desk)_' | sort >"$work/symbols"
-        printf '%s\n' desk_file desk_fresh desk_key desk_report desk_who probe_item wall_classify >"$work/want"
+        nm -u "$work/headers++.o" | awk '{ print $2 }' | grep -E '^(wall|probe|desk|symmetry)_' | sort >"$work/symbols"
+        printf '%s\n' desk_file desk_fresh desk_key desk_report desk_who probe_item symmetry_check symmetry_read wall_classify >"$work/want"
         same "C names from C++" "$work/want" "$work/symbols"
     else
         echo "skipped: headers as C++ (no g++)"
     fi
 }
 
-# The program in docs/LINKING.md prints what stands below it.
+# linking HEADING LIBRARY: the program below that heading of docs/LINKING.md prints what stands below it.
 linking() {
-    local archive=${PROVED_LIBS:-target/staticlib}/libexport_desk.a
-    awk '/^    #include/ { on = 1 } /^[^ ]/ { on = 0 } on' docs/LINKING.md | sed 's/^    //' >"$work/linking.c"
-    awk '/^It prints/ { on = 1; next } on && /^[^ ]/ { exit } on && NF' docs/LINKING.md | sed 's/^    //' >"$work/linking.out"
-    compiles "LINKING: the program without warnings" gcc -std=c11 -O2 "${warnings[@]}" -Iinclude "$work/linking.c" "$archive" -o "$work/linking"
-    prints "LINKING: the program prints what is told" "$work/linking.out" /dev/null "$work/linking"
+    local archive=${PROVED_LIBS:-target/staticlib}/lib$2.a
+    awk -v heading="## $1" '/^## / { on = $0 == heading } on' docs/LINKING.md >"$work/section"
+    awk '/^    #include/ { on = 1 } /^[^ ]/ { on = 0 } on' "$work/section" | sed 's/^    //' >"$work/linking.c"
+    awk '/^It prints/ { on = 1; next } on && /^[^ ]/ { exit } on && NF' "$work/section" | sed 's/^    //' >"$work/linking.out"
+    compiles "LINKING, $1: the program without warnings" gcc -std=c11 -O2 "${warnings[@]}" -Iinclude "$work/linking.c" "$archive" -o "$work/linking"
+    prints "LINKING, $1: the program prints what is told" "$work/linking.out" /dev/null "$work/linking"
 }
 
-# The sizes and offsets of the boundary's structs and the numbers of desk.h, as the harness has them, are C's.
+# The sizes and offsets of the boundary's structs and the headers' numbers, as the harness has them, are C's.
 layout() {
     "$harness" layout >"$work/layout"
     {
-        printf '#include "%s"\n' wall.h desk.h probe.h
+        printf '#include "%s"\n' wall.h desk.h symmetry.h probe.h
         awk '/^[A-Z]/ { print "_Static_assert(" $1 " == " $2 ", \"" $1 "\");"; next }
             { print "_Static_assert(sizeof(" $1 ") == " $2 ", \"" $1 "\");" }
             { for (at = 3; at < NF; at += 2) print "_Static_assert(offsetof(" $1 ", " $at ") == " $(at + 1) ", \"" $1 "." $at "\");" }' "$work/layout"
     } >"$work/layout.c"
-    compiles "struct sizes and offsets, numbers of desk.h" gcc -std=c11 "${warnings[@]}" -Iinclude -Iharness -c "$work/layout.c" -o "$work/layout.o"
-    { grep -ho '^#define DESK_[A-Z_]* [0-9]*' include/desk.h; grep -ho '^} [a-z_]*' include/{wall,desk}.h harness/probe.h; } | awk '{ print $2 }' | sort >"$work/want"
+    compiles "struct sizes and offsets, numbers of the headers" gcc -std=c11 "${warnings[@]}" -Iinclude -Iharness -c "$work/layout.c" -o "$work/layout.o"
+    { grep -ho '^#define [A-Z_]* [0-9][0-9]*' include/*.h; grep -ho '^} [a-z_]*' include/*.h harness/probe.h; } | awk '{ print $2 }' | sort >"$work/want"
     awk '{ print $1 }' "$work/layout" | sort >"$work/out"
     same "every struct and number of the headers" "$work/want" "$work/out"
     runs "numbers of desk.h, by what the desk does" 0 '' '' bash harness/desk_layout.sh
@@ -179,6 +183,43 @@ line|_refine_ls_R_factor_gt .1234567|7
 END
     trace_table "reference's trace: examples of the documents" reference-trace <"$work/examples"
     trace_table "trace: examples of the documents" <"$work/examples"
+}
+
+# The two commands of symmetry operators, each answer at least once.
+symmetry() {
+    local identity=1,0,0,0,1,0,0,0,1,0,0,0 inversion=-1,0,0,0,-1,0,0,0,-1,0,0,0 quarter=0,-1,0,1,0,0,0,0,1,0,0,6
+    in_hex <<'END'
+symop|x,y,z|0 1 0 0 0 1 0 0 0 1 0 0 0
+symop|-y,x-y,z+1/3|0 0 -1 0 1 -1 0 0 0 1 0 0 8
+symop|x-1/4,-7/8-z,5/6+y-x|0 1 0 0 0 0 -1 -1 1 0 18 3 20
+symop|x,x,x|0 1 0 0 1 0 0 1 0 0 0 0 0
+symop|x,y|13 0 0 0 0 0 0 0 0 0 0 0 0
+symop|x+4/4,y,z|13 0 0 0 0 0 0 0 0 0 0 0 0
+symop|x+x,y,z|13 0 0 0 0 0 0 0 0 0 0 0 0
+symop||13 0 0 0 0 0 0 0 0 0 0 0 0
+END
+    echo "symlist $identity|0 1"
+    echo "symlist $inversion,$identity|0 4"
+    echo "symlist $identity,$quarter|17 4"
+    echo "symlist $quarter,$identity|17 1"
+    echo "symlist $identity,$inversion,$identity|16 0"
+    echo "symlist $inversion,$inversion|15 0"
+    echo "symlist -|15 0"
+    echo "symlist 1,0,0,0,1,0,0,1,0,0,0,0|14 0"
+    echo "symlist $identity,1|13 0"
+    echo "symlist 2,${identity#1,}|13 0"
+    echo "symlist ${identity%0}24|13 0"
+    echo "symlist ${identity%0}-1|13 0"
+    echo "symlist 256,${identity#1,}|13 0"
+    echo "symlist ${identity%0}-99999999999999999999999999|13 0"
+    echo "symlist $(yes $identity | head -n 193 | paste -sd ,)|13 0"
+    echo "symlist $(yes $identity | head -n 192 | paste -sd ,)|16 0"
+    echo 'symop|error: argument 1 missing: HEX'
+    echo "symop 7|error: argument 1 '7': an odd number of hexadecimal digits"
+    echo 'symlist|error: argument 1 missing: n,n,..'
+    echo "symlist 1,,0|error: argument 1: '' is not a number"
+    echo "symlist 1,+1|error: argument 1: '+1' is not a number"
+    echo "symlist 1, 0|error: argument 2 '0': nothing may follow"
 }
 
 trace_malformed() {
@@ -314,10 +355,12 @@ trace_keys() {
     trace_table "reference's trace: questions" reference-trace < <(questions)
     trace_table "reference's trace: fresh desks" reference-trace < <(fresh_desks)
     trace_table "reference's trace: files" reference-trace < <(files)
+    trace_table "reference's trace: symmetry" reference-trace < <(symmetry)
     trace_table "trace: keys" < <(session)
     trace_table "trace: questions" < <(questions)
     trace_table "trace: fresh desks" < <(fresh_desks)
     trace_table "trace: files" < <(files)
+    trace_table "trace: symmetry" < <(symmetry)
 }
 
 # The answers come whenever the input pauses, in the middle of a line too.
@@ -396,7 +439,8 @@ comparison() {
 }
 
 headers
-linking
+linking "The desk" export_desk
+linking "Symmetry operators" export_symmetry
 layout
 runs "client: sample" 0 "$(cat client/sample.out)"$'\n' '' "$client" <client/sample.txt
 client_arguments

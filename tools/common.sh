@@ -14,7 +14,7 @@ ensure_programs() {
 ensure_programs || exit 2
 
 # The proved libraries that C and Rust link.
-archives=(export_wall export_desk test_probe)
+archives=(export_wall export_desk export_symmetry test_probe)
 
 # stale FILE [SOURCE..]: it is missing, or some file of these sources is newer; without them, of crates/ or crates.txt.
 stale() {
@@ -103,21 +103,30 @@ build_harness() {
     cargo build --release --offline --quiet --manifest-path harness/Cargo.toml
 }
 
-# compile SOURCES ARCHIVE PROGRAM: a C client of a proved library; the sources may be a pattern.
+# library NAME: the archive of that proved library.
+library() {
+    echo "${PROVED_LIBS:-target/staticlib}/lib$1.a"
+}
+
+# compile SOURCES PROGRAM NAME..: a C client of proved libraries; the sources may be a pattern.
 compile() {
-    mkdir -p "$(dirname "$3")"
-    gcc -std=c11 -O2 -Wall -Wextra -Werror -pedantic -Iinclude $1 "${PROVED_LIBS:-target/staticlib}/lib$2.a" -o "$3"
+    local sources=$1 program=$2 name used=()
+    shift 2
+    for name; do used+=("$(library "$name")"); done
+    mkdir -p "$(dirname "$program")"
+    gcc -std=c11 -O2 -Wall -Wextra -Werror -pedantic -Iinclude $sources "${used[@]}" -o "$program"
 }
 
 # The C client of the wall screen, of a library that is there.
 build_client() {
-    compile client/wall_screen.c export_wall build/wall_screen
+    compile client/wall_screen.c build/wall_screen export_wall
 }
 
-# The program camp, the C client of the library export_desk, in target/bin.
+# The program camp, the C client of the libraries export_desk and export_symmetry, in target/bin.
 build_camp() {
-    build_archive export_desk || return 1
-    ! stale target/bin/camp client/camp include "${PROVED_LIBS:-target/staticlib}/libexport_desk.a" || compile 'client/camp/*.c' export_desk target/bin/camp
+    build_archive export_desk export_symmetry || return 1
+    ! stale target/bin/camp client/camp include "$(library export_desk)" "$(library export_symmetry)" ||
+        compile 'client/camp/*.c' target/bin/camp export_desk export_symmetry
 }
 
 # The program desk, proved, in target/bin. One that is unchanged is not built again, so its time is set.

@@ -21,7 +21,8 @@ static const char before[] =
     "       camp --help\n"
     "       camp --version\n"
     "\n"
-    "Looks after the sessions of the crystal camp, by the proved desk. The commands:\n"
+    "Looks after the sessions of the crystal camp, by the proved desk, and after lists of symmetry\n"
+    "operators. The commands:\n"
     "\n";
 
 static const char after[] =

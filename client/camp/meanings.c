@@ -14,6 +14,11 @@ static const char *const meanings[] = {
     [8] = "the rest of the log is too short for this entry",
     [10] = "the file is longer than the bytes lent for it",
     [11] = "not 1 to 32 letters, digits or -",
+    [13] = "not an operator",
+    [14] = "the determinant is not 1 or -1",
+    [15] = "the identity x,y,z is missing",
+    [16] = "the same operator twice",
+    [17] = "a product is missing",
 };
 
 const char *meaning_of(unsigned number)

@@ -1,13 +1,15 @@
-//! The C boundary: the numbers of include/desk.h, lent memory, and the structs with their sizes and
+//! The C boundary: the numbers of the headers, lent memory, and the structs with their sizes and
 //! offsets.
 
 use reference::desk::{BENCHES, LOG_LIMIT, NO_BENCH};
+use reference::group::MOST;
 use reference::line::LIMIT;
 use reference::names::ITEMS;
+use reference::operator::NUMBERS;
 use reference::rows::ROWS;
 use std::mem::{offset_of, size_of};
 
-include!(concat!(env!("OUT_DIR"), "/desk.rs"));
+include!(concat!(env!("OUT_DIR"), "/headers.rs"));
 
 const _: () = assert!(
     DESK_BENCHES == BENCHES
@@ -16,6 +18,8 @@ const _: () = assert!(
         && DESK_LINE == LIMIT
         && DESK_LOG == LOG_LIMIT
         && DESK_NO_BENCH == NO_BENCH as usize
+        && SYMMETRY_ROW == NUMBERS
+        && SYMMETRY_MOST == MOST
 );
 
 /// What is lent to the calls of desk.h, each run in a block of its own. Runs of other lengths than
@@ -92,6 +96,22 @@ pub struct Filed {
     pub answer: u8,
 }
 
+/// `symmetry_operator` of symmetry.h.
+#[repr(C)]
+#[derive(Clone, Copy, Debug, PartialEq, Eq)]
+pub struct Operator {
+    pub answer: u8,
+    pub row: [i8; SYMMETRY_ROW],
+}
+
+/// `symmetry_checked` of symmetry.h.
+#[repr(C)]
+#[derive(Clone, Copy, Debug, PartialEq, Eq)]
+pub struct Checked {
+    pub pairs: u64,
+    pub answer: u8,
+}
+
 /// Prints one struct's C name and size, and each field's name and offset.
 macro_rules! print_layout {
     ($name:literal, $type:ty, $($field:ident),+) => {
@@ -101,7 +121,7 @@ macro_rules! print_layout {
     };
 }
 
-/// Prints the sizes and offsets, and the header's numbers.
+/// Prints the sizes and offsets, and the headers' numbers.
 pub fn print() {
     print_layout!("wall_graded", Graded, answer, level);
     print_layout!("probe_number_result", NumberResult, millionths, found);
@@ -110,5 +130,7 @@ pub fn print() {
     print_layout!("desk_reported", Reported, answer, rows);
     print_layout!("desk_told", Told, entry, answer, bench);
     print_layout!("desk_filed", Filed, count, answer);
+    print_layout!("symmetry_operator", Operator, answer, row);
+    print_layout!("symmetry_checked", Checked, pairs, answer);
     DEFINED.iter().for_each(|(name, number)| println!("{name} {number}"));
 }

@@ -1,11 +1,13 @@
 //! The questions answered by the reference program. `mutants/` compiles this file a second time, with
 //! a changed copy of the reference in its place.
 
-use crate::boundary::{Filed, Graded, LineResult, Memory, NumberResult, Reported, Row, Told};
+use crate::boundary::{
+    Checked, Filed, Graded, LineResult, Memory, NumberResult, Operator, Reported, Row, Told,
+};
 use crate::memory::{held, put};
 use crate::program::{Call, Program};
 use reference::desk::{self, BENCHES, FRESH, NOT_SOUND, NO_BENCH, NO_SUCH_BENCH};
-use reference::{cif_file, grade, line, names, number, rows, sequence, value};
+use reference::{cif_file, grade, group, line, names, number, operator, rows, sequence, value};
 
 /// The reference program.
 pub struct Reference;
@@ -81,6 +83,16 @@ impl Program for Reference {
             None => (NOT_SOUND, 0),
         };
         Filed { count: count as usize, answer }
+    }
+
+    fn operator(&self, text: &[u8]) -> Operator {
+        let (answer, row) = operator::read(text);
+        Operator { answer, row }
+    }
+
+    fn group(&self, numbers: &[i8]) -> Checked {
+        let (answer, pairs) = group::check(numbers);
+        Checked { pairs, answer }
     }
 }
 

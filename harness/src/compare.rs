@@ -7,6 +7,7 @@ mod memories;
 mod points;
 mod sequences;
 mod sheets;
+mod symmetry;
 
 use crate::boundary::{Graded, NumberResult};
 use crate::by_reference::gathered;
@@ -177,11 +178,13 @@ impl<'a> Comparison<'a> {
         self.some_memories(plan);
         self.some_sequences(plan);
         self.some_files(plan);
+        self.some_symmetry(plan);
         if plan.lists {
             self.listed_sheets();
             self.listed_keys(plan);
             self.listed_sequences();
             self.listed_files();
+            self.listed_symmetry();
             self.listed_texts();
         }
     }

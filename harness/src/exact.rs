@@ -1,14 +1,16 @@
 //! A program that is lent each run of bytes in a block of the heap of exactly its length, so that a
 //! tool that watches the memory sees every access beyond it. Lent memory is always so.
 
-use crate::boundary::{Filed, Graded, LineResult, Memory, NumberResult, Reported, Told};
+use crate::boundary::{
+    Checked, Filed, Graded, LineResult, Memory, NumberResult, Operator, Reported, Told,
+};
 use crate::program::Program;
 
 pub struct Exact<P>(pub P);
 
 /// A block of its own.
-fn block(bytes: &[u8]) -> Box<[u8]> {
-    bytes.into()
+fn block<T: Copy>(run: &[T]) -> Box<[T]> {
+    run.into()
 }
 
 impl<P: Program> Program for Exact<P> {
@@ -57,5 +59,13 @@ impl<P: Program> Program for Exact<P> {
         let filed = self.0.file(memory, &name, &mut lent);
         out.copy_from_slice(&lent);
         filed
+    }
+
+    fn operator(&self, text: &[u8]) -> Operator {
+        self.0.operator(&block(text))
+    }
+
+    fn group(&self, numbers: &[i8]) -> Checked {
+        self.0.group(&block(numbers))
     }
 }

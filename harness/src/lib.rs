@@ -6,6 +6,7 @@ mod bench;
 pub mod boundary;
 mod broken;
 mod by_reference;
+mod camp_symmetry;
 mod cif_files;
 mod client;
 pub mod compare;
@@ -15,9 +16,11 @@ mod desks;
 mod exact;
 mod files;
 mod frames;
+mod groups;
 mod inputs;
 mod lists;
 pub mod memory;
+mod operators;
 mod points;
 pub mod program;
 pub mod proved;
@@ -35,6 +38,7 @@ use by_reference::Reference;
 use compare::Plan;
 use exact::Exact;
 use inputs::Inputs;
+use operators::Operators;
 use program::Program;
 use proved::Proved;
 use reference::program::{cif_program, program};
@@ -47,7 +51,8 @@ use workloads::Side;
 const USAGE: &str = "usage: harness MODE
   compare [--seed N] [--count N]  compare both programs on N lines and N values (default 1000000),
                                   half from a fixed seed and half from a new one or the one given,
-                                  and on sheets, key calls, sequences and files in proportion
+                                  and on sheets, key calls, sequences, files and operators
+                                  in proportion
   memory [--seed N] [--count N]   the same on generated inputs and short lists, each run of bytes lent in a
                                   block of the heap of its exact length: for a run under valgrind
   self-check                      show that the comparison finds faulty programs
@@ -57,7 +62,7 @@ const USAGE: &str = "usage: harness MODE
   workloads                       the names of what is measured
   count WORKLOAD PROGRAM INPUTS   one round of a workload by one program, proved or reference, in the
                                   function counted_round; prints the number of inputs
-  layout                          sizes and offsets of the boundary's structs, and the numbers of desk.h
+  layout                          sizes and offsets of the boundary's structs, and the headers' numbers
   desk-sessions FOLDER            write the sessions of the programs desk and camp cif, NAME.in, and
                                   what they must print for each, NAME.out and NAME.cif
   desk-runs PROGRAM SEED COUNT    run the program desk on generated inputs
@@ -72,7 +77,10 @@ const USAGE: &str = "usage: harness MODE
   trace-commands SEED COUNT       write generated trace commands
   client-lines SEED COUNT         write generated lines
   client-values SEED COUNT        write generated values
+  operator-lines SEED COUNT       write generated texts of symmetry operators, whole and damaged
   desk-answers, cif-answers BLOCK what desk and camp cif must print for the input
+  operator-answers FILE           what camp symmetry must print for the input where some line is no
+                                  operator; FILE is the input's name in its messages
   client-answers [ROW]            what the client must print for the input
 ";
 const FIXED_SEED: u64 = 20_000_609;
@@ -158,6 +166,14 @@ fn run(words: &[&str]) -> Outcome {
         ["client-values", seed, count] => {
             let mut inputs = Inputs::new(number(2, seed)?);
             write((0..number(3, count)?).map(|_| inputs.value()), output)
+        }
+        ["operator-lines", seed, count] => {
+            let mut source = Operators::new(number(2, seed)?);
+            write((0..number(3, count)?).map(|_| source.line()), output)
+        }
+        ["operator-answers", file] => {
+            let told = camp_symmetry::answers(file, &whole_input()?);
+            done(output.write_all(told.as_bytes()).and_then(|()| output.flush()))
         }
         ["desk-answers"] => {
             let input = whole_input()?;

@@ -1,6 +1,8 @@
 //! The questions that both programs answer, in the form of the C boundary.
 
-use crate::boundary::{Filed, Graded, LineResult, Memory, NumberResult, Reported, Told};
+use crate::boundary::{
+    Checked, Filed, Graded, LineResult, Memory, NumberResult, Operator, Reported, Told,
+};
 pub use reference::sequence::Call;
 
 /// A program under comparison.
@@ -17,6 +19,10 @@ pub trait Program {
     fn who(&self, memory: &Memory, item: u64) -> Told;
     /// Writes the sheet as a CIF file with this block name.
     fn file(&self, memory: &Memory, block: &[u8], out: &mut [u8]) -> Filed;
+    /// Reads the text of a symmetry operator.
+    fn operator(&self, text: &[u8]) -> Operator;
+    /// Checks a list of operators, rows of numbers one after the other.
+    fn group(&self, numbers: &[i8]) -> Checked;
 
     /// One call of a sequence.
     fn call(&self, memory: &mut Memory, call: &Call) -> Answer {

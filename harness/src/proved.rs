@@ -1,6 +1,8 @@
 //! The proved library through its C boundary.
 
-use crate::boundary::{Filed, Graded, LineResult, Memory, NumberResult, Reported, Told};
+use crate::boundary::{
+    Checked, Filed, Graded, LineResult, Memory, NumberResult, Operator, Reported, Told,
+};
 use crate::program::Program;
 
 extern "C" {
@@ -49,6 +51,8 @@ extern "C" {
         out: *mut u8,
         out_length: usize,
     ) -> Filed;
+    fn symmetry_read(text: *const u8, length: usize) -> Operator;
+    fn symmetry_check(rows: *const i8, length: usize) -> Checked;
 }
 
 /// The proved library.
@@ -125,5 +129,13 @@ impl Program for Proved {
                 out.len(),
             )
         }
+    }
+
+    fn operator(&self, text: &[u8]) -> Operator {
+        unsafe { symmetry_read(text.as_ptr(), text.len()) }
+    }
+
+    fn group(&self, numbers: &[i8]) -> Checked {
+        unsafe { symmetry_check(numbers.as_ptr(), numbers.len()) }
     }
 }

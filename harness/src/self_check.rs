@@ -5,9 +5,12 @@ mod files;
 mod keys;
 mod questions;
 mod rows;
+mod symmetry;
 mod texts;
 
-use crate::boundary::{Filed, Graded, LineResult, Memory, NumberResult, Reported, Told};
+use crate::boundary::{
+    Checked, Filed, Graded, LineResult, Memory, NumberResult, Operator, Reported, Told,
+};
 use crate::by_reference::{gathered, Reference};
 use crate::compare::{compare, first_difference, Gather, Plan};
 use crate::memory::{held, put};
@@ -29,6 +32,8 @@ enum Wrong {
     Report(fn(&Memory) -> Reported),
     Who(fn(&Memory, u64) -> Told),
     File(fn(&Memory, &[u8], &mut [u8]) -> Filed),
+    Operator(fn(&[u8]) -> Operator),
+    Group(fn(&[i8]) -> Checked),
 }
 
 /// A method that the fault of one variant replaces.
@@ -54,6 +59,8 @@ impl Program for Wrong {
     answers!(Report, report(memory: &Memory) -> Reported);
     answers!(Who, who(memory: &Memory, item: u64) -> Told);
     answers!(File, file(memory: &Memory, block: &[u8], out: &mut [u8]) -> Filed);
+    answers!(Operator, operator(text: &[u8]) -> Operator);
+    answers!(Group, group(numbers: &[i8]) -> Checked);
 
     fn line(&self, text: &[u8]) -> LineResult {
         Reference.line(text)
@@ -70,8 +77,14 @@ fn change(memory: &mut Memory, change: impl FnOnce(&mut Desk)) {
 
 /// Prints one line for each fault; answers how many were found and how many not.
 pub fn run() -> (usize, usize) {
-    let lists: [&[(&str, Wrong)]; 5] =
-        [&texts::FAULTS, &rows::FAULTS, &keys::FAULTS, &questions::FAULTS, &files::FAULTS];
+    let lists: [&[(&str, Wrong)]; 6] = [
+        &texts::FAULTS,
+        &rows::FAULTS,
+        &keys::FAULTS,
+        &questions::FAULTS,
+        &files::FAULTS,
+        &symmetry::FAULTS,
+    ];
     let faults = lists.into_iter().flatten();
     let mut results: Vec<(String, bool)> =
         faults.map(|(name, wrong)| found(name, wrong, gathered)).collect();

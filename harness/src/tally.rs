@@ -2,6 +2,8 @@
 
 use crate::boundary::Row;
 use crate::broken::{DESK_WAYS, WAYS};
+use crate::groups::DAMAGES;
+use crate::operators::PART_FAULTS;
 use reference::names::ITEMS;
 use reference::rows::{NAMES, ROWS};
 
@@ -35,7 +37,7 @@ const WITHOUT_CARBON: &[&str] = &[
 const AROUND_POINT: &[&str] = &["plain", "signed", "uncertain", "both"];
 
 /// Each question with its possible answers; an answer without a name is none.
-const QUESTIONS: [(&str, &[&str]); 37] = [
+const QUESTIONS: [(&str, &[&str]); 50] = [
     ("line", &["0", "5", "6", "7"]),
     ("row 6", GRADES),
     ("row 8", GRADES),
@@ -73,15 +75,31 @@ const QUESTIONS: [(&str, &[&str]); 37] = [
     ("point, line", &["first 0", "last 0", "alone 0", "alone 7"]),
     ("point, entry", &["first", "last"]),
     ("point, row 12", &["first 0/0", "last 0/0", "last 2/0", "last 3/0", "last 4/0", "alone 2/2"]),
+    ("operator", &["0", "13"]),
+    ("its letters", &["1", "2", "3"]),
+    ("it begins", &["bare", "with +", "with -"]),
+    ("its fraction", &["none", "first", "last"]),
+    ("translation", &["0", "3", "4", "6", "8", "9", "12", "15", "16", "18", "20", "21"]),
+    ("list", &["0", "13", "14", "15", "16", "17"]),
+    ("13 for", &["a part row", "193 rows", "more rows", "a number"]),
+    ("below, place", PLACES),
+    ("above, place", PLACES),
+    ("determinant", &["-4", "-3", "-2", "-1", "0", "1", "2", "3", "4"]),
+    ("group of", &["1", "2", "3-6", "7-16", "17-48", "49-191", "192"]),
+    ("identity", &["first", "between", "last"]),
+    ("17 at pair", &["first", "between", "last"]),
 ];
+/// The places of a row of an operator.
+const PLACES: &[&str] = &["1", "2", "3", "4", "5", "6", "7", "8", "9", "10", "11", "12"];
 /// The most answers of a question.
-const MOST: usize = ITEMS.len() + 1;
+const MOST: usize = 12;
 
 /// The lists that go by item have them all.
 const _: () = assert!(
-    QUESTIONS[Question::Item as usize].1.len() == MOST
+    QUESTIONS[Question::Item as usize].1.len() == ITEMS.len() + 1
         && QUESTIONS[Question::EntryItem as usize].1.len() == ITEMS.len()
-        && QUESTIONS[Question::FilledItems as usize].1.len() == MOST
+        && QUESTIONS[Question::FilledItems as usize].1.len() == ITEMS.len() + 1
+        && ITEMS.len() < MOST
 );
 
 #[derive(Clone, Copy)]
@@ -123,6 +141,19 @@ pub enum Question {
     PointLine,
     PointEntry,
     PointMultiplier,
+    Operator,
+    PartLetters,
+    PartBegins,
+    PartFraction,
+    Translation,
+    List,
+    Shape,
+    Below,
+    Above,
+    Determinant,
+    GroupSize,
+    IdentityAt,
+    MissingPair,
 }
 
 const GRADED: &[(u8, u8)] = &[(0, 0), (2, 0), (3, 0), (4, 0), (2, 1)];
@@ -156,6 +187,8 @@ pub struct Tally {
     rows: [[u64; MOST]; ROWS],
     played_rows: [[u64; MOST]; ROWS],
     ways: [[u64; WAYS.len()]; CALLS.len()],
+    text_faults: [u64; PART_FAULTS.len() + 1],
+    damages: [u64; DAMAGES.len()],
 }
 
 impl Default for Tally {
@@ -165,6 +198,8 @@ impl Default for Tally {
             rows: [[0; MOST]; ROWS],
             played_rows: [[0; MOST]; ROWS],
             ways: [[0; WAYS.len()]; CALLS.len()],
+            text_faults: [0; PART_FAULTS.len() + 1],
+            damages: [0; DAMAGES.len()],
         }
     }
 }
@@ -193,6 +228,17 @@ impl Tally {
         for (counts, refused) in self.ways.iter_mut().zip(refused) {
             counts[way] += u64::from(refused);
         }
+    }
+
+    /// Counts a text of an operator that was refused for this fault of a part, or for the number of its
+    /// parts.
+    pub fn note_text_fault(&mut self, fault: usize) {
+        self.text_faults[fault] += 1;
+    }
+
+    /// Counts a list that was damaged in this way.
+    pub fn note_damage(&mut self, damage: usize) {
+        self.damages[damage] += 1;
     }
 
     /// The possible answers that were never given.
@@ -225,13 +271,24 @@ impl Tally {
             let names = WAYS.iter().map(|(name, _)| name.to_string()).take(*ways);
             (format!("{call} refused"), names.zip(counts).collect())
         });
+        let faults = PART_FAULTS.iter().map(|(name, _)| *name).chain(["number of parts"]);
+        let damages = DAMAGES.iter().map(|(name, _)| *name);
+        let symmetry = [
+            ("13 for a part", named(faults, &self.text_faults)),
+            ("list damaged", named(damages, &self.damages)),
+        ];
         let rows = counted_rows("", &self.rows);
         questions
             .chain(rows)
             .chain(ways)
             .chain(counted_rows("played ", &self.played_rows))
+            .chain(symmetry.map(|(name, counts)| (name.into(), counts)))
             .collect()
     }
+}
+
+fn named<'a>(names: impl Iterator<Item = &'a str>, counts: &[u64]) -> Vec<(String, u64)> {
+    names.map(String::from).zip(counts.iter().copied()).collect()
 }
 
 fn never_given(counted: Vec<Counted>) -> Vec<String> {

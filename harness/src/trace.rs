@@ -66,6 +66,17 @@ fn answer(program: &dyn Program, memory: &mut Memory, command: &str) -> Result<S
             let (block, room) = (bytes(2, block)?, up_to(3, room, MOST_ROOM)? as usize);
             return Ok(file(program, memory, &block, room));
         }
+        "symop" => {
+            let [text] = named(arguments, ["HEX"])?;
+            let read = program.operator(&bytes(1, text)?);
+            let numbers = read.row.map(|number| format!(" {number}")).concat();
+            return Ok(format!("{}{numbers}", read.answer));
+        }
+        "symlist" => {
+            let [list] = named(arguments, ["n,n,.."])?;
+            let checked = program.group(&small_numbers(1, list)?);
+            return Ok(format!("{} {}", checked.answer, checked.pairs));
+        }
         "k" => {
             let [bench, byte] = named(arguments, ["BENCH", "BYTE"])?;
             let byte = up_to(2, byte, u8::MAX.into())? as u8;
@@ -197,4 +208,20 @@ fn bytes(place: usize, word: &str) -> Result<Vec<u8>, String> {
         return Err(fault("an odd number of hexadecimal digits".into()));
     }
     Ok(digits.chunks(2).map(|pair| (16 * pair[0] + pair[1]) as u8).collect())
+}
+
+/// The numbers of a list with commas; `-` is the empty one. One that no byte holds is as far out of
+/// range as the largest that one does.
+fn small_numbers(place: usize, word: &str) -> Result<Vec<i8>, String> {
+    let number = |number: &str| {
+        let digits = number.strip_prefix('-').unwrap_or(number);
+        if digits.is_empty() || !digits.bytes().all(|byte| byte.is_ascii_digit()) {
+            return Err(format!("argument {place}: '{}' is not a number", number.escape_debug()));
+        }
+        Ok(number.parse().unwrap_or(i8::MAX))
+    };
+    match word {
+        "-" => Ok(vec![]),
+        _ => word.split(',').map(number).collect(),
+    }
 }

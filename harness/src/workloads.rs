@@ -4,15 +4,19 @@ use crate::boundary::{Memory, DESK_FILE};
 use crate::by_reference::Reference;
 use crate::desks::{in_memory, longest_value, State};
 use crate::files::Files;
+use crate::groups::largest;
 use crate::inputs::{Inputs, ROWS};
 use crate::memory::put;
+use crate::operators::Operators;
 use crate::program::{Answer, Call, Program};
 use crate::proved::Proved;
+use crate::random::Random;
 use crate::sequences::Sequences;
 use crate::session::Session;
 use crate::sheets::Sheets;
 use reference::cif_file::write_file;
 use reference::desk::{self, Desk, BENCHES, EMPTY, ENTER, LOG_FULL, LOG_LIMIT};
+use reference::group::MOST;
 use reference::line::{split, ACCEPTED};
 use reference::names::{item, ITEMS};
 use std::hint::black_box;
@@ -49,7 +53,7 @@ pub struct Workload {
     make: fn(usize) -> (usize, Round),
 }
 
-pub const WORKLOADS: [Workload; 7] = [
+pub const WORKLOADS: [Workload; 9] = [
     Workload { name: "lines", make: lines },
     Workload { name: "values", make: values },
     Workload { name: "reports", make: reports },
@@ -57,6 +61,8 @@ pub const WORKLOADS: [Workload; 7] = [
     Workload { name: "session", make: session },
     Workload { name: "sequences", make: sequences },
     Workload { name: "files", make: files },
+    Workload { name: "operators", make: operators },
+    Workload { name: "groups", make: groups },
 ];
 
 impl Workload {
@@ -158,6 +164,34 @@ fn files(inputs: usize) -> (usize, Round) {
         sum
     };
     (inputs, Box::new(round))
+}
+
+/// Texts of symmetry operators, each read.
+fn operators(inputs: usize) -> (usize, Round) {
+    let mut source = Operators::new(SEED);
+    let texts: Vec<Vec<u8>> = (0..inputs).map(|_| source.text()).collect();
+    let round = move |side: Side| {
+        let program = side.program();
+        let sum = |text: &Vec<u8>| {
+            let read = program.operator(black_box(text));
+            u64::from(read.answer) + read.row.iter().map(|&n| u64::from(n as u8)).sum::<u64>()
+        };
+        texts.iter().map(sum).sum()
+    };
+    (inputs, Box::new(round))
+}
+
+/// Groups of 192 operators, each list checked; their pairs are the inputs.
+fn groups(inputs: usize) -> (usize, Round) {
+    let mut random = Random::new(SEED);
+    let lists: Vec<Vec<i8>> =
+        (0..inputs.div_ceil(MOST * MOST)).map(|_| largest(&mut random)).collect();
+    let pairs = MOST * MOST * lists.len();
+    let round = move |side: Side| {
+        let program = side.program();
+        lists.iter().map(|list| program.group(black_box(list)).pairs).sum()
+    };
+    (pairs, Box::new(round))
 }
 
 /// Plays each sequence on the same desk and log as they were at first; a sum of the answers' numbers

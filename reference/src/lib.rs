@@ -1,5 +1,6 @@
 //! The rules of documents 01 and 02, written from their text alone and not proved: the readers of a
-//! line, the twelve rows, the whole desk, sequences of calls and the sheet as a CIF file.
+//! line, the twelve rows, the whole desk, sequences of calls, the sheet as a CIF file, and symmetry
+//! operators with their lists.
 //! The comparison holds the proved library to this program.
 //!
 //! Every function but the key call, the writer of files, and what is built on them, is pure. Quoted
@@ -9,9 +10,11 @@ pub mod cif_file;
 pub mod desk;
 pub mod formula;
 pub mod grade;
+pub mod group;
 pub mod line;
 pub mod names;
 pub mod number;
+pub mod operator;
 pub mod program;
 pub mod rows;
 pub mod sequence;
