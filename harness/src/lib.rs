@@ -18,6 +18,7 @@ mod frames;
 mod inputs;
 mod lists;
 pub mod memory;
+mod old_build;
 mod points;
 pub mod program;
 pub mod proved;

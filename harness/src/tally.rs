@@ -35,7 +35,7 @@ const WITHOUT_CARBON: &[&str] = &[
 const AROUND_POINT: &[&str] = &["plain", "signed", "uncertain", "both"];
 
 /// Each question with its possible answers; an answer without a name is none.
-const QUESTIONS: [(&str, &[&str]); 37] = [
+const QUESTIONS: [(&str, &[&str]); 40] = [
     ("line", &["0", "5", "6", "7"]),
     ("row 6", GRADES),
     ("row 8", GRADES),
@@ -73,6 +73,9 @@ const QUESTIONS: [(&str, &[&str]); 37] = [
     ("point, line", &["first 0", "last 0", "alone 0", "alone 7"]),
     ("point, entry", &["first", "last"]),
     ("point, row 12", &["first 0/0", "last 0/0", "last 2/0", "last 3/0", "last 4/0", "alone 2/2"]),
+    ("line typed of", &["0", "less", "199", "200", "201, entered", "201, no line"]),
+    ("line asked of", &["0", "80", "81", "199", "200", "201", "more"]),
+    ("old build's desk", &["fresh 2", "key 2", "key 1", "Report 2", "Who 2", "file 2"]),
 ];
 /// The most answers of a question.
 const MOST: usize = ITEMS.len() + 1;
@@ -123,6 +126,9 @@ pub enum Question {
     PointLine,
     PointEntry,
     PointMultiplier,
+    TypedLength,
+    AskedLength,
+    OldBuild,
 }
 
 const GRADED: &[(u8, u8)] = &[(0, 0), (2, 0), (3, 0), (4, 0), (2, 1)];

@@ -1,16 +1,17 @@
 //! The comparison on memory that is no sound desk: every call, on desks broken in every way, on
 //! random ones, and on memory of other lengths.
 
-use super::calls::Both;
+use super::calls::{difference, Both};
 use super::{from_seeds, Comparison, Plan};
 use crate::boundary::{Memory, DESK_FILE, DESK_NUMBERS, DESK_TEXTS};
 use crate::broken::{each_broken, WAYS};
 use crate::desks::Desks;
+use crate::old_build::saved;
 use crate::program::Call;
 use crate::random::Random;
 use crate::session::OTHER_BENCHES;
 use crate::tally::{Question, CALLS};
-use reference::desk::{BENCHES, EMPTY, ENTER, ERASE, NOT_SOUND};
+use reference::desk::{BENCHES, EMPTY, ENTER, ERASE, NOT_SOUND, NO_SUCH_BENCH};
 use reference::names::ITEMS;
 use std::fmt::Display;
 
@@ -18,12 +19,15 @@ use std::fmt::Display;
 /// lines, one random desk for each fifty.
 const BROKEN_ONE_IN: u64 = 2000;
 const RANDOM_ONE_IN: u64 = 50;
+/// Keys that each bench presses at a desk of the old build: all that change something, and none.
+const KEYS: [u8; 5] = [ENTER, ERASE, EMPTY, b'a', 0];
 
 impl Comparison<'_> {
     pub(super) fn some_memories(&mut self, plan: &Plan) {
         self.seeded(plan, from_seeds!("broken desks"), BROKEN_ONE_IN, Self::broken_desks);
         self.seeded(plan, from_seeds!("random desks"), RANDOM_ONE_IN, Self::random_desks);
         self.seeded(plan, from_seeds!("other lengths"), BROKEN_ONE_IN, Self::other_lengths);
+        self.seeded(plan, from_seeds!("old build's desks"), BROKEN_ONE_IN, Self::old_desks);
     }
 
     fn broken_desks(&mut self, name: &'static str, seed: u64, count: u64) {
@@ -61,6 +65,50 @@ impl Comparison<'_> {
                     self.every_call(memory, &mut random, &place);
                     self.fresh(&mut both, &place);
                 }
+            }
+        }
+    }
+
+    /// Desks saved by the old build, lent as they are, and nothing of them may change. The first has
+    /// nothing in it.
+    fn old_desks(&mut self, name: &'static str, seed: u64, count: u64) {
+        self.begin(name);
+        let mut desks = Desks::new(seed.rotate_left(56));
+        for number in 0..count {
+            self.group().inputs += 1;
+            let mut saved = saved(&mut desks);
+            if number == 0 {
+                saved.texts.fill(0);
+                saved.numbers.fill(0);
+            }
+            let place = format_args!("{name}, desk {number}");
+            let mut both = Both::new(saved.clone());
+            let mut seen = vec![(0, self.fresh(&mut both, &place))];
+            for (bench, byte) in
+                (0..=BENCHES as u64).flat_map(|bench| KEYS.map(|byte| (bench, byte)))
+            {
+                let answer = self.call(&mut both, &Call::Key { bench, byte }, &place);
+                let expected = if bench < BENCHES as u64 { NOT_SOUND } else { NO_SUCH_BENCH };
+                let right = answer.is_some_and(|answer| answer.number() == expected);
+                seen.push((if expected == NOT_SOUND { 1 } else { 2 }, right));
+            }
+            let questions = (0..=ITEMS.len() as u64 + 1).map(|item| (4, Call::Who { item }));
+            for (at, call) in [(3, Call::Report)].into_iter().chain(questions) {
+                let answer = self.call(&mut both, &call, &place);
+                seen.push((at, answer.is_some_and(|answer| answer.number() == NOT_SOUND)));
+            }
+            for (block, room) in [(&b"camp-1"[..], DESK_FILE), (b"camp-1", 0), (b"_", DESK_FILE)] {
+                let filed = self.file(&both, block, room, &place);
+                seen.push((5, filed.is_some_and(|(filed, _)| filed.answer == NOT_SOUND)));
+            }
+            let same = both.tested == saved;
+            if !same || seen.iter().any(|(_, right)| !right) {
+                self.different(|| {
+                    format!("{place}: taken over, {}", difference(&both.tested, &saved))
+                });
+            }
+            for (at, _) in seen.into_iter().filter(|(_, right)| *right && same) {
+                self.tally.note(Question::OldBuild, at);
             }
         }
     }
