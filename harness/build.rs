@@ -41,9 +41,7 @@ fn constants(header: &str) -> String {
     let constants: String = numbers
         .iter()
         .map(|(name, number)| {
-            format!(
-                "#[rustfmt::skip]\n#[allow(unused_parens)]\npub const {name}: usize = {number};\n"
-            )
+            format!("#[allow(unused_parens)]\npub const {name}: usize = {number};\n")
         })
         .collect();
     let list: String = numbers.iter().map(|(name, _)| format!("(\"{name}\", {name}), ")).collect();

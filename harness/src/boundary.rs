@@ -1,6 +1,7 @@
 //! The C boundary: the numbers of include/desk.h, lent memory, and the structs with their sizes and
 //! offsets.
 
+use reference::cif_file::BLOCK_LENGTHS;
 use reference::desk::{BENCHES, LOG_LIMIT, NO_BENCH};
 use reference::line::LIMIT;
 use reference::names::ITEMS;
@@ -14,6 +15,8 @@ const _: () = assert!(
         && DESK_ITEMS == ITEMS.len()
         && DESK_ROWS == ROWS
         && DESK_LINE == LIMIT
+        && DESK_TEXTS == (BENCHES + ITEMS.len()) * LIMIT
+        && DESK_FILE == b"data_\n".len() + *BLOCK_LENGTHS.end() + ITEMS.len() * (LIMIT + 1)
         && DESK_LOG == LOG_LIMIT
         && DESK_NO_BENCH == NO_BENCH as usize
 );

@@ -89,30 +89,28 @@ impl Comparison<'_> {
         }
     }
 
-    /// Lines of every length up to one more than the limit, typed at each bench and entered: with a name
-    /// and a value, or of spaces.
+    /// Lines of every length up to one more than the limit, typed at each bench and entered: a name and
+    /// a value, or spaces.
     fn every_length(&mut self, name: &'static str) {
         self.begin(name);
-        for (bench, length) in
-            (0..BENCHES).flat_map(|bench| (0..=LIMIT + 1).map(move |l| (bench, l)))
-        {
+        for length in 0..=LIMIT + 1 {
             let value = "x".repeat(length.saturating_sub(ITEMS[0].0.len() + 1));
-            for mut line in [format!("{} {value}", ITEMS[0].0), " ".repeat(length)] {
-                line.truncate(length);
-                self.group().inputs += 1;
-                let mut both = Both::new(State::fresh(LOG_LIMIT, length as u64).memory());
-                let mut answers = vec![];
-                for (key, byte) in (1..).zip(line.bytes().chain([ENTER])) {
-                    let place = format_args!("{name}, {length} bytes, key {key}");
-                    let call = Call::Key { bench: bench as u64, byte };
-                    let Some(answer) = self.call(&mut both, &call, &place) else {
-                        break;
-                    };
-                    answers.push(answer.number());
+            for line in [format!("{} {value}", ITEMS[0].0), " ".repeat(length)] {
+                for bench in 0..BENCHES as u64 {
+                    let place = format_args!("{name}, {length} bytes");
+                    let answers = self.entered(bench, &line.as_bytes()[..length], &place);
+                    self.note_length(length, &answers);
                 }
-                self.note_length(length, &answers);
             }
         }
+    }
+
+    /// A line typed on a fresh desk, and its Enter: the answers, up to the first that differs.
+    fn entered(&mut self, bench: u64, line: &[u8], place: &dyn Display) -> Vec<u8> {
+        self.group().inputs += 1;
+        let mut both = Both::new(State::fresh(LOG_LIMIT, line.len() as u64).memory());
+        let keys = line.iter().chain([&ENTER]).map(|&byte| Call::Key { bench, byte });
+        keys.map_while(|call| Some(self.call(&mut both, &call, place)?.number())).collect()
     }
 
     /// Counts lines about the limit: the answers of the last key and of Enter.

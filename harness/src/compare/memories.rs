@@ -1,7 +1,7 @@
 //! The comparison on memory that is no sound desk: every call, on desks broken in every way, on
 //! random ones, and on memory of other lengths.
 
-use super::calls::{difference, Both};
+use super::calls::Both;
 use super::{from_seeds, Comparison, Plan};
 use crate::boundary::{Memory, DESK_FILE, DESK_NUMBERS, DESK_TEXTS};
 use crate::broken::{each_broken, WAYS};
@@ -69,47 +69,38 @@ impl Comparison<'_> {
         }
     }
 
-    /// Desks saved by the old build, lent as they are, and nothing of them may change. The first has
-    /// nothing in it.
+    /// Desks saved by the old build, lent as they are. The first has nothing in it.
     fn old_desks(&mut self, name: &'static str, seed: u64, count: u64) {
         self.begin(name);
         let mut desks = Desks::new(seed.rotate_left(56));
         for number in 0..count {
-            self.group().inputs += 1;
             let mut saved = saved(&mut desks);
             if number == 0 {
                 saved.texts.fill(0);
                 saved.numbers.fill(0);
             }
-            let place = format_args!("{name}, desk {number}");
-            let mut both = Both::new(saved.clone());
-            let mut seen = vec![(0, self.fresh(&mut both, &place))];
-            for (bench, byte) in
-                (0..=BENCHES as u64).flat_map(|bench| KEYS.map(|byte| (bench, byte)))
-            {
-                let answer = self.call(&mut both, &Call::Key { bench, byte }, &place);
-                let expected = if bench < BENCHES as u64 { NOT_SOUND } else { NO_SUCH_BENCH };
-                let right = answer.is_some_and(|answer| answer.number() == expected);
-                seen.push((if expected == NOT_SOUND { 1 } else { 2 }, right));
-            }
-            let questions = (0..=ITEMS.len() as u64 + 1).map(|item| (4, Call::Who { item }));
-            for (at, call) in [(3, Call::Report)].into_iter().chain(questions) {
-                let answer = self.call(&mut both, &call, &place);
-                seen.push((at, answer.is_some_and(|answer| answer.number() == NOT_SOUND)));
-            }
-            for (block, room) in [(&b"camp-1"[..], DESK_FILE), (b"camp-1", 0), (b"_", DESK_FILE)] {
-                let filed = self.file(&both, block, room, &place);
-                seen.push((5, filed.is_some_and(|(filed, _)| filed.answer == NOT_SOUND)));
-            }
-            let same = both.tested == saved;
-            if !same || seen.iter().any(|(_, right)| !right) {
-                self.different(|| {
-                    format!("{place}: taken over, {}", difference(&both.tested, &saved))
-                });
-            }
-            for (at, _) in seen.into_iter().filter(|(_, right)| *right && same) {
-                self.tally.note(Question::OldBuild, at);
-            }
+            self.old_desk(saved, &format_args!("{name}, desk {number}"));
+        }
+    }
+
+    /// Every call on such a desk is refused as its list says, and nothing is changed.
+    fn old_desk(&mut self, saved: Memory, place: &dyn Display) {
+        self.group().inputs += 1;
+        let mut both = Both::new(saved.clone());
+        let mut refused = vec![(0, self.fresh(&mut both, place))];
+        for (at, number, call) in every_call() {
+            let answer = self.call(&mut both, &call, place);
+            refused.push((at, answer.is_some_and(|answer| answer.number() == number)));
+        }
+        for (block, room) in [(&b"camp-1"[..], DESK_FILE), (b"camp-1", 0), (b"_", DESK_FILE)] {
+            let filed = self.file(&both, block, room, place);
+            refused.push((5, filed.is_some_and(|(filed, _)| filed.answer == NOT_SOUND)));
+        }
+        if both.tested != saved || refused.iter().any(|(_, so)| !so) {
+            return self.different(|| format!("{place}: a desk of the old build is taken over"));
+        }
+        for (at, _) in refused {
+            self.tally.note(Question::OldBuild, at);
         }
     }
 
@@ -142,6 +133,18 @@ impl Comparison<'_> {
         }
         refused
     }
+}
+
+/// Keys and questions, each with the answer that memory gets which is no desk, and with its place in
+/// the list of those.
+fn every_call() -> impl Iterator<Item = (usize, u8, Call)> {
+    let keys = (0..=BENCHES as u64).flat_map(|bench| {
+        let (at, number) = if bench < BENCHES as u64 { (1, NOT_SOUND) } else { (2, NO_SUCH_BENCH) };
+        KEYS.map(|byte| (at, number, Call::Key { bench, byte }))
+    });
+    let items = 0..=ITEMS.len() as u64 + 1;
+    let questions = items.map(|item| (4, NOT_SOUND, Call::Who { item }));
+    keys.chain([(3, NOT_SOUND, Call::Report)]).chain(questions)
 }
 
 /// Lengths about a right one, each with 0 for less, 1 for as much and 2 for more.
