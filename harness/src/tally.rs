@@ -73,8 +73,8 @@ const QUESTIONS: [(&str, &[&str]); 40] = [
     ("point, line", &["first 0", "last 0", "alone 0", "alone 7"]),
     ("point, entry", &["first", "last"]),
     ("point, row 12", &["first 0/0", "last 0/0", "last 2/0", "last 3/0", "last 4/0", "alone 2/2"]),
-    ("line typed of", &["0", "less", "199", "200", "201, entered", "201, no line"]),
-    ("line asked of", &["0", "80", "81", "199", "200", "201", "more"]),
+    ("line typed of", &["0", "less", "one less", "limit", "one more", "one more, no line"]),
+    ("line asked of", &["0", "80", "81", "one less", "limit", "one more", "more"]),
     ("old build's desk", &["fresh 2", "key 2", "key 1", "Report 2", "Who 2", "file 2"]),
 ];
 /// The most answers of a question.
