@@ -37,18 +37,23 @@ fn link(package: &Path) {
     }
 }
 
-/// A constant for each number that the headers define, and a list of them all.
+/// A constant for each number that the headers define, and a list of them all. Sums and products of
+/// numbers and names are written in Rust as in C.
 fn constants(headers: &str) -> String {
-    let numbers: Vec<(&str, usize)> = headers.lines().filter_map(defined).collect();
-    let constants = numbers
+    let numbers: Vec<(&str, &str)> = headers.lines().filter_map(defined).collect();
+    let constants: String = numbers
         .iter()
-        .map(|(name, number)| format!("pub const {name}: usize = {number};\n"))
-        .collect::<String>();
-    format!("{constants}pub const DEFINED: [(&str, usize); {}] = {numbers:?};\n", numbers.len())
+        .map(|(name, number)| {
+            format!("#[allow(unused_parens)]\npub const {name}: usize = {number};\n")
+        })
+        .collect();
+    let list: String = numbers.iter().map(|(name, _)| format!("(\"{name}\", {name}), ")).collect();
+    format!("{constants}pub const DEFINED: [(&str, usize); {}] = [{list}];\n", numbers.len())
 }
 
-/// The name and the number of `#define NAME NUMBER`, whatever follows.
-fn defined(line: &str) -> Option<(&str, usize)> {
-    let mut words = line.strip_prefix("#define ")?.split_whitespace();
-    Some((words.next()?, words.next()?.parse().ok()?))
+/// The name and the number of `#define NAME NUMBER`, without the comment that follows.
+fn defined(line: &str) -> Option<(&str, &str)> {
+    let (name, rest) = line.strip_prefix("#define ")?.split_once(' ')?;
+    let number = rest.split("/*").next()?.trim();
+    (!number.is_empty()).then_some((name, number))
 }

@@ -146,12 +146,12 @@ bench 3 has not entered `refine_ls_shift/su_max 0.3`
 END_OF_LINES
 )"$'\n' '' "$camp" refusals - <$sessions/refused_lines.in
     runs "camp refusals: a full line" 1 "$(sed "s/^/$about/" <<'END_OF_LINES'
-pair 81, bench 3: 4, the line is full (key ')
-pair 82, bench 3: 5, not a name, a space and a value (Enter after `_reflns_threshold_expression 'yyyyyyyyyyyyyyyyyyyyyyyyyyyyyyyyyyyyyyyyyyyyyyyyyy`)
-pair 87, bench 3: 5, not a name, a space and a value (Enter after ``)
-3 of 87 keys refused
+pair 201, bench 3: 4, the line is full (key ')
+pair 202, bench 3: 5, not a name, a space and a value (Enter after `_reflns_threshold_expression 'yyyyyyyyyyyyyyyyyyyyyyyyyyyyyyyyyyyyyyyyyyyyyyyyyyyyyyyyyyyyyyyyyyyyyyyyyyyyyyyyyyyyyyyyyyyyyyyyyyyyyyyyyyyyyyyyyyyyyyyyyyyyyyyyyyyyyyyyyyyyyyyyyyyyyyyyyyyyyyyyyyyyyyyyyy`)
+pair 207, bench 3: 5, not a name, a space and a value (Enter after ``)
+3 of 207 keys refused
 END_OF_LINES
-)"$'\n' '' "$camp" refusals - <$sessions/line_of_81.in
+)"$'\n' '' "$camp" refusals - <$sessions/line_of_201.in
     runs "camp refusals: no bench, no key, an odd byte" 1 "$(sed "s/^/$about/" <<'END_OF_LINES'
 pairs 1 to 3, no bench: 1, this bench is not there: a pair begins with 0, 1, 2 or 3
 pair 4, bench 0: 3, this key does nothing here (byte 7)

@@ -6,6 +6,8 @@
 #include <string.h>
 
 enum { LONGEST = DESK_TEXTS + 1, MOST = DESK_NUMBERS + 1, NAME_MOST = 32 };
+/* The desk of the build whose lines had 80 bytes. */
+enum { OLD_LINE = 80, OLD_TEXTS = (DESK_BENCHES + DESK_ITEMS) * OLD_LINE, OLD_NUMBERS = 36 };
 
 static uint8_t texts[LONGEST], log_bytes[DESK_LOG + 1], out[DESK_FILE];
 static size_t numbers[MOST];
@@ -62,6 +64,34 @@ static void lengths(void)
     expect(desk_key(texts, DESK_TEXTS, numbers, DESK_NUMBERS, log_bytes, DESK_LOG + 1, 0, 24) == 2, "a longer log is taken", DESK_LOG + 1);
 }
 
+/* A desk that the old build saved, with an entry and an unfinished line: every call refuses it with 2 and
+ * changes nothing. */
+static void old_build(void)
+{
+    static uint8_t old[OLD_TEXTS], old_log[64], was[OLD_TEXTS], log_was[sizeof old_log], paper[DESK_FILE];
+    static size_t of[OLD_NUMBERS], of_was[OLD_NUMBERS];
+    static const uint8_t record[] = {10, 0, 1, 0, 0, 4, '0', '.', '1', '6'}, keys[] = {8, 10, 24, 'a', 0};
+    size_t i;
+    memcpy(old + OLD_LINE, "_refine", 7);
+    of[1] = 7;
+    memcpy(old + (DESK_ITEMS_SLOT + 3) * OLD_LINE, "0.16", 4);
+    of[DESK_ITEMS_AT + 3 * DESK_ITEM_NUMBERS] = 4;
+    of[DESK_ITEMS_AT + 3 * DESK_ITEM_NUMBERS + 1] = of[DESK_COUNT_AT] = 1;
+    of[DESK_USED_AT] = sizeof record;
+    memcpy(old_log, record, sizeof record);
+    memcpy(was, old, sizeof old);
+    memcpy(of_was, of, sizeof of);
+    memcpy(log_was, old_log, sizeof old_log);
+    expect(desk_fresh(old, OLD_TEXTS, of, OLD_NUMBERS) == 2, "desk_fresh takes a desk of the old build", OLD_TEXTS);
+    for (i = 0; i < DESK_BENCHES * sizeof keys; i++)
+        expect(desk_key(old, OLD_TEXTS, of, OLD_NUMBERS, old_log, sizeof old_log, i % DESK_BENCHES, keys[i / DESK_BENCHES]) == 2, "desk_key takes a desk of the old build", i);
+    expect(desk_report(old, OLD_TEXTS, of, OLD_NUMBERS).answer == 2, "desk_report takes a desk of the old build", OLD_TEXTS);
+    for (i = 0; i <= DESK_ITEMS + 1; i++) expect(desk_who(old, OLD_TEXTS, of, OLD_NUMBERS, i).answer == 2, "desk_who takes a desk of the old build", i);
+    expect(desk_file(old, OLD_TEXTS, of, OLD_NUMBERS, (const uint8_t *)"camp", 4, paper, DESK_FILE).answer == 2, "desk_file takes a desk of the old build", OLD_TEXTS);
+    for (i = 0; i < DESK_FILE; i++) expect(paper[i] == 0, "a file of a desk of the old build", i);
+    expect(memcmp(was, old, sizeof old) == 0 && memcmp(of_was, of, sizeof of) == 0 && memcmp(log_was, old_log, sizeof old_log) == 0, "a desk of the old build is changed", 0);
+}
+
 static void benches(void)
 {
     size_t bench, i;
@@ -110,11 +140,13 @@ static void sheet(void)
     filed = desk_file(texts, DESK_TEXTS, numbers, DESK_NUMBERS, name, 4, out, DESK_FILE);
     expect(filed.answer == 0 && memcmp(out, "data_camp\n_chemical", 19) == 0, "the file", filed.count);
     expect(DESK_FILE == 6 + NAME_MOST + DESK_ITEMS * (DESK_LINE + 1), "the room for a file", DESK_FILE);
+    expect(DESK_LINE == 200 && DESK_TEXTS == 2800 && DESK_NUMBERS == 36 && DESK_FILE == 2048, "a number that the comments of desk.h tell", 0);
 }
 
 int main(void)
 {
     lengths();
+    old_build();
     benches();
     sheet();
     return wrong;

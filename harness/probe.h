@@ -28,7 +28,7 @@ uint64_t probe_value(const uint8_t *text, size_t length);
 /*
  * The form of a line: a name, spaces, a value; found 1. The name is the bytes before name_end, the
  * value those from value_start on. All three are 0 for a text that is not of the form.
- * Neither the limit of 80 bytes nor the range 32 to 126 is tested here.
+ * Neither the limit of 200 bytes nor the range 32 to 126 is tested here.
  */
 typedef struct {
     uint64_t found;

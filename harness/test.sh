@@ -69,7 +69,7 @@ layout() {
             { for (at = 3; at < NF; at += 2) print "_Static_assert(offsetof(" $1 ", " $at ") == " $(at + 1) ", \"" $1 "." $at "\");" }' "$work/layout"
     } >"$work/layout.c"
     compiles "struct sizes and offsets, numbers of the headers" gcc -std=c11 "${warnings[@]}" -Iinclude -Iharness -c "$work/layout.c" -o "$work/layout.o"
-    { grep -ho '^#define [A-Z_]* [0-9][0-9]*' include/*.h; grep -ho '^} [a-z_]*' include/*.h harness/probe.h; } | awk '{ print $2 }' | sort >"$work/want"
+    { grep -ho '^#define [A-Z_]* [(0-9A-Z]' include/*.h; grep -ho '^} [a-z_]*' include/*.h harness/probe.h; } | awk '{ print $2 }' | sort >"$work/want"
     awk '{ print $1 }' "$work/layout" | sort >"$work/out"
     same "every struct and number of the headers" "$work/want" "$work/out"
     runs "numbers of desk.h, by what the desk does" 0 '' '' bash harness/desk_layout.sh
@@ -262,7 +262,7 @@ session() {
     echo "dump|lines=,5f726566696e655f6c735f77525f666163746f725f6f627320302e32,27, counts=1 items=0:4:0:1:0:302e3136 used=10 log=0a0001000004302e3136464d"
     echo 'new 3 250|ok'
     echo 'dump|lines=,,, counts=0 items= used=0 log=fa0108'
-    typed 3 "$(printf '%080d' 0)"
+    typed 3 "$(printf '%0200d' 0)"
     echo 'k 3 48|4'
     echo 'new 65537 0|ok'
     echo 'k 0 10|2'

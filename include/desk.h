@@ -1,7 +1,8 @@
 /*
  * The desk: four benches, one sheet of ten items, a count of accepted entries, and a log.
  *
- * Link with libexport_desk.a. The rules are those of document 01 and of document 02, No. 1, 2 and 4.
+ * Link with libexport_desk.a. The rules are those of document 01 and of document 02, No. 1, 2, 4
+ * and 6.
  *
  * Memory: a desk lives in two runs that the caller lends to every call, `texts` of DESK_TEXTS bytes
  * and `numbers` of DESK_NUMBERS numbers; zeros in both are a fresh desk. Its log is a run of bytes,
@@ -29,24 +30,32 @@ extern "C" {
 #define DESK_BENCHES 4
 #define DESK_ITEMS 10
 #define DESK_ROWS 12
-#define DESK_LINE 80     /* the bytes of the longest line, and of a slot of texts */
+#define DESK_LINE 200    /* the bytes of the longest line, and of a slot of texts */
 #define DESK_LOG 65536   /* the longest log */
-#define DESK_FILE 848    /* lent to desk_file, always enough */
 #define DESK_NO_BENCH 255
+
+/*
+ * Lent to desk_file, always enough: data_ and a byte 10, a block name of 32, and the longest line with
+ * its byte 10 for each item; 2048.
+ */
+#define DESK_FILE (6 + 32 + DESK_ITEMS * (DESK_LINE + 1))
 
 /*
  * The layout. Texts: a slot for the line of each bench, then one for the value of each item; bytes
  * after a text's end are zero. Numbers: the length of each bench's line; for each item its length,
  * entry number and bench, side by side, all zero where it is empty; the count of accepted entries;
- * how many bytes of the log are used.
+ * how many bytes of the log are used. 2800 texts and 36 numbers.
+ *
+ * A desk that was saved when lines had 80 bytes has 1120 texts. It is no desk any more: every call
+ * answers 2 and leaves it as it is.
  */
-#define DESK_TEXTS 1120
-#define DESK_NUMBERS 36
+#define DESK_TEXTS ((DESK_BENCHES + DESK_ITEMS) * DESK_LINE)
 #define DESK_ITEM_NUMBERS 3
-#define DESK_ITEMS_SLOT 4    /* the slot of item 1 */
-#define DESK_ITEMS_AT 4      /* the numbers of item 1 */
-#define DESK_COUNT_AT 34
-#define DESK_USED_AT 35
+#define DESK_ITEMS_SLOT DESK_BENCHES    /* the slot of item 1 */
+#define DESK_ITEMS_AT DESK_BENCHES      /* the numbers of item 1 */
+#define DESK_COUNT_AT (DESK_ITEMS_AT + DESK_ITEMS * DESK_ITEM_NUMBERS)
+#define DESK_USED_AT (DESK_COUNT_AT + 1)
+#define DESK_NUMBERS (DESK_USED_AT + 1)
 
 /*
  * Makes the memory a fresh desk.
@@ -62,7 +71,7 @@ uint8_t desk_fresh(uint8_t *texts, size_t texts_length, size_t *numbers, size_t 
  *   1  the bench is not 0 to 3
  *   2  the memory is no desk, or the desk is not sound, or not with this log
  *   3  the byte is no key
- *   4  a byte to append meets a line of 80
+ *   4  a byte to append meets a line of 200
  *   5  Enter: the line is not a name, spaces and a value
  *   6  Enter: the name is none of the ten
  *   7  Enter: the value fails its item's kind

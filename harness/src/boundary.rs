@@ -1,6 +1,7 @@
 //! The C boundary: the numbers of the headers, lent memory, and the structs with their sizes and
 //! offsets.
 
+use reference::cif_file::BLOCK_LENGTHS;
 use reference::desk::{BENCHES, LOG_LIMIT, NO_BENCH};
 use reference::group::MOST;
 use reference::line::LIMIT;
@@ -16,6 +17,8 @@ const _: () = assert!(
         && DESK_ITEMS == ITEMS.len()
         && DESK_ROWS == ROWS
         && DESK_LINE == LIMIT
+        && DESK_TEXTS == (BENCHES + ITEMS.len()) * LIMIT
+        && DESK_FILE == b"data_\n".len() + *BLOCK_LENGTHS.end() + ITEMS.len() * (LIMIT + 1)
         && DESK_LOG == LOG_LIMIT
         && DESK_NO_BENCH == NO_BENCH as usize
         && SYMMETRY_ROW == NUMBERS

@@ -9,7 +9,8 @@ use reference::names::ITEMS;
 /// Bytes that neither a line nor a value may hold.
 const BAD_BYTES: [u8; 8] = [0, 1, 9, 10, 31, 127, 128, 255];
 /// Lengths beyond the limit, and what a cut-off number would turn into one within it.
-const BAD_LENGTHS: [u64; 7] = [LIMIT as u64 + 1, 100, 200, 256, (1 << 32) + 1, 1 << 63, u64::MAX];
+const BAD_LENGTHS: [u64; 7] =
+    [LIMIT as u64 + 1, LIMIT as u64 + 20, 255, 256, (1 << 32) + 1, 1 << 63, u64::MAX];
 /// Values that have no form, of bytes that a value may hold.
 const NO_VALUES: [&str; 9] = ["a b", "'", "'a'b'", "_a", "#1", "loop_", "DATA_x", " 1", "1 "];
 

@@ -13,8 +13,10 @@ use crate::boundary::{Graded, NumberResult};
 use crate::by_reference::gathered;
 use crate::inputs::{Inputs, ROWS, TELLING};
 use crate::lists;
+use crate::old_build::OLD_LIMIT;
 use crate::program::{Call, Program};
 use crate::tally::{Question, Tally};
+use reference::line::{ACCEPTED, LIMIT, NOT_A_LINE};
 use std::fmt::Debug;
 use std::panic::{catch_unwind, resume_unwind, AssertUnwindSafe};
 
@@ -282,6 +284,9 @@ impl<'a> Comparison<'a> {
             self.same(&"wall_classify", line, tested.classify(line), expected.classify(line));
         let place = [0, 5, 6, 7].iter().position(|&known| known == answer);
         self.tally.note(Question::Line, place.unwrap_or(usize::MAX));
+        if let Some(place) = length_place(line.len(), answer) {
+            self.tally.note(Question::AskedLength, place);
+        }
 
         let form = self.same(&"probe_line", line, tested.line(line), expected.line(line));
         self.tally.note(Question::Form, form.found as usize);
@@ -349,6 +354,21 @@ impl<'a> Comparison<'a> {
         if self.examples.len() < SHOWN {
             self.examples.push(example());
         }
+    }
+}
+
+/// The place of a line's length in its list, where the line is accepted within the limit, and refused
+/// beyond it.
+fn length_place(length: usize, answer: u8) -> Option<usize> {
+    match (length, answer) {
+        (0, NOT_A_LINE) => Some(0),
+        (OLD_LIMIT, ACCEPTED) => Some(1),
+        (LIMIT, ACCEPTED) => Some(4),
+        (_, ACCEPTED) if length == OLD_LIMIT + 1 => Some(2),
+        (_, ACCEPTED) if length + 1 == LIMIT => Some(3),
+        (_, NOT_A_LINE) if length == LIMIT + 1 => Some(5),
+        (_, NOT_A_LINE) if length > LIMIT + 1 => Some(6),
+        _ => None,
     }
 }
 

@@ -3,6 +3,7 @@
 use crate::by_reference::Reference;
 use crate::desks::State;
 use crate::program::Program;
+use crate::sheet_lists::longest_formula;
 use crate::tally::Tally;
 use reference::desk::{LOG_FULL, NOT_SOUND, RECORD_HEAD};
 use reference::line::LIMIT;
@@ -54,6 +55,10 @@ fn formula(length: usize) -> String {
     format!("{} {}\n", ITEMS[0].0, "C".repeat(length))
 }
 
+/// The longest value of item 1, and how many records of it the log holds.
+const LONGEST: usize = LIMIT - ITEMS[0].0.len() - 1;
+const LONGEST_RECORDS: usize = LOG / (RECORD_HEAD + LONGEST);
+
 /// All sessions.
 pub fn scripts() -> Vec<Script> {
     vec![
@@ -75,8 +80,9 @@ pub fn scripts() -> Vec<Script> {
         ("all_ten_items", all_ten_items()),
         ("overwritten", overwritten()),
         ("erase_and_cancel", erase_and_cancel()),
-        ("line_of_80", line_of_80()),
-        ("line_of_81", line_of_81()),
+        ("line_of_199", line_of_199()),
+        ("line_of_200", line_of_200()),
+        ("line_of_201", line_of_201()),
         ("unassigned", unassigned()),
         ("quoted", quoted()),
         ("reserved_words", reserved_words()),
@@ -129,22 +135,21 @@ fn refused_enter_of_another() -> Vec<u8> {
     ])
 }
 
-/// Records as long as an entry's can be fill the log to its last byte; one more finds no room.
+/// Records as long as an entry's can be, then one that takes the rest of the log to its last byte; one
+/// more finds no room.
 fn log_filled_to_its_end() -> Vec<u8> {
-    let longest = LIMIT - ITEMS[0].0.len() - 1;
-    let entries = LOG / (RECORD_HEAD + longest);
-    let filled = (0..entries).flat_map(|entry| typed(b'0' + (entry % 4) as u8, formula(longest)));
-    filled.chain(typed(b'1', R_FACTOR)).collect()
+    let bench = |entry: usize| b'0' + (entry % 4) as u8;
+    let filled = (0..LONGEST_RECORDS).flat_map(|entry| typed(bench(entry), formula(LONGEST)));
+    let rest = LOG % (RECORD_HEAD + LONGEST) - RECORD_HEAD;
+    let last = typed(bench(LONGEST_RECORDS), formula(rest));
+    filled.chain(last).chain(typed(b'1', R_FACTOR)).collect()
 }
 
 /// Room for one byte less than the last record takes, until a byte of its value is erased.
 fn log_one_byte_too_short() -> Vec<u8> {
-    let longest = LIMIT - ITEMS[0].0.len() - 1;
-    let entries = LOG / (RECORD_HEAD + longest) - 1;
-    let before = (0..entries).flat_map(|_| typed(b'2', formula(longest)));
-    let short = RECORD_HEAD + 1;
-    let ends =
-        [typed(b'3', formula(1)), typed(b'0', formula(longest + 1 - short)), typed(b'0', "\x08\n")];
+    let before = (0..LONGEST_RECORDS).flat_map(|_| typed(b'2', formula(LONGEST)));
+    let rest = LOG % (RECORD_HEAD + LONGEST) - RECORD_HEAD;
+    let ends = [typed(b'0', formula(rest + 1)), typed(b'0', "\x08\n")];
     before.chain(ends.concat()).chain(typed(b'1', R_FACTOR)).collect()
 }
 
@@ -183,15 +188,29 @@ fn erase_and_cancel() -> Vec<u8> {
     ])
 }
 
-/// A line of the limit by spaces and one by its value; the key after it is passed over.
-fn line_of_80() -> Vec<u8> {
-    let spaces = format!("{:<width$}5", "_refine_ls_R_factor_gt", width = LIMIT - 1);
-    let value = formula(LIMIT - ITEMS[0].0.len() - 1);
-    [typed(b'0', spaces + "5\n"), typed(b'1', value.trim_end().to_string() + "H\n")].concat()
+/// A line one key short of the limit by spaces and one by its value, both taken as they are.
+fn line_of_199() -> Vec<u8> {
+    let spaces = format!("{:<width$}5\n", "_refine_ls_R_factor_gt", width = LIMIT - 2);
+    [typed(b'0', spaces), typed(b'1', formula(LONGEST - 1))].concat()
 }
 
-/// A line whose last mark would be key 81: refused, and then shortened by a byte.
-fn line_of_81() -> Vec<u8> {
+/// A line of the limit by spaces and one by its value; the key after it is passed over. A formula of
+/// the limit is summed.
+fn line_of_200() -> Vec<u8> {
+    let spaces = format!("{:<width$}5", "_refine_ls_R_factor_gt", width = LIMIT - 1);
+    let value = formula(LONGEST);
+    let summed = format!("{} '{}'\n", ITEMS[0].0, longest_formula());
+    [
+        typed(b'0', spaces + "5\n"),
+        typed(b'1', value.trim_end().to_string() + "H\n"),
+        typed(b'2', summed),
+        sheet(&[(2, "49852015.4"), (3, "FM")]),
+    ]
+    .concat()
+}
+
+/// A line whose last mark would be key 201: refused, and then shortened by a byte.
+fn line_of_201() -> Vec<u8> {
     let inside = "y".repeat(LIMIT - ITEMS[9].0.len() - 2);
     typed(b'3', format!("{} '{inside}'\n\x08'\n\x18\n", ITEMS[9].0))
 }

@@ -41,7 +41,7 @@ impl State {
     }
 }
 
-/// A desk that holds these values, each of at most 80 bytes, entered in turn by all benches.
+/// A desk that holds these values, none longer than a line, entered in turn by all benches.
 pub fn holding<T: AsRef<[u8]>>(values: impl IntoIterator<Item = (usize, T)>) -> Desk {
     let mut desk = FRESH;
     for (entry, (item, value)) in (1..).zip(values) {

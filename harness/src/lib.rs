@@ -20,6 +20,7 @@ mod groups;
 mod inputs;
 mod lists;
 pub mod memory;
+mod old_build;
 mod operators;
 mod points;
 pub mod program;

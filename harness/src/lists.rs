@@ -3,6 +3,7 @@
 use crate::inputs::{decimal, LONGEST, ROWS, WORDS};
 use crate::points::writings;
 use reference::grade::bounds;
+use reference::line::LIMIT;
 use reference::names::ITEMS;
 use reference::number::{DIGITS, PLACES, UNCERTAINTY_DIGITS};
 
@@ -16,7 +17,7 @@ pub const OF_NUMBERS: &[u8] = b"049+-.()x";
 pub const SHORT_NUMBER: usize = 5;
 pub const SHORT_MULTIPLIER: usize = 4;
 /// Lengths that would be short ones if cut down to 16 bits.
-const LONG: [usize; 3] = [65_536, 65_536 + 40, 65_536 + 80];
+const LONG: [usize; 3] = [65_536, 65_536 + 40, 65_536 + LIMIT];
 /// One name for each kind: text, number, category.
 const NAMES: [&str; 3] =
     ["_chemical_formula_sum", "_refine_ls_R_factor_gt", "_publ_requested_category"];

@@ -116,12 +116,28 @@ pub fn counts() -> impl Iterator<Item = Desk> {
     })
 }
 
+/// The text of a formula that with its name, a space and quotes is a line of the limit, each count 9999.
+pub fn longest_formula() -> String {
+    let text = [vec!["Pb9999"; 21], vec!["I9999"; 5]].concat().join(" ");
+    debug_assert_eq!(text.len() + 2, desks::longest_value(1));
+    text
+}
+
+/// As many terms of a symbol, each with the count 9999, as a line takes.
+fn most_terms(symbol: &str) -> String {
+    let term = format!("{symbol}9999");
+    let most = (desks::longest_value(1) - 2 + 1) / (term.len() + 1);
+    vec![term; most].join(" ")
+}
+
 /// Each weighted symbol and some formulas with weights at and beside each bound, in every number
 /// of places.
 pub fn weights_at_bounds() -> Vec<Desk> {
     let longer = ["C10 H20", "C18 H19 N7 O8 S", "C H H", "Pb9999 Pb9999 Pb9999", "C9999 H9999"];
     let mut sheets = vec![];
-    for text in WEIGHTS.map(|(symbol, _)| symbol).into_iter().chain(longer) {
+    let symbols = WEIGHTS.map(|(symbol, _)| symbol);
+    let texts = symbols.into_iter().chain(longer).map(String::from);
+    for text in texts.chain(symbols.map(most_terms)).chain([longest_formula()]) {
         let sum = formula::sum(text.as_bytes()).expect("each symbol has a weight");
         for bound in weight_bounds(sum) {
             for places in 0..=most_places(bound) {

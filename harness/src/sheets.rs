@@ -134,7 +134,7 @@ impl Sheets {
     /// Terms in the right order: C, H, and others that most often have a weight.
     fn terms(&mut self) -> Vec<String> {
         let mut others: Vec<&str> = vec![];
-        for _ in 0..self.random.pick(&[0, 0, 1, 1, 2, 3, 4, 8]) {
+        for _ in 0..self.random.pick(&[0, 0, 1, 1, 2, 3, 4, 8, 40]) {
             others.push(if self.random.once_in(16) {
                 self.random.pick(&SYMBOLS)
             } else {

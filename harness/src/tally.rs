@@ -37,7 +37,7 @@ const WITHOUT_CARBON: &[&str] = &[
 const AROUND_POINT: &[&str] = &["plain", "signed", "uncertain", "both"];
 
 /// Each question with its possible answers; an answer without a name is none.
-const QUESTIONS: [(&str, &[&str]); 50] = [
+const QUESTIONS: [(&str, &[&str]); 53] = [
     ("line", &["0", "5", "6", "7"]),
     ("row 6", GRADES),
     ("row 8", GRADES),
@@ -88,6 +88,9 @@ const QUESTIONS: [(&str, &[&str]); 50] = [
     ("group of", &["1", "2", "3-6", "7-16", "17-48", "49-191", "192"]),
     ("identity", &["first", "between", "last"]),
     ("17 at pair", &["first", "between", "last"]),
+    ("line typed of", &["0", "less", "one less", "limit", "one more", "one more, no line"]),
+    ("line asked of", &["0", "80", "81", "one less", "limit", "one more", "more"]),
+    ("old build's desk", &["fresh 2", "key 2", "key 1", "Report 2", "Who 2", "file 2"]),
 ];
 /// The places of a row of an operator.
 const PLACES: &[&str] = &["1", "2", "3", "4", "5", "6", "7", "8", "9", "10", "11", "12"];
@@ -154,6 +157,9 @@ pub enum Question {
     GroupSize,
     IdentityAt,
     MissingPair,
+    TypedLength,
+    AskedLength,
+    OldBuild,
 }
 
 const GRADED: &[(u8, u8)] = &[(0, 0), (2, 0), (3, 0), (4, 0), (2, 1)];

@@ -26,7 +26,7 @@ pub const NO_SUCH_BENCH: u8 = 1;
 pub const NOT_SOUND: u8 = 2;
 /// "the byte is none of those above"
 pub const NO_SUCH_KEY: u8 = 3;
-/// "a byte to append meets a line of 80"
+/// "a byte to append meets a line of [200]"
 pub const LINE_FULL: u8 = 4;
 /// *Who*: "6 if not 1 to 10"
 pub const NO_SUCH_ITEM: u8 = 6;
@@ -95,14 +95,14 @@ fn padded(text: &[u8]) -> [u8; LIMIT] {
     bytes
 }
 
-/// "each line is at most 80 bytes, all 32 to 126"
+/// "each line is at most [200] bytes, all 32 to 126"
 fn line_is_sound(line: &Line) -> bool {
     used_bytes(&line.bytes, line.len).is_some_and(printable)
 }
 
 /// "each filled item has bench 0 to 3, an entry number from 1 to the count and a value of the form
 /// below, bytes 32 to 126, that passes its kind and makes, after its name and one space, a line of
-/// at most 80 bytes; empty items are zero"
+/// at most [200] bytes; empty items are zero"
 fn item_is_sound(number: usize, item: &Item, count: u64) -> bool {
     if item.len == 0 {
         return *item == EMPTY_ITEM;
@@ -184,7 +184,7 @@ pub fn record(bench: u8, item: u8, value: &[u8]) -> Vec<u8> {
     [&length.to_le_bytes(), &RECORD_KIND.to_le_bytes(), &[bench, item][..], value].concat()
 }
 
-/// The values of a desk whose lengths are at most 80, as typed.
+/// The values of a desk whose lengths are at most a line's, as typed.
 pub fn values(desk: &Desk) -> Values<'_> {
     desk.items.each_ref().map(|item| &item.value[..item.len as usize])
 }
@@ -278,15 +278,48 @@ mod tests {
     }
 
     #[test]
-    fn key_80_and_key_81() {
+    fn key_200_and_key_201() {
         let mut run = Run::new(0);
-        run.text(2, &"x".repeat(LIMIT));
+        run.text(2, &"x".repeat(200));
         assert_eq!(run.key(2, b'x'), LINE_FULL);
         assert_eq!(run.key(2, 3), NO_SUCH_KEY);
         assert_eq!(run.key(1, b'x'), ACCEPTED);
         assert_eq!(run.key(2, ERASE), ACCEPTED);
         assert_eq!(run.key(2, b'y'), ACCEPTED);
-        assert_eq!(run.typed(2), [&[b'x'; LIMIT - 1][..], b"y"].concat());
+        assert_eq!(run.typed(2), [&[b'x'; 199][..], b"y"].concat());
+    }
+
+    #[test]
+    fn a_line_of_every_length_at_each_bench() {
+        for bench in 0..BENCHES as u64 {
+            let mut run = Run::new(0);
+            for length in 0..=201 {
+                let line = &run.desk.lines[bench as usize];
+                assert_eq!((line.len, is_sound(&run.desk)), (length.min(200), true));
+                let expected = if length < 200 { ACCEPTED } else { LINE_FULL };
+                assert_eq!(run.key(bench, b'x'), expected, "key {} of bench {bench}", length + 1);
+            }
+        }
+    }
+
+    #[test]
+    fn entries_of_199_and_200_bytes() {
+        for (length, item, name) in [
+            (81, 1, "_chemical_formula_sum"),
+            (199, 1, "_chemical_formula_sum"),
+            (200, 1, "_chemical_formula_sum"),
+            (200, 10, "_reflns_threshold_expression"),
+        ] {
+            let mut run = Run::new(LOG_LIMIT);
+            let value = format!("'{}'", "y".repeat(length - name.len() - 3));
+            assert_eq!(run.enter(1, &format!("{name} {value}")), ACCEPTED);
+            // "Log records keep their form"
+            let written = record(1, item, value.as_bytes());
+            assert_eq!((run.used, &run.log[..written.len()]), (written.len() as u64, &written[..]));
+            assert_eq!(written[..6], [(6 + value.len()) as u8, 0, 1, 0, 1, item]);
+            assert_eq!(written[6..], *value.as_bytes());
+            assert!(is_sound(&run.desk));
+        }
     }
 
     #[test]
@@ -368,25 +401,27 @@ mod tests {
         assert_eq!(run.enter(1, ENTRY), ACCEPTED);
         run.text(0, "_a");
         let grown = run.desk;
-        let changes: [fn(&mut Desk); 25] = [
-            |desk| desk.lines[0].len = 81,
+        let changes: [fn(&mut Desk); 27] = [
+            |desk| desk.lines[0].len = 201,
+            |desk| desk.lines[0].len = 200,
             |desk| desk.lines[0].len = 3,
             |desk| desk.lines[0].len = 1,
             |desk| desk.lines[3].len = u64::MAX,
             |desk| desk.lines[0].bytes[0] = 31,
             |desk| desk.lines[0].bytes[1] = 127,
-            |desk| desk.lines[1].bytes[79] = 1,
+            |desk| desk.lines[1].bytes[199] = 1,
             |desk| desk.items[3].bench = 4,
             |desk| desk.items[3].bench = 1 + 256,
             |desk| desk.items[3].entry = 0,
             |desk| desk.items[3].entry = 2,
             |desk| desk.items[3].len = 5,
             |desk| desk.items[3].len = 200,
+            |desk| desk.items[3].len = 201,
             |desk| desk.items[3].len = 3 + (1 << 32),
             |desk| desk.items[3].len = 0,
             |desk| desk.items[3].value[0] = b'x',
             |desk| desk.items[3].value[4] = 255,
-            |desk| desk.items[3].value[79] = b' ',
+            |desk| desk.items[3].value[199] = b' ',
             |desk| desk.items[2] = desk.items[3],
             |desk| desk.items[9].bench = 1,
             |desk| desk.items[9].entry = 1,
@@ -409,7 +444,8 @@ mod tests {
 
     #[test]
     fn a_value_as_long_as_its_line_allows() {
-        for (name, length) in [("_chemical_formula_sum", 58), ("_reflns_threshold_expression", 51)]
+        for (name, length) in
+            [("_chemical_formula_sum", 178), ("_reflns_threshold_expression", 171)]
         {
             let number = item(name.as_bytes()).expect("a known name");
             let filled = |length: usize| {

@@ -248,6 +248,22 @@ mod tests {
         }
     }
 
+    /// A formula that fills a line of 200: name, space, quotes and 176 bytes of terms.
+    #[test]
+    fn the_longest_formulas_are_summed_exactly() {
+        for (symbol, weight) in WEIGHTS {
+            let count = 177 / (symbol.len() + 5);
+            let text = vec![format!("{symbol}9999"); count].join(" ");
+            assert!(text.len() <= 176 && text.len() + symbol.len() + 5 > 176, "{symbol}");
+            let expected = count as u128 * 9_999 * weight as u128;
+            assert_eq!(sum(text.as_bytes()), Some(expected as i128), "{symbol}");
+        }
+        let text = [vec!["Pb9999"; 21], vec!["I9999"; 5]].concat().join(" ");
+        assert_eq!(text.len(), 176);
+        assert_eq!(sum(text.as_bytes()), Some(9_999 * (21 * 207_200 + 5 * 126_900)));
+        assert_eq!(sum(text.as_bytes()), Some(49_852_014_300));
+    }
+
     #[test]
     fn sums() {
         for (text, expected) in [

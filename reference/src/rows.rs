@@ -233,6 +233,31 @@ mod tests {
         }
     }
 
+    /// Of a line of 200 bytes, whose sum is 49,852,014.3.
+    #[test]
+    fn weights_of_the_longest_formula() {
+        let terms = [vec!["Pb9999"; 21], vec!["I9999"; 5]].concat().join(" ");
+        let formula = format!("'{terms}'");
+        assert_eq!(ITEMS[0].0.len() + 1 + formula.len(), crate::line::LIMIT);
+        for (weight, ratio, difference) in [
+            ("49852014.3", NONE, NONE),
+            ("49852015.3", NONE, NONE),
+            ("49852015.4", NONE, C),
+            ("49852013.3", NONE, NONE),
+            ("49852013.2", NONE, C),
+            ("49353494.2", NONE, C),
+            ("49353494.1", C, C),
+            ("50350534.4", NONE, C),
+            ("50350534.5", C, C),
+            ("44866812.8", A, C),
+            ("44866812.9", B, C),
+        ] {
+            let filled = [(1, &formula[..]), (2, weight), (3, "FM")];
+            assert_eq!(row(4, &filled), (ratio, JUDGED), "{weight}");
+            assert_eq!(row(5, &filled), (difference, JUDGED), "{weight}");
+        }
+    }
+
     #[test]
     fn formulas_of_the_measured_examples() {
         for (formula, number, level) in [

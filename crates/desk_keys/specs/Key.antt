@@ -65,7 +65,7 @@ enteredAs (class.Entry item start) d used log bench t = stored d used log bench 
 abbrev pub enter : Desk → ℕ → List ℕ → ℕ → After
 enter d used log bench = enteredAs (classOf (typed (lineAt d bench))) d used log bench (typed (lineAt d bench))
 
--- a byte to append; 4 when it "meets a line of 80"
+-- a byte to append; 4 when it "meets a line of 80" (document 02, No. 6: of 200)
 abbrev pub appendKey : Desk → ℕ → List ℕ → ℕ → ℕ → After
 appendKey d used log bench byte =
     cond (ltb (lineAt d bench .len) lineMost) (edited d used log bench (appended (lineAt d bench) byte)) (refused 4 d used log)

@@ -25,7 +25,7 @@ every p i (x ∷ xs) = p i x && every p (suc i) xs
 abbrev pub zeros : List ℕ → Bool
 zeros bs = all (between 0 0) bs
 
--- "each line is at most 80 bytes, all 32 to 126", "unused bytes are zero"
+-- "each line is at most 80 (document 02, No. 6: 200) bytes, all 32 to 126", "unused bytes are zero"
 unfoldable pub soundLine : Line → Bool
 soundLine l = leb (l .len) lineMost && (all isTyped (typed l) && zeros (drop (l .len) (l .bytes)))
 

@@ -22,7 +22,7 @@ use Rattle.desk_soundness.specs.SoundLog.{logMost}
 abbrev pub AreZero : List ℕ → Type 0
 AreZero bs = bs ≡ replicate (length bs) 0
 
--- "each line is at most 80 bytes, all 32 to 126 .. unused bytes are zero"
+-- "each line is at most 80 (document 02, No. 6: 200) bytes, all 32 to 126 .. unused bytes are zero"
 pub record SoundLine (l : Line) : Type 0 where
   pub most : l .len ≤ lineMost
   pub bytes : all isTyped (typed l) ≡ true
@@ -36,7 +36,7 @@ pub record EmptyItem (i : Item) : Type 0 where
   pub value : AreZero (i .value)
 
 -- "each filled item has bench 0 to 3, an entry number from 1 to the count and a value of the form below, bytes 32 to 126, that passes its kind and makes, after
--- its name and one space, a line of at most 80 bytes .. unused bytes are zero"; the item is k, one of the ten
+-- its name and one space, a line of at most 80 (200) bytes .. unused bytes are zero"; the item is k, one of the ten
 pub record FilledItem (count k : ℕ) (i : Item) : Type 0 where
   pub known : k ≤ itemCount
   pub some : 1 ≤ i .len

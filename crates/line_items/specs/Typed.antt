@@ -4,9 +4,9 @@ use Prim.Native.Nat.{ℕ}
 use mathlib.Core.Bool.{Bool}
 use Rattle.text.specs.Run.{between}
 
--- "one unfinished line of 0 to 80 bytes"
+-- "one unfinished line of 0 to 80 bytes"; document 02, No. 6: "Document 01's limits at 80 become 200"
 abbrev pub lineMost : ℕ
-lineMost = 80
+lineMost = 200
 
 -- bytes that a line can hold: "32 to 126 are appended"
 abbrev pub isTyped : ℕ → Bool

@@ -7,7 +7,7 @@ ghost use Rattle.text_equality.specs.Same.{sameFolded};
 ghost use Rattle.line_items.specs.Items.{itemCount, nameOf, itemOf, IsName};
 
 // The longest line.
-pub const LINE_MOST: usize = 80;
+pub const LINE_MOST: usize = 200;
 
 // The bytes that a line can hold.
 pub const FIRST_TYPED: u8 = 32;

@@ -25,6 +25,6 @@ ofKind Category v = isCategory (textOf v)
 unfoldable pub passes : ℕ → List ℕ → Bool
 passes item v = isItem item && (isUnassigned v || ofKind (itemRow item .kind) v)
 
--- "a value of the form below, bytes 32 to 126, that passes its kind and makes, after its name and one space, a line of at most 80 bytes"
+-- "a value of the form below, bytes 32 to 126, that passes its kind and makes, after its name and one space, a line of at most 80 bytes" (document 02, No. 6: 200)
 unfoldable pub fits : ℕ → List ℕ → Bool
 fits item v = passes item v && (isValue v && (all isTyped v && leb (length (itemRow item .name) + 1 + length v) lineMost))

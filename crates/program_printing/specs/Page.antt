@@ -1,17 +1,18 @@
 -- A text under way: what is written on a page, and pages with a text more.
 -- Assumes nothing.
-use Prim.Native.Nat.{ℕ, _+_}
+use Prim.Native.Nat.{ℕ, _+_, _*_}
 use mathlib.Core.Path.{_≡_}
 use mathlib.Core.List.{List, _++_}
 use lib.ListN.{length, take}
 use Rattle.line_items.specs.Typed.{lineMost}
+use Rattle.line_items.specs.Items.{itemCount}
+use Rattle.rows.specs.Rows.{rowCount}
 use Rattle.program_printing.specs.declared.page.Page.{Page}
 
--- the longest text of a page
-abbrev pub pageMost : ℕ
-pageMost = 2048
+-- the most that is added by the head, a row's name, a number, the line of a row and the line of a filled item
+abbrev pub headMost : ℕ
+headMost = 10
 
--- the most that is added by a row's name, a number, the line of a row and the line of a filled item
 abbrev pub rowNameMost : ℕ
 rowNameMost = 9
 
@@ -23,6 +24,10 @@ rowLineMost = 7 + rowNameMost + decimalMost
 
 abbrev pub printedItemMost : ℕ
 printedItemMost = 23 + decimalMost + decimalMost + lineMost
+
+-- the longest text of a page: the head, all rows and all items
+abbrev pub pageMost : ℕ
+pageMost = headMost + rowLineMost * rowCount + printedItemMost * itemCount
 
 -- what is written on a page
 abbrev pub pageText : Page → List ℕ

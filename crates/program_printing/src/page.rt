@@ -5,8 +5,19 @@ ghost use Prim.Native.Nat.{_+_, _≤_, _<_};
 ghost use lib.ListN.{length};
 ghost use Rattle.program_printing.specs.Page.{pageMost, decimalMost, pageText, Adds};
 ghost use Rattle.program_printing.specs.Print.{twoDigits, decimalText};
+use line_items::ITEM_COUNT;
+use line_items::LINE_MOST;
+use rows::ROW_COUNT;
 
-pub const PAGE_MOST: usize = 2048;
+// The most that the head, the line of a row and the line of an item add: their words, spaces and end bytes; a row's name, numbers of 20 digits, a value.
+const HEAD_MOST: usize = 10;
+
+const ROW_LINE_MOST: usize = 7 + 9 + 20;
+
+const ITEM_LINE_MOST: usize = 23 + 20 + 20 + LINE_MOST;
+
+// The longest text of a page: the head, all rows and all items.
+pub const PAGE_MOST: usize = HEAD_MOST + ROW_LINE_MOST * ROW_COUNT + ITEM_LINE_MOST * ITEM_COUNT;
 
 // The first len bytes are written.
 pub struct Page {

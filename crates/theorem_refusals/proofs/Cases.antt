@@ -58,7 +58,7 @@ module _ (t : List ℕ) where
   by-split Malformed e = LineCase.bad-form (no-line t e)
   by-split (Parts n start) e = by-name start (take n t) (line-is t n start e) (itemOf (take n t)) refl
 
-  -- a line of at most 80 typed bytes is what its class says
+  -- a line of at most 200 typed bytes is what its class says
   pub class-case : (leb (length t) lineMost && all isTyped t) ≡ true → LineCase t (classOf t)
   unfolding classOf
   class-case fit = rw fit (by-split (splitOf t) refl)

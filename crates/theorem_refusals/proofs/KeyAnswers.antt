@@ -47,7 +47,7 @@ no-key a e m n (enter h) = n h
 not-typed : {byte : ℕ} → isTyped byte ≡ false → Appends byte → ⊥
 not-typed {byte} e h = fails e (between-taken 32 126 byte (h .0) (h .1))
 
--- a text of at most 80 bytes, all 32 to 126
+-- a text of at most 200 bytes, all 32 to 126
 abbrev pub Fits : List ℕ → Type 0
 Fits t = (leb (length t) lineMost && all isTyped t) ≡ true
 

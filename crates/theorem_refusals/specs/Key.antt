@@ -40,7 +40,7 @@ module _ (Sound : Type 0) (line : List ℕ) (size unused bench byte : ℕ) where
       2 when (Sound → ⊥) ∷
       -- "the byte is none of those above"
       3 when (IsKey byte → ⊥) ∷
-      -- "a byte to append meets a line of 80"
+      -- "a byte to append meets a line of 80" (document 02, No. 6: of 200)
       4 when (Appends byte × (size ≡ lineMost)) ∷
       -- "Enter: the line is not of the form below (the empty line too)"
       5 when Enter (BadForm line) ∷

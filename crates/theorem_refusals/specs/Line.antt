@@ -1,5 +1,5 @@
 -- The table of one line, the wall screen's first question (document 01, "Keys and their refusals"): "the number 0, 5, 6 or 7 for one line (over 80 bytes, or a
--- byte outside 32 to 126: 5)". That it is the number of `classOf` is `line-table` (proofs/LineAnswers.antt).
+-- byte outside 32 to 126: 5)"; document 02, No. 6: over 200. That it is the number of `classOf` is `line-table` (proofs/LineAnswers.antt).
 -- Assumes nothing.
 use Prim.Native.Nat.{ℕ, _<_}
 use mathlib.Core.Path.{_≡_}
@@ -41,7 +41,7 @@ UnknownName t = OfForm t (λ name value. (item : ℕ) → IsName name item → �
 abbrev pub WrongKind : List ℕ → Type 0
 WrongKind t = OfItem t (λ item value. Passes item value → ⊥)
 
--- "over 80 bytes, or a byte outside 32 to 126: 5", and the form
+-- "over 80 (200) bytes, or a byte outside 32 to 126: 5", and the form
 pub data BadLine (t : List ℕ) : Type 0 where
   long : lineMost < length t → BadLine t
   outside : (all isTyped t ≡ true → ⊥) → BadLine t

@@ -1,4 +1,4 @@
--- The room that a sound sheet's records take: at most 86 bytes for each item.
+-- The room that a sound sheet's records take: at most 206 bytes for each item.
 -- Assumes nothing.
 use mathlib.Core.Path.{_≡_, refl}
 use mathlib.Core.Bool.{Bool, true, false}

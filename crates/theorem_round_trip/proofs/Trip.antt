@@ -78,7 +78,7 @@ round-trip d name out bench log all-items answer there small room =
       count = ap (λ (t : List ℕ). endOf log (typing bench t) .desk .sheet .count) e ∙ lines-count d bench log all-items (w .sound) there small room;
     }
 
--- A log with room for a record of the longest line for each item (860 bytes) has room for the records of every file that is written, so that each has its round trip.
+-- A log with room for a record of the longest line for each item (2060 bytes) has room for the records of every file that is written, so that each has its round trip.
 pub round-trip-roomy : (d : Desk) (name out : List ℕ) (bench : ℕ) (log : List ℕ) → length (d .sheet .items) ≡ itemCount → fileStep d name out .answer ≡ 0
     → bench < benchCount → (headLength + lineMost) * itemCount ≤ length log → length log ≤ logMost → RoundTrip d (filedBytes (fileStep d name out)) bench log
 round-trip-roomy d name out bench log all-items answer there long small =

@@ -33,7 +33,7 @@ module _ (log : List ℕ) (w : Work) (g : Good log w) (bench byte : ℕ) where
   abbrev t : List ℕ
   t = typedBy w bench
 
-  -- what a bench has typed is at most 80 bytes, all 32 to 126
+  -- what a bench has typed is at most 200 bytes, all 32 to 126
   ready : (length t ≤ lineMost) × Fits t
   ready =
       let l = line-ready (deskOf w) bench (sound-is (deskOf w) (g .sound)) in

@@ -2,11 +2,14 @@
 
 use super::calls::Both;
 use super::{from_seeds, Comparison, Plan};
-use crate::desks::{Desks, State};
+use crate::desks::{longest_value, Desks, State};
 use crate::program::Call;
 use crate::random::Random;
 use crate::session::{Session, OTHER_BENCHES};
-use reference::desk::{Line, BENCHES, EMPTY, ENTER, ERASE, LOG_LIMIT, RECORD_HEAD};
+use crate::tally::Question;
+use reference::desk::{Line, BENCHES, EMPTY, ENTER, ERASE, LINE_FULL, LOG_LIMIT, RECORD_HEAD};
+use reference::line::{ACCEPTED, LIMIT, NOT_A_LINE};
+use reference::names::ITEMS;
 use std::fmt::Display;
 
 /// One session for each fifty lines, one single call for each five.
@@ -22,6 +25,7 @@ impl Comparison<'_> {
 
     pub(super) fn listed_keys(&mut self, plan: &Plan) {
         self.every_byte("every byte", plan.fixed_seed);
+        self.every_length("lines of every length");
     }
 
     /// Whole sessions from a fresh desk.
@@ -85,15 +89,54 @@ impl Comparison<'_> {
         }
     }
 
+    /// Lines of every length up to one more than the limit, typed at each bench and entered: a name and
+    /// a value, or spaces.
+    fn every_length(&mut self, name: &'static str) {
+        self.begin(name);
+        for length in 0..=LIMIT + 1 {
+            let value = "x".repeat(length.saturating_sub(ITEMS[0].0.len() + 1));
+            for line in [format!("{} {value}", ITEMS[0].0), " ".repeat(length)] {
+                for bench in 0..BENCHES as u64 {
+                    let place = format_args!("{name}, {length} bytes");
+                    let answers = self.entered(bench, &line.as_bytes()[..length], &place);
+                    self.note_length(length, &answers);
+                }
+            }
+        }
+    }
+
+    /// A line typed on a fresh desk, and its Enter: the answers, up to the first that differs.
+    fn entered(&mut self, bench: u64, line: &[u8], place: &dyn Display) -> Vec<u8> {
+        self.group().inputs += 1;
+        let mut both = Both::new(State::fresh(LOG_LIMIT, line.len() as u64).memory());
+        let keys = line.iter().chain([&ENTER]).map(|&byte| Call::Key { bench, byte });
+        keys.map_while(|call| Some(self.call(&mut both, &call, place)?.number())).collect()
+    }
+
+    /// Counts lines about the limit: the answers of the last key and of Enter.
+    fn note_length(&mut self, length: usize, answers: &[u8]) {
+        let place = match (length, answers) {
+            (0, [NOT_A_LINE]) => 0,
+            (_, [.., ACCEPTED, ACCEPTED]) if length + 1 < LIMIT => 1,
+            (_, [.., ACCEPTED, ACCEPTED]) if length + 1 == LIMIT => 2,
+            (LIMIT, [.., ACCEPTED, ACCEPTED]) => 3,
+            (_, [.., LINE_FULL, ACCEPTED]) if length == LIMIT + 1 => 4,
+            (_, [.., LINE_FULL, NOT_A_LINE]) if length == LIMIT + 1 => 5,
+            _ => return,
+        };
+        self.tally.note(Question::TypedLength, place);
+    }
+
     /// Enter with each room about what the record takes, after some records and at the log's limit.
     fn room(&mut self, name: &'static str) {
         self.begin(name);
+        let longest = format!("{} '{}'", ITEMS[0].0, "x".repeat(longest_value(1) - 2));
         let lines = [
             "_refine_ls_R_factor_gt 0.16",
             "_chemical_formula_weight   1",
             "_publ_requested_category 'FO'",
             "_chemical_formula_sum 'C18 H19 N7 O8 S'",
-            "_chemical_formula_sum 'xxxxxxxxxxxxxxxxxxxxxxxxxxxxxxxxxxxxxxxxxxxxxxxxxxxxxxxx'",
+            &longest,
         ];
         for line in lines {
             let value = line.trim_start_matches(|sign| sign != ' ').trim_start();

@@ -6,11 +6,12 @@ use super::{from_seeds, Comparison, Plan};
 use crate::boundary::{Memory, DESK_FILE, DESK_NUMBERS, DESK_TEXTS};
 use crate::broken::{each_broken, WAYS};
 use crate::desks::Desks;
+use crate::old_build::saved;
 use crate::program::Call;
 use crate::random::Random;
 use crate::session::OTHER_BENCHES;
 use crate::tally::{Question, CALLS};
-use reference::desk::{BENCHES, EMPTY, ENTER, ERASE, NOT_SOUND};
+use reference::desk::{BENCHES, EMPTY, ENTER, ERASE, NOT_SOUND, NO_SUCH_BENCH};
 use reference::names::ITEMS;
 use std::fmt::Display;
 
@@ -18,12 +19,15 @@ use std::fmt::Display;
 /// lines, one random desk for each fifty.
 const BROKEN_ONE_IN: u64 = 2000;
 const RANDOM_ONE_IN: u64 = 50;
+/// Keys that each bench presses at a desk of the old build: all that change something, and none.
+const KEYS: [u8; 5] = [ENTER, ERASE, EMPTY, b'a', 0];
 
 impl Comparison<'_> {
     pub(super) fn some_memories(&mut self, plan: &Plan) {
         self.seeded(plan, from_seeds!("broken desks"), BROKEN_ONE_IN, Self::broken_desks);
         self.seeded(plan, from_seeds!("random desks"), RANDOM_ONE_IN, Self::random_desks);
         self.seeded(plan, from_seeds!("other lengths"), BROKEN_ONE_IN, Self::other_lengths);
+        self.seeded(plan, from_seeds!("old build's desks"), BROKEN_ONE_IN, Self::old_desks);
     }
 
     fn broken_desks(&mut self, name: &'static str, seed: u64, count: u64) {
@@ -65,6 +69,41 @@ impl Comparison<'_> {
         }
     }
 
+    /// Desks saved by the old build, lent as they are. The first has nothing in it.
+    fn old_desks(&mut self, name: &'static str, seed: u64, count: u64) {
+        self.begin(name);
+        let mut desks = Desks::new(seed.rotate_left(56));
+        for number in 0..count {
+            let mut saved = saved(&mut desks);
+            if number == 0 {
+                saved.texts.fill(0);
+                saved.numbers.fill(0);
+            }
+            self.old_desk(saved, &format_args!("{name}, desk {number}"));
+        }
+    }
+
+    /// Every call on such a desk is refused as its list says, and nothing is changed.
+    fn old_desk(&mut self, saved: Memory, place: &dyn Display) {
+        self.group().inputs += 1;
+        let mut both = Both::new(saved.clone());
+        let mut refused = vec![(0, self.fresh(&mut both, place))];
+        for (at, number, call) in every_call() {
+            let answer = self.call(&mut both, &call, place);
+            refused.push((at, answer.is_some_and(|answer| answer.number() == number)));
+        }
+        for (block, room) in [(&b"camp-1"[..], DESK_FILE), (b"camp-1", 0), (b"_", DESK_FILE)] {
+            let filed = self.file(&both, block, room, place);
+            refused.push((5, filed.is_some_and(|(filed, _)| filed.answer == NOT_SOUND)));
+        }
+        if both.tested != saved || refused.iter().any(|(_, so)| !so) {
+            return self.different(|| format!("{place}: a desk of the old build is taken over"));
+        }
+        for (at, _) in refused {
+            self.tally.note(Question::OldBuild, at);
+        }
+    }
+
     /// Keys, questions and files on one memory; which of the calls were refused with 2.
     fn every_call(
         &mut self,
@@ -94,6 +133,18 @@ impl Comparison<'_> {
         }
         refused
     }
+}
+
+/// Keys and questions, each with the answer that memory gets which is no desk, and with its place in
+/// the list of those.
+fn every_call() -> impl Iterator<Item = (usize, u8, Call)> {
+    let keys = (0..=BENCHES as u64).flat_map(|bench| {
+        let (at, number) = if bench < BENCHES as u64 { (1, NOT_SOUND) } else { (2, NO_SUCH_BENCH) };
+        KEYS.map(|byte| (at, number, Call::Key { bench, byte }))
+    });
+    let items = 0..=ITEMS.len() as u64 + 1;
+    let questions = items.map(|item| (4, NOT_SOUND, Call::Who { item }));
+    keys.chain([(3, NOT_SOUND, Call::Report)]).chain(questions)
 }
 
 /// Lengths about a right one, each with 0 for less, 1 for as much and 2 for more.

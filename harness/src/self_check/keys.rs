@@ -1,21 +1,22 @@
 //! Faulty programs for a fresh desk and for the key call.
 
 use super::{change, Wrong};
-use crate::boundary::{Memory, DESK_COUNT_AT, DESK_TEXTS, DESK_USED_AT};
+use crate::boundary::{Memory, DESK_COUNT_AT, DESK_NUMBERS, DESK_TEXTS, DESK_USED_AT};
 use crate::by_reference::Reference;
 use crate::memory::held;
+use crate::old_build::{OLD_LIMIT, OLD_TEXTS};
 use crate::points::Pointed;
 use crate::program::Program;
 use reference::desk::{
     Item, Line, BENCHES, ENTER, ERASE, LINE_FULL, NOT_SOUND, NO_SUCH_BENCH, NO_SUCH_KEY,
     RECORD_HEAD,
 };
-use reference::line::{split, ACCEPTED, WRONG_KIND};
+use reference::line::{split, ACCEPTED, BYTES, WRONG_KIND};
 use reference::names::{item, Kind, ITEMS};
 use reference::value;
 use std::cell::Cell;
 
-pub const FAULTS: [(&str, Wrong); 18] = [
+pub const FAULTS: [(&str, Wrong); 21] = [
     ("a fresh desk keeps its lines", Wrong::Fresh(lines_kept)),
     ("fresh takes longer memory", Wrong::Fresh(longer_taken)),
     ("one shared line", Wrong::Key(shared_line)),
@@ -27,7 +28,10 @@ pub const FAULTS: [(&str, Wrong); 18] = [
     ("a refused Enter empties the line", Wrong::Key(refused_empties)),
     ("a refused Enter leaves the copied value", Wrong::Key(refused_copies)),
     ("erasing leaves the byte behind", Wrong::Key(byte_left)),
-    ("key 81 is passed over", Wrong::Key(key_81)),
+    ("key 81 is still refused", Wrong::Key(key_81)),
+    ("key 201 is passed over", Wrong::Key(key_201)),
+    ("a desk with a line of 81 is not sound", Wrong::Key(line_of_81)),
+    ("fresh takes a desk of the old build", Wrong::Fresh(old_taken)),
     (
         "benches count modulo 256",
         Wrong::Key(|memory, bench, byte| Reference.key(memory, bench % 256, byte)),
@@ -160,11 +164,48 @@ fn byte_left(memory: &mut Memory, bench: u64, byte: u8) -> u8 {
     answer
 }
 
+/// The length of the line that a key is typed on.
+fn line_length(memory: &Memory, bench: u64) -> usize {
+    let line = held(memory).and_then(|(desk, _)| desk.lines.get(bench as usize).copied());
+    line.map_or(0, |line| line.len as usize)
+}
+
 fn key_81(memory: &mut Memory, bench: u64, byte: u8) -> u8 {
+    let before = memory.clone();
+    match Reference.key(memory, bench, byte) {
+        ACCEPTED if BYTES.contains(&byte) && line_length(&before, bench) >= OLD_LIMIT => {
+            *memory = before;
+            LINE_FULL
+        }
+        right => right,
+    }
+}
+
+fn key_201(memory: &mut Memory, bench: u64, byte: u8) -> u8 {
     match Reference.key(memory, bench, byte) {
         LINE_FULL => ACCEPTED,
         right => right,
     }
+}
+
+fn line_of_81(memory: &mut Memory, bench: u64, byte: u8) -> u8 {
+    if (0..BENCHES as u64).all(|line| line_length(memory, line) <= OLD_LIMIT) {
+        return Reference.key(memory, bench, byte);
+    }
+    if bench < BENCHES as u64 {
+        NOT_SOUND
+    } else {
+        NO_SUCH_BENCH
+    }
+}
+
+fn old_taken(memory: &mut Memory) -> u8 {
+    if (memory.texts.len(), memory.numbers.len()) == (OLD_TEXTS, DESK_NUMBERS) {
+        memory.texts.fill(0);
+        memory.numbers.fill(0);
+        return ACCEPTED;
+    }
+    Reference.fresh(memory)
 }
 
 fn soundness_first(memory: &mut Memory, bench: u64, byte: u8) -> u8 {

@@ -1,11 +1,14 @@
 //! Faulty programs for Report and Who, and wrong orders of calls.
 
 use super::Wrong;
-use crate::boundary::{Memory, Reported, Row, Told, DESK_COUNT_AT, DESK_NUMBERS, DESK_USED_AT};
+use crate::boundary::{
+    Memory, Reported, Row, Told, DESK_COUNT_AT, DESK_LINE, DESK_NUMBERS, DESK_USED_AT,
+};
 use crate::by_reference::{gathered, Reference};
 use crate::compare::Gather;
-use crate::desks::{holding, in_memory, sheet};
+use crate::desks::{holding, in_memory, longest_value, sheet};
 use crate::memory::{held, put};
+use crate::old_build::{OLD_LIMIT, OLD_TEXTS};
 use crate::program::{Call, Program};
 use reference::desk::{values, ENTER, NOT_SOUND, NO_BENCH, NO_SUCH_ITEM, RECORD_HEAD};
 use reference::line::{classify, split, ACCEPTED, LIMIT};
@@ -13,7 +16,7 @@ use reference::names::{item, ITEMS};
 use reference::rows::ROWS;
 use std::cell::Cell;
 
-pub const FAULTS: [(&str, Wrong); 9] = [
+pub const FAULTS: [(&str, Wrong); 13] = [
     ("Report reads an unfinished line", Wrong::Report(unfinished_read)),
     ("Report keeps its first answer", Wrong::Report(first_kept)),
     ("Report looks at the log", Wrong::Report(log_looked_at)),
@@ -23,6 +26,16 @@ pub const FAULTS: [(&str, Wrong); 9] = [
     ("Who answers on an unsound desk", Wrong::Who(unsound_answered)),
     ("Who looks at the item before soundness", Wrong::Who(item_first)),
     ("Who counts items modulo 2^32", Wrong::Who(|m, item| Reference.who(m, item % (1 << 32)))),
+    ("Report wants lines of at most 80", Wrong::Report(old_limit)),
+    (
+        "Report tests a value's length without its name and space",
+        Wrong::Report(|memory| Reference.report(&shortened(memory))),
+    ),
+    (
+        "Who tests a value's length without its name and space",
+        Wrong::Who(|memory, item| Reference.who(&shortened(memory), item)),
+    ),
+    ("Report takes a desk of the old build", Wrong::Report(old_taken)),
 ];
 
 /// Wrong orders of calls.
@@ -67,6 +80,43 @@ fn log_looked_at(memory: &Memory) -> Reported {
         ACCEPTED if memory.numbers.len() == DESK_NUMBERS && few(&memory.numbers) => refusal(),
         _ => right,
     }
+}
+
+fn old_limit(memory: &Memory) -> Reported {
+    let long = held(memory)
+        .is_some_and(|(desk, _)| desk.lines.iter().any(|line| line.len > OLD_LIMIT as u64));
+    if long {
+        refusal()
+    } else {
+        Reference.report(memory)
+    }
+}
+
+/// The same desk with no value longer than its name and a space allow, so that only the limit of the
+/// value itself is left.
+fn shortened(memory: &Memory) -> Memory {
+    let mut memory = memory.clone();
+    if let Some((mut desk, used)) = held(&memory) {
+        for (number, item) in (1..).zip(&mut desk.items) {
+            let longest = longest_value(number);
+            if (longest as u64 + 1..=LIMIT as u64).contains(&item.len) {
+                item.len = longest as u64;
+                item.value[longest..].fill(0);
+            }
+        }
+        put(&mut memory, &desk, used);
+    }
+    memory
+}
+
+/// Its texts are read as if the slots were as long as today's.
+fn old_taken(memory: &Memory) -> Reported {
+    if memory.texts.len() != OLD_TEXTS {
+        return Reference.report(memory);
+    }
+    let slots = memory.texts.chunks(OLD_LIMIT);
+    let texts = slots.flat_map(|slot| [slot, &[0; DESK_LINE - OLD_LIMIT]].concat()).collect();
+    Reference.report(&Memory { texts, ..memory.clone() })
 }
 
 fn refusal() -> Reported {

@@ -5,16 +5,18 @@ use crate::boundary::{Memory, Reported, Row};
 use crate::by_reference::Reference;
 use crate::desks::{in_memory, sheet};
 use crate::memory::held;
+use crate::old_build::OLD_LIMIT;
 use crate::points::{multiplier, Pointed, Side};
 use crate::program::Program;
 use reference::desk::values;
 use reference::formula::{self, symbols};
 use reference::line::ACCEPTED;
+use reference::names::ITEMS;
 use reference::number::number;
 use reference::rows::{Values, RATIO_BOUNDS};
 use reference::value::{form, text, Form};
 
-pub const FAULTS: [(&str, Wrong); 10] = [
+pub const FAULTS: [(&str, Wrong); 12] = [
     ("RW is rounded to hundredths", Wrong::Report(|memory| by_ratio(memory, rounded))),
     ("RW is a quotient of 32-bit floats", Wrong::Report(|memory| by_ratio(memory, float))),
     ("F is matched before F^2^", Wrong::Report(|memory| changed(memory, f_first))),
@@ -25,6 +27,11 @@ pub const FAULTS: [(&str, Wrong); 10] = [
     ("not judgeable before missing", Wrong::Report(|memory| changed(memory, not_judgeable_first))),
     ("row 12 wants a digit on each side", Wrong::Report(|memory| changed(memory, on_each_side))),
     ("row 12 judges a point alone as zero", Wrong::Report(|memory| changed(memory, point_alone))),
+    ("a sum is cut to 32 bits", Wrong::Report(|memory| by_ratio(memory, cut_sum))),
+    (
+        "a formula ends where a line of 80 did",
+        Wrong::Report(|memory| of_others(memory, cut_formula)),
+    ),
 ];
 
 /// The right rows of a sound desk, changed.
@@ -66,6 +73,22 @@ fn rounded(weight: i128, sum: i128, low: i128, high: i128) -> bool {
 fn float(weight: i128, sum: i128, low: i128, high: i128) -> bool {
     let ratio = weight as f32 / sum as f32;
     ratio < low as f32 / 100.0 || ratio > high as f32 / 100.0
+}
+
+/// The sum in thousandths without its bits beyond 32.
+fn cut_sum(weight: i128, sum: i128, low: i128, high: i128) -> bool {
+    let sum = 1000 * (sum / 1000 % (1 << 32));
+    100 * weight < low * sum || 100 * weight > high * sum
+}
+
+/// The terms of a quoted formula that stand within the old limit.
+fn cut_formula(values: &mut [Vec<u8>]) {
+    let most = OLD_LIMIT - ITEMS[0].0.len() - 1;
+    if values[0].len() > most && values[0].starts_with(b"'") {
+        let end = values[0][..most].iter().rposition(|&byte| byte == b' ').unwrap_or(1);
+        values[0].truncate(end);
+        values[0].push(b'\'');
+    }
 }
 
 /// Row 12 of F^2^ with the bounds of F.

@@ -3,15 +3,16 @@
 use super::Wrong;
 use crate::boundary::{Graded, NumberResult};
 use crate::by_reference::Reference;
+use crate::old_build::OLD_LIMIT;
 use crate::points::{Pointed, Side};
 use crate::program::Program;
 use reference::grade;
-use reference::line::{self, ACCEPTED, NO_SUCH_NAME, WRONG_KIND};
+use reference::line::{self, ACCEPTED, LIMIT, NOT_A_LINE, NO_SUCH_NAME, WRONG_KIND};
 use reference::names::{item, Kind, ITEMS};
 use reference::number::{number, DIGITS, PLACES};
 use reference::value;
 
-pub const FAULTS: [(&str, Wrong); 18] = [
+pub const FAULTS: [(&str, Wrong); 20] = [
     (
         "spaces at the end are passed over",
         Wrong::Classify(|line| line::classify(line.trim_ascii_end())),
@@ -33,6 +34,8 @@ pub const FAULTS: [(&str, Wrong); 18] = [
     ("a level wants a digit on each side", Wrong::Grade(graded_on_each_side)),
     ("a line's number wants a digit on each side", Wrong::Classify(line_on_each_side)),
     ("a bare point in a line is no number", Wrong::Classify(bare_point)),
+    ("a line of 81 bytes is still refused", Wrong::Classify(line_of_81)),
+    ("a line of 201 bytes is taken", Wrong::Classify(line_of_201)),
 ];
 
 fn name_first(line: &[u8]) -> u8 {
@@ -139,6 +142,23 @@ fn line_on_each_side(line: &[u8]) -> u8 {
 
 fn bare_point(line: &[u8]) -> u8 {
     refused_value(line, |value| value == b".")
+}
+
+fn line_of_81(line: &[u8]) -> u8 {
+    if line.len() > OLD_LIMIT {
+        NOT_A_LINE
+    } else {
+        line::classify(line)
+    }
+}
+
+/// Such a line is taken for its first bytes.
+fn line_of_201(line: &[u8]) -> u8 {
+    if line.len() == LIMIT + 1 {
+        line::classify(&line[..LIMIT])
+    } else {
+        line::classify(line)
+    }
 }
 
 fn sign_lost(text: &[u8]) -> NumberResult {

@@ -1,0 +1,46 @@
+-- What stood before the limit of a line became 200 (document 02, No. 6), and what is claimed of it.
+-- Assumes nothing.
+use Prim.Native.Nat.{ℕ, _+_, _*_, _/_, _%_}
+use mathlib.Core.Path.{_≡_}
+use mathlib.Core.Bool.{cond, _&&_}
+use mathlib.Core.List.{List, _∷_}
+use lib.Dec.{leb, ltb}
+use lib.ListN.{length, drop}
+use Rattle.text.specs.Run.{all}
+use Rattle.line_items.specs.Typed.{isTyped}
+use Rattle.line_reader.specs.Line.{splitOf, splitClass}
+use Rattle.line_reader.specs.declared.line.Class.{Class}
+use Rattle.line_reader.specs.declared.line.Class.the-variants.{BadForm}
+use Rattle.desk_log.specs.Record.{recordFits, recordLength}
+use Rattle.desk_state.specs.Desks.{benchCount}
+use Rattle.rows.specs.Rows.{noRows}
+use Rattle.desk_keys.specs.Key.{After}
+use Rattle.desk_keys.specs.Lent.{KeyLent}
+use Rattle.desk_questions.specs.Report.{reportedAs, reportLent}
+use Rattle.desk_questions.specs.Who.{nobody, whoLent}
+use Rattle.file_cif.specs.Answers.{noFile, fileLent}
+
+-- document 01's limit: "one unfinished line of 0 to 80 bytes"
+abbrev pub oldMost : ℕ
+oldMost = 80
+
+-- what a line was by that limit
+unfoldable pub oldClass : List ℕ → Class
+oldClass t = cond (leb (length t) oldMost && all isTyped t) (splitClass t (splitOf t)) BadForm
+
+-- a record, byte by byte: "length of the whole record (two bytes), kind 1 (two bytes), bench, item, the value as typed; numbers are little-endian"
+abbrev pub oldRecord : ℕ → ℕ → List ℕ → List ℕ
+oldRecord bench item value = (6 + length value) % 256 ∷ (6 + length value) / 256 % 256 ∷ 1 ∷ 0 ∷ bench ∷ item ∷ value
+
+-- the memory of a desk saved by the build before: a slot of that limit for each of four benches and ten items; 36 numbers
+pub record SavedBefore (t n : List ℕ) : Type 0 where
+  pub texts : length t ≡ (4 + 10) * oldMost
+  pub numbers : length n ≡ 36
+
+-- "A desk saved by the old build is not taken over": every call answers 2 (a key of no bench 1), and changes nothing
+pub record NotTaken (t n : List ℕ) : Type 0 where
+  pub key : {log t′ n′ log′ : List ℕ} {bench byte a : ℕ} → KeyLent t n log bench byte a t′ n′ log′
+      → (a ≡ cond (ltb bench benchCount) 2 1) × (t′ ≡ t) × (n′ ≡ n) × (log′ ≡ log)
+  pub report : reportLent t n ≡ reportedAs 2 noRows
+  pub who : (item : ℕ) → whoLent t n item ≡ nobody 2
+  pub file : (name out : List ℕ) → fileLent t n name out ≡ noFile 2 out
