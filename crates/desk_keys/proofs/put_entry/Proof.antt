@@ -19,12 +19,12 @@ use Rattle.desk_keys.proofs.put_entry.Statement.{statement}
 use Rattle.desk_keys.proofs.put_entry.Tie as tie
 
 put-numbers-requires : tie.Need-put-numbers-requires
+unfolding slot
 put-numbers-requires c κs =
     let s = c .before .before .before .before .before .before .before .before .before .before .before in
     let n = now (s .args .numbers) in
-    let e = getD-take sheetNumbers (drop benchCount n) countAt 0 (omega arith) ∙ getD-drop benchCount n countAt 0 in
     let l = mid-len benchCount usedAt n (omega (arith, s .pre .5 .numbers)) in
-    (omega arith, omega (arith, s .pre .4), l)
+    (omega arith, s .pre .4, l)
 
 returns : tie.Need-returns
 unfolding slot
