@@ -128,9 +128,9 @@ module _ {Rows : Type 0} (rowsOf : Sheet → Rows) (noRows : Rows) where
     pub count : stateAfter log cs .desk .sheet .count ≡ length (workAfter log cs .entries)
     -- "each item holds value, bench and number of the last one that names it, or is empty"
     pub items : (k : ℕ) → 1 ≤ k → k ≤ itemCount → itemAt (stateAfter log cs .desk .sheet) k ≡ lastOf (workAfter log cs .entries) k
-    -- document 02, No. 7: "Each filled item shall hold the number of accepted entries that named it" ..
+    -- document 02, No. 7: "Each filled item shall hold the number of accepted entries that named it"
     pub times : (k : ℕ) → 1 ≤ k → k ≤ itemCount → itemAt (stateAfter log cs .desk .sheet) k .times ≡ timesOf (workAfter log cs .entries) k
-    -- .. "on any desk grown from a fresh one, its records in the used log"
+    -- and that is, "on any desk grown from a fresh one, its records in the used log"
     pub logged : (k : ℕ) → 1 ≤ k → k ≤ itemCount
         → itemAt (stateAfter log cs .desk .sheet) k .times ≡ recordsNaming k (take (stateAfter log cs .used) (stateAfter log cs .log))
     pub all-items : length (stateAfter log cs .desk .sheet .items) ≡ itemCount
