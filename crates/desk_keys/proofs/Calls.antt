@@ -46,7 +46,9 @@ module _ (t n log : List ℕ) (bench byte : ℕ) where
       with-log = and-both (soundMemory t n) (soundLog (deskOf t n) (length log) (usedOf n)) e .1
 
       pub lent-ready : Lent t n log bench
-      lent-ready = record { sized = desk-sized t n is-desk; ready = sound-ready (deskOf t n) (usedOf n) log bench (lines-long t n) (ap (λ (s : Sheet). length (s .items)) (sheet-of t n) ∙ items-long (textsOf t 0) (numbersOf n 0)) h is-sound with-log }
+      lent-ready =
+          let ten = ap (λ (s : Sheet). length (s .items)) (sheet-of t n) ∙ items-long (textsOf t 0) (numbersOf n 0) in
+          record { sized = desk-sized t n is-desk; ready = sound-ready (deskOf t n) (usedOf n) log bench (lines-long t n) ten h is-sound with-log }
 
       pub stepped : {a : ℕ} {t′ n′ log′ : List ℕ} → length t′ ≡ length t → length n′ ≡ length n → leaves a t′ n′ log′ ≡ keyStep (deskOf t n) (usedOf n) log bench byte
           → KeyLent t n log bench byte a t′ n′ log′

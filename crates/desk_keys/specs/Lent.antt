@@ -28,7 +28,7 @@ pub record KeyLent (t n log : List ℕ) (bench byte a : ℕ) (t′ n′ log′ :
 abbrev pub entryDesk : Desk → ℕ → ℕ → List ℕ → Desk
 entryDesk d bench item v = record { lines = d .lines; sheet = withEntry (d .sheet) bench item v }
 
--- of a sheet's block, what one entry more at place k adds 1 to: the count, and how often the item was named
+-- of a sheet's block, what an entry at place k adds 1 to has room for it: the count, and how often the item was named
 pub record Few (n : List ℕ) (k : ℕ) : Type 0 where
   pub count : getD n countAt 0 < logMost
   pub times : getD (slot itemNumbers n k) 3 0 < logMost

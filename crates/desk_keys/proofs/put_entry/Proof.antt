@@ -6,13 +6,13 @@ use mathlib.Core.List.{List}
 use Prim.Native.Nat.{ℕ, _+_, _*_, _-_, _<_}
 use borrow.Rule.Slice.PartMut.{putMid, mid-len}
 use lib.ListN.{length, take, drop, replicate, length-drop}
-use lib.Seq.{length-take-le, getD-take, getD-drop}
+use lib.Seq.{length-take-le}
 use denote.Ref.{now}
 use Rattle.text_copies.specs.Copy.{copied}
 use Rattle.line_items.specs.Typed.{lineMost}
 use Rattle.line_items.specs.Items.{itemCount}
 use Rattle.desk_state.specs.Desks.{benchCount}
-use Rattle.desk_memory.specs.Memory.{countAt, sheetNumbers, usedAt, slot, deskOf}
+use Rattle.desk_memory.specs.Memory.{usedAt, slot, deskOf}
 use Rattle.desk_keys.proofs.Stores.{filled-slot, item-in, used-kept}
 use borrow.Author.Needs.{needs}
 use Rattle.desk_keys.proofs.put_entry.Statement.{statement}
