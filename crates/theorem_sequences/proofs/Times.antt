@@ -71,3 +71,13 @@ records-naming item es f =
     let m : length (recordsOf es) ≡ length es + n = omega (arith, six es) in
     ap₂ (λ k ys. namingFirst k item ys) m (sym (append-nil (recordsOf es)))
     ∙ naming-more item es n [] f ∙ ap (λ k. timesOf es item + k) (naming-none n item) ∙ add-zero (timesOf es item)
+
+-- a log of three records, byte by byte: bench 0 named item 4, bench 1 item 6, bench 2 item 4 again
+abbrev three-records : List ℕ
+three-records =
+    7 ∷ 0 ∷ 1 ∷ 0 ∷ 0 ∷ 4 ∷ 48 ∷
+    7 ∷ 0 ∷ 1 ∷ 0 ∷ 1 ∷ 6 ∷ 49 ∷
+    8 ∷ 0 ∷ 1 ∷ 0 ∷ 2 ∷ 4 ∷ 50 ∷ 51 ∷ []
+
+pub named-in-three : (recordsNaming 4 three-records ≡ 2) × (recordsNaming 6 three-records ≡ 1) × (recordsNaming 1 three-records ≡ 0)
+named-in-three = (refl, refl, refl)

@@ -1,8 +1,7 @@
 -- `desk_questions::who::tell` meets its contract: the item is empty or not.
 -- Assumes nothing.
 use native.Mathlib.Omega.{arith}
-use mathlib.Core.Path.{_≡_, sym, _∙_, ap}
-use Prim.Native.Nat.{ℕ}
+use mathlib.Core.Path.{sym, _∙_}
 use borrow.Author.Tests.{eq-eqb, ne-eqb}
 use Rattle.desk_questions.specs.Who.{toldOf}
 use borrow.Author.Needs.{needs}
