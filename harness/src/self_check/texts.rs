@@ -12,7 +12,7 @@ use reference::names::{item, Kind, ITEMS};
 use reference::number::{number, DIGITS, PLACES};
 use reference::value;
 
-pub const FAULTS: [(&str, Wrong); 18] = [
+pub const FAULTS: [(&str, Wrong); 20] = [
     (
         "spaces at the end are passed over",
         Wrong::Classify(|line| line::classify(line.trim_ascii_end())),
