@@ -3,7 +3,7 @@ ghost use mathlib.Core.Path.{_≡_};
 ghost use Prim.Native.Nat.{_*_, _≤_};
 ghost use lib.ListN.{length, take};
 ghost use Rattle.text.specs.Run.{all, runOf};
-ghost use Rattle.symmetry_operators.specs.Check.{rowsFrom};
+ghost use Rattle.symmetry_operators.specs.Check.{rowMost, rowsFrom};
 ghost use Rattle.symmetry_operators.specs.Residues.{rowFromN, turning, closesCode, runPairs, codesOf, closedN, judgedN};
 ghost use Rattle.symmetry_judged.specs.Answer.{outcomeOf, refusedBy};
 ghost use Rattle.symmetry_judged.specs.Judged.{judgedFew};
@@ -54,7 +54,7 @@ fn all_units(rows: &[i8], n: usize) -> bool
 
 // The codes of n rows: each is the code of its product with the identity.
 fn codes_of(rows: &[i8], n: usize) -> [u64; ROW_MOST]
-    requires { ⌜ (12 * n ≤ length (now rows)) × (n ≤ 192) ⌝ }
+    requires { ⌜ (12 * n ≤ length (now rows)) × (n ≤ rowMost) ⌝ }
     ensures { λ r. ⌜ take n r ≡ codesOf n (now (rows .entry)) ⌝ }
 {
     let mut codes = [0u64; ROW_MOST];
@@ -84,7 +84,7 @@ fn row_run(first: [u16; 12], codes: &[u64], hints: &[u8; 4096]) -> usize
 
 // How many pairs come before the first whose product is not there.
 fn pair_run(rows: &[i8], codes: &[u64]) -> usize
-    requires { ⌜ (12 * length (now codes) ≤ length (now rows)) × (length (now codes) ≤ 192) ⌝ }
+    requires { ⌜ (12 * length (now codes) ≤ length (now rows)) × (length (now codes) ≤ rowMost) ⌝ }
     ensures { λ r. ⌜ r ≡ runPairs (now (codes .entry)) (rowsFrom (length (now (codes .entry))) (now (rows .entry))) ⌝ }
 {
     let hints = hints_of(codes);
@@ -106,7 +106,7 @@ fn pair_run(rows: &[i8], codes: &[u64]) -> usize
 
 // The codes of the rows, judged: the identity, equal rows, products.
 fn closed(rows: &[i8], codes: &[u64]) -> Checked
-    requires { ⌜ (12 * length (now codes) ≤ length (now rows)) × (length (now codes) ≤ 192) ⌝ }
+    requires { ⌜ (12 * length (now codes) ≤ length (now rows)) × (length (now codes) ≤ rowMost) ⌝ }
     ensures { λ r. ⌜ outcomeOf r ≡ closedN (length (now (codes .entry))) (now (rows .entry)) (now (codes .entry)) ⌝ }
 {
     if !has_code(codes, IDENTITY) {
@@ -131,7 +131,7 @@ fn closed(rows: &[i8], codes: &[u64]) -> Checked
 
 // The n rows of a list, judged.
 fn judged(rows: &[i8], n: usize) -> Checked
-    requires { ⌜ (12 * n ≤ length (now rows)) × (n ≤ 192) ⌝ }
+    requires { ⌜ (12 * n ≤ length (now rows)) × (n ≤ rowMost) ⌝ }
     ensures { λ r. ⌜ outcomeOf r ≡ judgedN n (now (rows .entry)) ⌝ }
 {
     if !all_units(rows, n) {

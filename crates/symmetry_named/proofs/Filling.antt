@@ -1,4 +1,4 @@
--- Twelve stores one after the other, and the numbers of the rows filled in so far.
+-- The numbers of an operator stored one after the other, and those of the rows filled in so far.
 -- Assumes nothing.
 use mathlib.Core.Path.{_≡_, refl, sym, ap, _∙_}
 use mathlib.Core.List.{List, [], _∷_, _++_, append-assoc, append-nil}
@@ -8,8 +8,10 @@ use native.Mathlib.Nat.{le-refl}
 use borrow.Author.Tests.{lt-ltb, le-ltb, le-leb, lt-leb, leb-true, leb-false}
 use lib.Dec.{leb}
 use lib.IntN.{ℤ, pos}
-use lib.ListN.{length, getD, take, drop, set, length-append, length-replicate}
-use lib.Seq.{sets, sets-eq, length-sets, take-suc, take-append-seam, take-length, length-take-le}
+use Rattle.text.proofs.Tables.{tabulate, entry}
+use native.Mathlib.Numerals.{add-one}
+use lib.ListN.{length-set, length, getD, take, drop, set, length-append, length-replicate}
+use lib.Seq.{sets, sets-eq, length-sets, take-suc, take-append-seam, take-length, length-take-le, take-all}
 use Rattle.symmetry_named.specs.declared.Operator.{Operator}
 use Rattle.symmetry_named.specs.declared.Flat.{Flat}
 use Rattle.symmetry_named.specs.Named.{noOperator, factor, translation, twelve, numbersOf, noRows, storedRow, withRow, filledTo, flatChecked, checkedNamed}
@@ -22,63 +24,51 @@ use Rattle.symmetry_operators.proofs.Words.{not-list}
 use Rattle.symmetry_operators.specs.Check.{outcome, checked}
 use Rattle.symmetry_operators.specs.Wording.{too-many}
 
-pub twelve-stores : (l : List ℤ) (k : ℕ) (a0 a1 a2 a3 a4 a5 a6 a7 a8 a9 a10 a11 : ℤ)
-    → set (set (set (set (set (set (set (set (set (set (set (set l k a0) (k + 1) a1) (k + 2) a2) (k + 3) a3) (k + 4) a4) (k + 5) a5) (k + 6) a6)
-    (k + 7) a7) (k + 8) a8) (k + 9) a9) (k + 10) a10) (k + 11) a11
-    ≡ sets l k (a0 ∷ a1 ∷ a2 ∷ a3 ∷ a4 ∷ a5 ∷ a6 ∷ a7 ∷ a8 ∷ a9 ∷ a10 ∷ a11 ∷ [])
-twelve-stores l k a0 a1 a2 a3 a4 a5 a6 a7 a8 a9 a10 a11 =
-    let e1 : k + 1 ≡ suc k = omega arith in
-    let e2 : k + 2 ≡ suc (suc k) = omega arith in
-    let e3 : k + 3 ≡ suc (suc (suc k)) = omega arith in
-    let e4 : k + 4 ≡ suc (suc (suc (suc k))) = omega arith in
-    let e5 : k + 5 ≡ suc (suc (suc (suc (suc k)))) = omega arith in
-    let e6 : k + 6 ≡ suc (suc (suc (suc (suc (suc k))))) = omega arith in
-    let e7 : k + 7 ≡ suc (suc (suc (suc (suc (suc (suc k)))))) = omega arith in
-    let e8 : k + 8 ≡ suc (suc (suc (suc (suc (suc (suc (suc k))))))) = omega arith in
-    let e9 : k + 9 ≡ suc (suc (suc (suc (suc (suc (suc (suc (suc k)))))))) = omega arith in
-    let e10 : k + 10 ≡ suc (suc (suc (suc (suc (suc (suc (suc (suc (suc k))))))))) = omega arith in
-    let e11 : k + 11 ≡ suc (suc (suc (suc (suc (suc (suc (suc (suc (suc (suc k)))))))))) = omega arith in
-    λ j. set (set (set (set
-    (set (set (set (set (set (set (set (set l k a0) (e1 j) a1) (e2 j) a2) (e3 j) a3) (e4 j) a4) (e5 j) a5) (e6 j) a6) (e7 j) a7) (e8 j) a8) (e9 j)
-    a9) (e10 j) a10) (e11 j) a11
+-- ---- the numbers of a row, stored one after the other
+sets-append : (xs ys l : List ℤ) (k : ℕ) → sets l k (xs ++ ys) ≡ sets (sets l k xs) (k + length xs) ys
+sets-append [] ys l k = let e : k ≡ k + 0 = omega arith in ap (λ (n : ℕ). sets l n ys) e
+sets-append (x ∷ xs) ys l k =
+    let e : suc k + length xs ≡ k + suc (length xs) = omega arith in
+    sets-append xs ys (set l k x) (suc k) ∙ ap (λ (n : ℕ). sets (sets (set l k x) (suc k) xs) n ys) e
 
-back : (z : ℤ) → mag z < 128 → toZ w8 (ofZ w8 z) ≡ z
-back z h = toZ-ofZ {w = w8} {z = z} (record { sfits = h })
+long-table : (f : ℕ → ℤ) (i n : ℕ) → length (tabulate f i n) ≡ n
+long-table f i zero = refl
+long-table f i (suc n) = ap suc (long-table f (suc i) n)
 
-pub stored-law : (f : Flat) (i : ℕ) (o : Operator)
-    → mag (factor o 0) < 128
-    → mag (factor o 1) < 128
-    → mag (factor o 2) < 128
-    → mag (factor o 3) < 128
-    → mag (factor o 4) < 128
-    → mag (factor o 5) < 128
-    → mag (factor o 6) < 128
-    → mag (factor o 7) < 128
-    → mag (factor o 8) < 128
-    → mag (translation o 0) < 128
-    → mag (translation o 1) < 128
-    → mag (translation o 2) < 128
-    → _≡_ {A = Flat} (record {
-      numbers = set (set (set
-          (set (set (set (set (set
-          (set (set (set (set (f .numbers) (12 * i) (toZ w8 (ofZ w8 (factor o 0)))) (12 * i + 1) (toZ w8 (ofZ w8 (factor o 1)))) (12 * i + 2)
-          (toZ w8 (ofZ w8 (factor o 2)))) (12 * i + 3) (toZ w8 (ofZ w8 (factor o 3)))) (12 * i + 4) (toZ w8 (ofZ w8 (factor o 4)))) (12 * i + 5)
-          (toZ w8 (ofZ w8 (factor o 5)))) (12 * i + 6) (toZ w8 (ofZ w8 (factor o 6)))) (12 * i + 7) (toZ w8 (ofZ w8 (factor o 7)))) (12 * i + 8)
-          (toZ w8 (ofZ w8 (factor o 8)))) (12 * i + 9) (toZ w8 (ofZ w8 (translation o 0)))) (12 * i + 10) (toZ w8 (ofZ w8 (translation o 1))))
-          (12 * i + 11) (toZ w8 (ofZ w8 (translation o 2)));
-    }) (storedRow f i o)
-stored-law f i o h0 h1 h2 h3 h4 h5 h6 h7 h8 h9 h10 h11 =
-    (λ j. record {
-      numbers = set
-          (set (set (set (set (set
-          (set (set (set (set (set (set (f .numbers) (12 * i) (back (factor o 0) h0 j)) (12 * i + 1) (back (factor o 1) h1 j)) (12 * i + 2)
-          (back (factor o 2) h2 j)) (12 * i + 3) (back (factor o 3) h3 j)) (12 * i + 4) (back (factor o 4) h4 j)) (12 * i + 5) (back (factor o 5) h5 j))
-          (12 * i + 6) (back (factor o 6) h6 j)) (12 * i + 7) (back (factor o 7) h7 j)) (12 * i + 8) (back (factor o 8) h8 j)) (12 * i + 9)
-          (back (translation o 0) h9 j)) (12 * i + 10) (back (translation o 1) h10 j)) (12 * i + 11) (back (translation o 2) h11 j);
-    })
-    ∙ ap {B = Flat} (λ (v : List ℤ). record { numbers = v })
-    (twelve-stores (f .numbers) (12 * i) (factor o 0) (factor o 1) (factor o 2) (factor o 3) (factor o 4) (factor o 5) (factor o 6) (factor o 7)
-    (factor o 8) (translation o 0) (translation o 1) (translation o 2))
+-- of the n numbers f 0, f 1, .., k stand in the list l from a place on
+pub record Storing (f : ℕ → ℤ) (n : ℕ) (l : List ℤ) (at k : ℕ) (v : List ℤ) : Type 0 where
+  pub within : k ≤ n
+  pub long : length v ≡ 2304
+  pub is : v ≡ sets l at (take k (tabulate f 0 n))
+
+pub storing-none : (f : ℕ → ℤ) (n : ℕ) (l : List ℤ) (at : ℕ) → length l ≡ 2304 → Storing f n l at 0 l
+storing-none f n l at e = record { within = omega arith; long = e; is = refl }
+
+pub storing-more : {f : ℕ → ℤ} {n : ℕ} {l : List ℤ} {at k : ℕ} {v : List ℤ} → Storing f n l at k v → k < n → mag (f k) < 128
+    → Storing f n l at (k + 1) (set v (at + k) (toZ w8 (ofZ w8 (f k))))
+storing-more {f} {n} {l} {at} {k} {v} h m b =
+    let xs = tabulate f 0 n in
+    let size = long-table f 0 n in
+    let w = toZ w8 (ofZ w8 (f k)) in
+    let here : w ≡ getD xs k (pos 0) = toZ-ofZ {w = w8} {z = f k} (record { sfits = b }) ∙ sym (entry f (pos 0) n k m) in
+    record {
+      within = omega arith;
+      long = length-set v (at + k) w ∙ h .long;
+      is = (λ j. set (h .is j) (at + k) (here j))
+          ∙ ap (λ (i : ℕ). set (sets l at (take k xs)) (at + i) (getD xs k (pos 0))) (sym (length-take-le k xs (omega arith)))
+          ∙ sym (ap (λ (i : ℕ). sets l at (take i xs)) (add-one k) ∙ ap (sets l at) (take-suc xs k (pos 0) (omega arith))
+          ∙ sets-append (take k xs) (getD xs k (pos 0) ∷ []) l at);
+    }
+
+stored-all : {f : ℕ → ℤ} {n : ℕ} {l : List ℤ} {at k : ℕ} {v : List ℤ} → Storing f n l at k v → n ≤ k → v ≡ sets l at (tabulate f 0 n)
+stored-all {f} {n} {l} {at} {k} h m = let size = long-table f 0 n in h .is ∙ ap (sets l at) (take-all k (tabulate f 0 n) (omega arith))
+
+pub stored-law : (f : Flat) (i : ℕ) (o : Operator) {k m : ℕ} {u v : List ℤ} → Storing (factor o) 9 (f .numbers) (12 * i) k u → 9 ≤ k
+    → Storing (translation o) 3 u (12 * i + 9) m v → 3 ≤ m → _≡_ {A = Flat} (record { numbers = v }) (storedRow f i o)
+stored-law f i o h p g q =
+    ap {B = Flat} (λ (w : List ℤ). record { numbers = w })
+    (stored-all g q ∙ ap (λ (w : List ℤ). sets w (12 * i + 9) (tabulate (translation o) 0 3)) (stored-all h p)
+    ∙ sym (sets-append (tabulate (factor o) 0 9) (tabulate (translation o) 0 3) (f .numbers) (12 * i)))
 
 pub with-room : (f : Flat) (i : ℕ) (o : Operator) → i < 192 → storedRow f i o ≡ withRow f i o
 unfolding withRow

@@ -1,6 +1,7 @@
 // Operators by name, and the list of numbers that their check is lent (document 02, No. 5).
 ghost use mathlib.Core.Path.{_≡_};
 ghost use Prim.Native.Nat.{_<_};
+ghost use Rattle.symmetry_operators.specs.Check.{rowMost};
 ghost use Rattle.symmetry_judged.specs.Answer.{outcomeOf};
 ghost use Rattle.symmetry_named.specs.Named.{noRows, storedRow, withRow, flatChecked};
 use symmetry_answers::ListAnswer;
@@ -33,25 +34,23 @@ pub fn no_rows() -> Flat
 
 // The numbers of an operator, stored as row i.
 fn stored(f: Flat, i: usize, o: Operator) -> Flat
-    requires { ⌜ i < 192 ⌝ }
+    requires { ⌜ i < rowMost ⌝ }
     ensures { λ r. ⌜ r ≡ storedRow f i o ⌝ }
 {
     let mut v = f.numbers;
     let a = o.factors;
     let t = o.translations;
     let at = ROW_LENGTH * i;
-    v[at] = a[0];
-    v[at + 1] = a[1];
-    v[at + 2] = a[2];
-    v[at + 3] = a[3];
-    v[at + 4] = a[4];
-    v[at + 5] = a[5];
-    v[at + 6] = a[6];
-    v[at + 7] = a[7];
-    v[at + 8] = a[8];
-    v[at + 9] = t[0];
-    v[at + 10] = t[1];
-    v[at + 11] = t[2];
+    let mut k = 0;
+    while k < 9 {
+        v[at + k] = a[k];
+        k += 1;
+    }
+    let mut m = 0;
+    while m < 3 {
+        v[at + 9 + m] = t[m];
+        m += 1;
+    }
     Flat { numbers: v }
 }
 

@@ -17,19 +17,19 @@ abbrev pub run : {A : Type 0} → (A → Bool) → List A → ℕ
 run p [] = 0
 run p (a ∷ l) = cond (p a) (suc (run p l)) 0
 
+suc-cond : (t : Bool) (m n : ℕ) → suc (cond t m n) ≡ cond t (suc m) (suc n)
+suc-cond true m n = refl
+suc-cond false m n = refl
+
 module _ {A : Type 0} (p : A → Bool) where
   pub run-append : (l m : List A) → run p (l ++ m) ≡ cond (all p l) (length l + run p m) (run p l)
   unfolding all
   run-append [] m = sym (zero-add (run p m))
   run-append (a ∷ l) m = go (run-append l m) (p a) refl
     where
-      out : (t : Bool) (m n : ℕ) → suc (cond t m n) ≡ cond t (suc m) (suc n)
-      out true m n = refl
-      out false m n = refl
-
       go : run p (l ++ m) ≡ cond (all p l) (length l + run p m) (run p l) → (t : Bool) → p a ≡ t
           → cond t (suc (run p (l ++ m))) 0 ≡ cond (t && all p l) (suc (length l) + run p m) (cond t (suc (run p l)) 0)
-      go ih true e = ap suc ih ∙ out (all p l) (length l + run p m) (run p l) ∙ ap (λ (n : ℕ). cond (all p l) n (suc (run p l))) (omega arith)
+      go ih true e = ap suc ih ∙ suc-cond (all p l) (length l + run p m) (run p l) ∙ ap (λ (n : ℕ). cond (all p l) n (suc (run p l))) (omega arith)
       go ih false e = refl
 
   pub run-le : (l : List A) → run p l ≤ length l
@@ -54,13 +54,9 @@ module _ {A : Type 0} (p : A → Bool) where
   looked-run [] = refl
   looked-run (a ∷ l) = go (looked-run l) (p a)
     where
-      out : (t : Bool) (m n : ℕ) → suc (cond t m n) ≡ cond t (suc m) (suc n)
-      out true m n = refl
-      out false m n = refl
-
       go : looked p l ≡ cond (all p l) (length l) (suc (run p l)) → (t : Bool)
           → suc (cond t (looked p l) 0) ≡ cond (t && all p l) (suc (length l)) (suc (cond t (suc (run p l)) 0))
-      go ih true = ap suc ih ∙ out (all p l) (length l) (suc (run p l))
+      go ih true = ap suc ih ∙ suc-cond (all p l) (length l) (suc (run p l))
       go ih false = refl
 
   -- the first that fails stands where the run ends, and all before it hold

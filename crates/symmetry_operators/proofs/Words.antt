@@ -17,7 +17,7 @@ use Rattle.symmetry_operators.specs.Lists.{has, distinct, withEach, pair
 use Rattle.symmetry_operators.specs.Check.{rowMost, rowsOf, closes, pairs, closing, judged, shaped, checked, outcome, Outcome}
 use Rattle.symmetry_operators.specs.Wording.{In, Some, rowAt, NoList, too-many, part-row, out-of-range, HasUnit, NoUnit, EqualRows, ProductMissing, IsList, Accepted}
 use Rattle.symmetry_operators.specs.Group.{Group}
-use Rattle.symmetry_operators.proofs.Pigeon.{by-cases, has-in, in-has, or-left, or-right}
+use Rattle.symmetry_operators.proofs.Pigeon.{by-cases, not-is, has-in, in-has, or-left, or-right}
 use Rattle.symmetry_operators.proofs.Rows.{eqZ-is, eqZ-self, same-is, same-self}
 use Rattle.symmetry_operators.proofs.Groups.{Passed, each-pair, group}
 
@@ -127,10 +127,6 @@ distinct-is (a ∷ l) e i zero h k q = absurd (omega arith)
 distinct-is (a ∷ l) e zero (suc j) h k q =
     let b = and-both (not (has same l a)) _ e in
     not-is (has same l a) (b .0) (row-has l a (subst (In l) (sym q) (in-at l j identity (omega arith))))
-  where
-    not-is : (t : Bool) → not t ≡ true → t ≡ true → ⊥
-    not-is true e f = false≢true e
-    not-is false e f = false≢true f
 distinct-is (a ∷ l) e (suc i) (suc j) h k q = distinct-is l (and-both (not (has same l a)) _ e .1) i j (omega arith) (omega arith) q
 
 pub equal-rows : (l : List (Row ℤ)) → distinct same l ≡ false → EqualRows l
