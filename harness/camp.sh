@@ -31,13 +31,13 @@ commands() {
     long=$(printf 'a%.0s' {1..300})
     runs "camp: version" 0 "camp $(sed -n 's/^#define CAMP_VERSION "\(.*\)"$/\1/p' client/camp/version.h)"$'\n' '' "$camp" --version
     runs "camp: --help is help" 0 "$("$camp" help)"$'\n' '' "$camp" --help
-    for name in cif help refusals symmetry; do
+    for name in cif help refusals symmetry who; do
         runs "camp help: $name is listed" 0 $'1\n' '' bash -c '"$1" help | grep -c "^  $2  *[a-z]"' - "$camp" "$name"
         runs "camp help: $name" 0 $'usage: camp '"$name"$'\n' '' bash -c '"$1" help "$2" | head -n 1 | cut -d " " -f 1-3' - "$camp" "$name"
         runs "camp help: $name has an example" 0 $'Example:\n' '' bash -c '"$1" help "$2" | grep -x Example:' - "$camp" "$name"
         runs "camp: $name --help" 0 "$("$camp" help "$name")"$'\n' '' "$camp" "$name" --help
     done
-    runs "camp help: nothing else is listed" 0 $'4\n' '' bash -c '"$1" help | sed -n "/The commands:/,/^.camp help/p" | grep -c "^  "' - "$camp"
+    runs "camp help: nothing else is listed" 0 $'5\n' '' bash -c '"$1" help | sed -n "/The commands:/,/^.camp help/p" | grep -c "^  "' - "$camp"
     misuse "no command" "a command is missing; $help"
     misuse "no such command" "'xyz' is not a command; $help" xyz
     misuse "a command in capitals" "'CIF' is not a command; $help" CIF
@@ -58,6 +58,14 @@ commands() {
     misuse "symmetry of two" "symmetry: 'b' is one argument too many; see 'camp help symmetry'" symmetry a b
     misuse "symmetry: an option" "symmetry: '--all' is not an option; see 'camp help symmetry'" symmetry --all
     misuse "symmetry: an empty name" "symmetry: '' is not the name of a file; see 'camp help symmetry'" symmetry ''
+    misuse "who without SESSION" "who: SESSION, the file of keys, is missing; see 'camp help who'" who
+    misuse "who of three" "who: 'c' is one argument too many; see 'camp help who'" who a 4 c
+    misuse "who: an option" "who: '--all' is not an option; see 'camp help who'" who --all
+    misuse "who: an empty name" "who: '' is not the name of a file; see 'camp help who'" who ''
+    for name in '' 0 11 -4 +4 4.0 ' 4' 4x 18446744073709551620 _refine_ls_R_factor '_refine_ls_R_factor_gt ' '_refine_ls_R_factor_gt ?' '_refine_ls_R_factor_gt ? ' refine_ls_R_factor_gt _ "_$long"; do
+        misuse "who: item '$name'" "who: '$name' is neither the number nor the name of an item; see 'camp help who'" who $first.in "$name"
+    done
+    misuse "who: keys that are no name" "who: '_a\\x18_refine_ls_R_factor_gt' is neither the number nor the name of an item; see 'camp help who'" who $first.in $'_a\x18_refine_ls_R_factor_gt'
     misuse "a long command" "'$long' is not a command; $help" "$long"
 }
 
@@ -77,13 +85,15 @@ examples() {
     example cif bash -c '"$1" cif camp-1 sheet.cif <session && cat sheet.cif' - "$camp"
     echo '_refine_ls_wR_factor_gt 0.16' | typed 1 >"$work/example/session"
     example refusals "$camp" refusals session
+    { echo '_refine_ls_R_factor_gt 0.16' | typed 0; echo '_refine_ls_wR_factor_obs 0.2' | typed 1; echo '_refine_ls_R_factor_gt 0.045' | typed 0; } >"$work/example/session"
+    example who "$camp" who session
     printf '%s\n' x,y,z -x,y+1/2,-z -x,-y,-z >"$work/example/operators"
     example symmetry "$camp" symmetry operators
 }
 
 # refusals_of NAME FILE: what camp refusals prints of a session, by the reference's answers; NAME as messages name it.
 refusals_of() {
-    od -An -v -t u1 -w2 "$2" | awk 'NF == 2 { print ($1 >= 48 && $1 <= 51 ? $1 - 48 : 255), $2 }' >"$work/pairs"
+    pairs "$2" >"$work/pairs"
     { echo "new 4096 0"; sed 's/^/k /' "$work/pairs"; } | "$harness" reference-trace | tail -n +2 >"$work/answers"
     paste -d ' ' "$work/pairs" "$work/answers" | LC_ALL=C awk -v bytes="$(wc -c <"$2")" -v about="camp: $1: " '
     BEGIN {
@@ -199,6 +209,71 @@ END_OF_LINES
         bash -c 'cd "$1" && cp "$2/crates/desk/stdin" session && "$2/tools/camp" refusals session 2>/dev/null' - "$work" "$PWD"
 }
 
+# pairs FILE: the keys of a session, a bench and a byte each, one a line.
+pairs() {
+    od -An -v -t u1 -w2 "$1" | awk 'NF == 2 { print ($1 >= 48 && $1 <= 51 ? $1 - 48 : 255), $2 }'
+}
+
+# who_of FILE: what camp who prints of a session that leaves some item filled, by the reference's dump.
+who_of() {
+    local item number bench entry times value names
+    mapfile -t names < <(tail -n +2 $sessions/all_ten_items.cif | cut -d ' ' -f 1)
+    { echo "new 4096 0"; pairs "$1" | sed 's/^/k /'; echo dump; } | "$harness" reference-trace | tail -n 1 |
+        sed 's/.* items=\([^ ]*\) .*/\1/' | tr ';' '\n' | while IFS=: read -r _ number bench entry times value; do
+        [ -n "$number" ] || continue
+        item="item $number ${names[number - 1]}: bench $bench, entry $entry, typed $times time"
+        [ "$times" = 1 ] || item+=s
+        printf "%s: %b\n" "$item" "$(sed 's/../\\x&/g' <<<"$value")"
+    done
+}
+
+# who_agrees NAME FILE: what camp who prints, of all items and of each, and its exit, are those by the reference.
+who_agrees() {
+    local item status
+    who_of "$2" >"$work/told"
+    "$camp" who "$2" >"$work/out" 2>&1
+    status=$?
+    if [ ! -s "$work/told" ]; then
+        [ $status -eq 1 ] && [ "$(cat "$work/out")" = "camp: $2: every item is empty" ] && ok "$1" || fail "$1" "exit $status, $(head -n 1 "$work/out")"
+        return
+    fi
+    for item in {1..10}; do
+        "$camp" who "$2" $item >>"$work/each" 2>&1
+        [ $? -eq "$(grep -c "^item $item " "$work/told" | tr 01 10)" ] || echo "item $item: another exit" >>"$work/each"
+    done
+    { grep -v ' is empty$' "$work/each" | cmp -s - "$work/told"; } || status=3
+    rm "$work/each"
+    if [ $status -ne 0 ]; then fail "$1" "exit $status"; else same "$1" "$work/told" "$work/out"; fi
+}
+
+who() {
+    local input seed name line='item 4 _refine_ls_R_factor_gt: bench 0, entry 1, typed 1 time: 0.16'
+    for name in 4 04 0000000000000000000000004 _refine_ls_R_factor_gt _REFINE_LS_R_FACTOR_GT; do
+        runs "camp who: item $name" 0 "$line"$'\n' '' "$camp" who $first.in $name
+    done
+    runs "camp who: the session by standard input" 0 "$line"$'\nitem 7 _refine_ls_wR_factor_obs: bench 1, entry 2, typed 1 time: 0.2\n' '' "$camp" who - <$first.in
+    runs "camp who: an empty item" 1 "camp: $first.in: item 5 is empty"$'\n' '' "$camp" who $first.in _refine_ls_R_factor_obs
+    runs "camp who: nothing typed" 1 $'camp: standard input: every item is empty\n' '' "$camp" who - </dev/null
+    runs "camp who: an empty item of nothing typed" 1 $'camp: standard input: item 10 is empty\n' '' "$camp" who - 10 </dev/null
+    runs "camp who: a refused Enter is not counted" 0 $'item 2 _chemical_formula_weight: bench 3, entry 2, typed 2 times: 45.\n' '' \
+        "$camp" who - < <(printf '%s\n' '_chemical_formula_weight 45.' '_chemical_formula_weight 45.' '_chemical_formula_weight 4 5' | typed 3)
+    for input in $sessions/*.in; do
+        who_agrees "camp who: $(basename "$input" .in)" "$input"
+    done
+    for seed in {1..20}; do
+        "$harness" desk-input "$seed" >"$work/generated"
+        who_agrees "camp who: generated input $seed" "$work/generated"
+    done
+    # The guide's example.
+    { echo '_refine_ls_R_factor_gt 0.16' | typed 0; echo '_refine_ls_wR_factor_obs 0.2' | typed 1; echo '_refine_ls_R_factor_gt 0.045' | typed 0; } >"$work/session"
+    awk '/^    item / { print substr($0, 5) }' docs/guide/session.md >"$work/want"
+    "$camp" who "$work/session" >"$work/out"
+    same "camp who: the guide's example is true" "$work/want" "$work/out"
+    fails "who: no such file" "none: No such file or directory" "$camp" who none
+    fails "who: a folder" "harness: Is a directory" "$camp" who harness 4
+    fails "who: input is closed" "standard input: Bad file descriptor" bash -c 'exec "$1" who - <&-' - "$camp"
+}
+
 # finds NAME STATUS MESSAGES LINE..: what camp symmetry tells of these lines; each message after 'camp: standard input: '.
 finds() {
     local name=$1 status=$2 messages=$3
@@ -293,7 +368,7 @@ symmetry() {
 # Where some of the output is not written, it is told, and the exit is 1.
 outputs() {
     local full="standard output: No space left on device" closed="standard output: Bad file descriptor" words
-    for words in help 'help cif' 'cif --help' --version 'cif camp-1' 'cif camp-1 -' "refusals $first.in" "refusals $work/random" symmetry "symmetry $work/many"; do
+    for words in help 'help cif' 'cif --help' --version 'cif camp-1' 'cif camp-1 -' "refusals $first.in" "refusals $work/random" "who $first.in" "who $first.in 5" symmetry "symmetry $work/many"; do
         if [ -c /dev/full ]; then
             fails "${words/$work\//}: output cannot be written" "$full" bash -c '"$1" $2 >/dev/full' - "$camp" "$words" <$first.in
         fi
@@ -375,6 +450,7 @@ cif_file() {
 commands
 examples
 refusals
+who
 symmetry
 outputs
 cif

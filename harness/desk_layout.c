@@ -6,8 +6,9 @@
 #include <string.h>
 
 enum { LONGEST = DESK_TEXTS + 1, MOST = DESK_NUMBERS + 1, NAME_MOST = 32 };
-/* The desk of the build whose lines had 80 bytes. */
-enum { OLD_LINE = 80, OLD_TEXTS = (DESK_BENCHES + DESK_ITEMS) * OLD_LINE, OLD_NUMBERS = 36 };
+/* The desk of the build whose lines had 80 bytes and whose items had three numbers. */
+enum { OLD_LINE = 80, OLD_TEXTS = (DESK_BENCHES + DESK_ITEMS) * OLD_LINE, OLD_ITEM_NUMBERS = 3 };
+enum { OLD_COUNT_AT = DESK_ITEMS_AT + DESK_ITEMS * OLD_ITEM_NUMBERS, OLD_USED_AT, OLD_NUMBERS };
 
 static uint8_t texts[LONGEST], log_bytes[DESK_LOG + 1], out[DESK_FILE];
 static size_t numbers[MOST];
@@ -75,9 +76,9 @@ static void old_build(void)
     memcpy(old + OLD_LINE, "_refine", 7);
     of[1] = 7;
     memcpy(old + (DESK_ITEMS_SLOT + 3) * OLD_LINE, "0.16", 4);
-    of[DESK_ITEMS_AT + 3 * DESK_ITEM_NUMBERS] = 4;
-    of[DESK_ITEMS_AT + 3 * DESK_ITEM_NUMBERS + 1] = of[DESK_COUNT_AT] = 1;
-    of[DESK_USED_AT] = sizeof record;
+    of[DESK_ITEMS_AT + 3 * OLD_ITEM_NUMBERS] = 4;
+    of[DESK_ITEMS_AT + 3 * OLD_ITEM_NUMBERS + 1] = of[OLD_COUNT_AT] = 1;
+    of[OLD_USED_AT] = sizeof record;
     memcpy(old_log, record, sizeof record);
     memcpy(was, old, sizeof old);
     memcpy(of_was, of, sizeof of);
@@ -125,13 +126,18 @@ static void sheet(void)
     for (k = 0; k < DESK_ITEMS; k++) {
         size_t *of = numbers + DESK_ITEMS_AT + k * DESK_ITEM_NUMBERS, bench = (k + 1) % DESK_BENCHES, n;
         desk_told told = desk_who(texts, DESK_TEXTS, numbers, DESK_NUMBERS, k + 1);
-        expect(told.answer == 0 && told.bench == DESK_NO_BENCH && told.entry == 0, "an empty item has a bench", k + 1);
+        expect(told.answer == 0 && told.bench == DESK_NO_BENCH && told.entry == 0 && told.times == 0, "an empty item has a bench", k + 1);
         n = strlen(type(k, bench));
         used += 6 + n;
-        expect(of[0] == n && of[1] == k + 1 && of[2] == bench, "an item's numbers stand elsewhere", k + 1);
+        expect(of[0] == n && of[1] == k + 1 && of[2] == bench && of[3] == 1, "an item's numbers stand elsewhere", k + 1);
         expect(numbers[DESK_COUNT_AT] == k + 1 && numbers[DESK_USED_AT] == used, "the count or the used number stands elsewhere", k + 1);
         told = desk_who(texts, DESK_TEXTS, numbers, DESK_NUMBERS, k + 1);
-        expect(told.answer == 0 && told.bench == bench && told.entry == k + 1, "Who tells another entry", k + 1);
+        expect(told.answer == 0 && told.bench == bench && told.entry == k + 1 && told.times == 1, "Who tells another entry", k + 1);
+    }
+    for (k = 0; k < DESK_ITEMS; k++) {
+        type(k, (k + 1) % DESK_BENCHES);
+        expect(numbers[DESK_ITEMS_AT + k * DESK_ITEM_NUMBERS + 3] == 2, "how often an item was typed stands elsewhere", k + 1);
+        expect(desk_who(texts, DESK_TEXTS, numbers, DESK_NUMBERS, k + 1).times == 2, "Who tells another number of entries", k + 1);
     }
     expect(desk_who(texts, DESK_TEXTS, numbers, DESK_NUMBERS, DESK_ITEMS + 1).answer == 6, "there is a further item", DESK_ITEMS + 1);
     rows = desk_report(texts, DESK_TEXTS, numbers, DESK_NUMBERS);
@@ -140,7 +146,7 @@ static void sheet(void)
     filed = desk_file(texts, DESK_TEXTS, numbers, DESK_NUMBERS, name, 4, out, DESK_FILE);
     expect(filed.answer == 0 && memcmp(out, "data_camp\n_chemical", 19) == 0, "the file", filed.count);
     expect(DESK_FILE == 6 + NAME_MOST + DESK_ITEMS * (DESK_LINE + 1), "the room for a file", DESK_FILE);
-    expect(DESK_LINE == 200 && DESK_TEXTS == 2800 && DESK_NUMBERS == 36 && DESK_FILE == 2048, "a number that the comments of desk.h tell", 0);
+    expect(DESK_LINE == 200 && DESK_TEXTS == 2800 && DESK_NUMBERS == 46 && DESK_FILE == 2048, "a number that the comments of desk.h tell", 0);
 }
 
 int main(void)

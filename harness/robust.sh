@@ -128,10 +128,12 @@ sanitized() {
     for input in harness/desk-sessions/*.in; do
         prints "camp cif with gcc's checks: $(basename "$input" .in)" "${input%.in}.cif" "$input" "$work/camp" cif camp-1
         told "camp refusals with gcc's checks: $(basename "$input" .in)" refusals "$input" "$work/camp"
+        told "camp who with gcc's checks: $(basename "$input" .in)" who "$input" "$work/camp"
     done
     expect "$work/random"
     prints "camp cif with gcc's checks: $random random bytes" "$work/want.cif" "$work/random" "$work/camp" cif camp-1
     told "camp refusals with gcc's checks: $random random bytes" refusals "$work/random" "$work/camp"
+    told "camp who with gcc's checks: $random random bytes" who "$work/random" "$work/camp"
     for input in random operators many group; do
         told "camp symmetry with gcc's checks: $input" symmetry "$work/$input" "$work/camp"
     done
@@ -183,6 +185,9 @@ programs() {
     done
     clean_told "camp refusals: refused lines" refusals harness/desk-sessions/refused_lines.in
     clean_told "camp refusals: $random random bytes" refusals "$work/random"
+    for input in all_ten_items overwritten log_filled_to_its_end empty; do
+        clean_told "camp who: $input" who harness/desk-sessions/$input.in
+    done
     for input in short operators many group empty; do
         clean_told "camp symmetry: $input" symmetry "$work/$input"
     done
@@ -200,6 +205,9 @@ refusals() {
     refuses "camp cif: no such folder" 1 "$camp" cif camp-1 "$work/none/a.cif" <$first
     refuses "camp cif: no argument" 2 "$camp" cif <$first
     refuses "camp refusals: no such file" 1 "$camp" refusals "$work/none"
+    refuses "camp who: an item by its name" 0 "$camp" who $first _REFINE_LS_R_FACTOR_GT
+    refuses "camp who: an empty item" 1 "$camp" who $first 10
+    refuses "camp who: no such item" 2 "$camp" who $first _a
     refuses "camp symmetry: no such file" 1 "$camp" symmetry "$work/none"
     refuses "camp symmetry: a product missing" 1 "$camp" symmetry < <(printf 'x,y,z\n-y,x,z\n')
     refuses "camp symmetry: two arguments" 2 "$camp" symmetry a b

@@ -259,7 +259,7 @@ session() {
     echo 'k 2 127|3'
     echo 'k 3 8|0'
     typed 2 "'"
-    echo "dump|lines=,5f726566696e655f6c735f77525f666163746f725f6f627320302e32,27, counts=1 items=0:4:0:1:0:302e3136 used=10 log=0a0001000004302e3136464d"
+    echo "dump|lines=,5f726566696e655f6c735f77525f666163746f725f6f627320302e32,27, counts=1 items=0:4:0:1:1:302e3136 used=10 log=0a0001000004302e3136464d"
     echo 'new 3 250|ok'
     echo 'dump|lines=,,, counts=0 items= used=0 log=fa0108'
     typed 3 "$(printf '%0200d' 0)"
@@ -281,17 +281,42 @@ questions() {
     typed 1 '_refine_ls_wR_factor_obs 0.2'
     echo 'k 1 10|0'
     echo 'report 0 0|0 2/1 2/1 1/1 2/1 0/1 3/0 0/0 0/0 1/0 2/1 0/0 2/1'
-    echo 'who 0 4|0 0 1'
-    echo 'who 0 7|0 1 2'
-    echo 'who 0 1|0 255 0'
-    echo 'who 0 11|6 255 0'
-    echo 'who 0 0|6 255 0'
+    echo 'who 0 4|0 0 1 1'
+    echo 'who 0 7|0 1 2 1'
+    echo 'who 0 1|0 255 0 0'
+    echo 'who 0 11|6 255 0 0'
+    echo 'who 0 0|6 255 0 0'
+}
+
+# An item typed three times, and Enters that are refused between.
+rewritten() {
+    local name=5f726566696e655f6c735f525f666163746f725f677420 records=0a0001000004302e31360700010000043f
+    echo 'new 30 0|ok'
+    typed 0 '_refine_ls_R_factor_gt 0.16'
+    echo 'k 0 10|0'
+    typed 0 '_refine_ls_R_factor_gt 0.1x'
+    echo 'k 0 10|7'
+    echo 'who 0 4|0 0 1 1'
+    echo 'k 0 24|0'
+    typed 0 '_refine_ls_R_factor_gt ?'
+    echo 'k 0 10|0'
+    echo 'who 0 4|0 0 2 2'
+    typed 0 '_refine_ls_R_factor_gt 0.123456(1)'
+    echo 'k 0 10|8'
+    echo 'who 0 4|0 0 2 2'
+    echo "dump|lines=${name}302e313233343536283129,,, counts=2 items=0:4:0:2:2:3f used=17 log=${records}777e858c939aa1a8afb6bdc4cb"
+    echo 'k 0 24|0'
+    typed 0 '_refine_ls_R_factor_gt 0.2'
+    echo 'k 0 10|0'
+    echo 'who 0 4|0 0 3 3'
+    echo 'who 0 5|0 255 0 0'
+    echo "dump|lines=,,, counts=3 items=0:4:0:3:3:302e32 used=26 log=${records}090001000004302e32b6bdc4cb"
 }
 
 # Before the first fresh desk, several of them, dumps between calls, and wrong commands.
 fresh_desks() {
     echo 'dump|lines=,,, counts=0 items= used=0 log='
-    echo 'who 0 1|0 255 0'
+    echo 'who 0 1|0 255 0 0'
     echo 'k 3 65|0'
     echo 'dump|lines=,,,41 counts=0 items= used=0 log='
     echo 'new 2 0|ok'
@@ -308,7 +333,7 @@ fresh_desks() {
     echo 'k 0 66|2'
     echo 'k 4 66|1'
     echo 'report 1 7|0 2/1 2/1 1/1 2/1 0/1 2/1 0/0 2/1 0/0 2/1 0/0 2/1'
-    echo 'who 0 18446744073709551615|6 255 0'
+    echo 'who 0 18446744073709551615|6 255 0 0'
     echo 'new 0 0|ok'
     echo 'dump|lines=,,, counts=0 items= used=0 log='
 }
@@ -353,11 +378,13 @@ files() {
 trace_keys() {
     trace_table "reference's trace: keys" reference-trace < <(session)
     trace_table "reference's trace: questions" reference-trace < <(questions)
+    trace_table "reference's trace: an item rewritten" reference-trace < <(rewritten)
     trace_table "reference's trace: fresh desks" reference-trace < <(fresh_desks)
     trace_table "reference's trace: files" reference-trace < <(files)
     trace_table "reference's trace: symmetry" reference-trace < <(symmetry)
     trace_table "trace: keys" < <(session)
     trace_table "trace: questions" < <(questions)
+    trace_table "trace: an item rewritten" < <(rewritten)
     trace_table "trace: fresh desks" < <(fresh_desks)
     trace_table "trace: files" < <(files)
     trace_table "trace: symmetry" < <(symmetry)

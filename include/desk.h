@@ -1,8 +1,8 @@
 /*
  * The desk: four benches, one sheet of ten items, a count of accepted entries, and a log.
  *
- * Link with libexport_desk.a. The rules are those of document 01 and of document 02, No. 1, 2, 4
- * and 6.
+ * Link with libexport_desk.a. The rules are those of document 01 and of document 02, No. 1, 2, 4,
+ * 6 and 7.
  *
  * Memory: a desk lives in two runs that the caller lends to every call, `texts` of DESK_TEXTS bytes
  * and `numbers` of DESK_NUMBERS numbers; zeros in both are a fresh desk. Its log is a run of bytes,
@@ -43,14 +43,14 @@ extern "C" {
 /*
  * The layout. Texts: a slot for the line of each bench, then one for the value of each item; bytes
  * after a text's end are zero. Numbers: the length of each bench's line; for each item its length,
- * entry number and bench, side by side, all zero where it is empty; the count of accepted entries;
- * how many bytes of the log are used. 2800 texts and 36 numbers.
+ * entry number, bench and how many accepted entries named it, side by side, all zero where it is
+ * empty; the count of accepted entries; how many bytes of the log are used. 2800 texts and 46 numbers.
  *
  * A desk that was saved when lines had 80 bytes has 1120 texts. It is no desk any more: every call
  * answers 2 and leaves it as it is.
  */
 #define DESK_TEXTS ((DESK_BENCHES + DESK_ITEMS) * DESK_LINE)
-#define DESK_ITEM_NUMBERS 3
+#define DESK_ITEM_NUMBERS 4
 #define DESK_ITEMS_SLOT DESK_BENCHES    /* the slot of item 1 */
 #define DESK_ITEMS_AT DESK_BENCHES      /* the numbers of item 1 */
 #define DESK_COUNT_AT (DESK_ITEMS_AT + DESK_ITEMS * DESK_ITEM_NUMBERS)
@@ -103,13 +103,16 @@ desk_reported desk_report(const uint8_t *texts, size_t texts_length, const size_
 
 typedef struct {
     size_t entry;
+    size_t times;
     uint8_t answer;
     uint8_t bench;
 } desk_told;
 
 /*
- * Who typed an item: the bench and the number of its last entry; for an empty item, and with a
- * refusal, bench 255 and entry 0. The first that applies:
+ * Who typed an item: the bench and the number of its last entry, and how many accepted entries
+ * named the item ("typed 3 times"), which on a desk grown from a fresh one is how many records of
+ * the used log do; for an empty item, and with a refusal, bench 255, entry 0 and times 0. The first
+ * that applies:
  *   2  the memory is no desk, or the desk is not sound
  *   6  the item is not 1 to 10
  *   0  answered

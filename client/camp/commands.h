@@ -11,7 +11,8 @@
     COMMAND(cif, "write the sheet that a session leaves as a CIF file")      \
     COMMAND(help, "tell what a command does, with an example")               \
     COMMAND(refusals, "tell each key of a session that is refused, and why") \
-    COMMAND(symmetry, "tell whether symmetry operators are a group")
+    COMMAND(symmetry, "tell whether symmetry operators are a group")         \
+    COMMAND(who, "tell who typed the items of a session, and how often")
 
 /* NAME_usage is what 'camp help NAME' prints; NAME_run takes what follows, and returns the status. */
 #define COMMAND_DECLARED(name, summary) \

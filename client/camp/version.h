@@ -2,6 +2,6 @@
 #ifndef CAMP_VERSION_H
 #define CAMP_VERSION_H
 
-#define CAMP_VERSION "1.1"
+#define CAMP_VERSION "1.7"
 
 #endif

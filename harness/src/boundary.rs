@@ -87,6 +87,7 @@ pub struct Reported {
 #[derive(Clone, Copy, Debug, PartialEq, Eq)]
 pub struct Told {
     pub entry: usize,
+    pub times: usize,
     pub answer: u8,
     pub bench: u8,
 }
@@ -131,7 +132,7 @@ pub fn print() {
     print_layout!("probe_line_result", LineResult, found, name_end, value_start);
     print_layout!("desk_row", Row, level, reason);
     print_layout!("desk_reported", Reported, answer, rows);
-    print_layout!("desk_told", Told, entry, answer, bench);
+    print_layout!("desk_told", Told, entry, times, answer, bench);
     print_layout!("desk_filed", Filed, count, answer);
     print_layout!("symmetry_operator", Operator, answer, row);
     print_layout!("symmetry_checked", Checked, pairs, answer);

@@ -18,10 +18,10 @@ type Break = fn(&mut State, &mut Random);
 
 /// So many ways break the desk itself; those after them only its agreement with the log, which
 /// questions and the writer of files do not look at.
-pub const DESK_WAYS: usize = 33;
+pub const DESK_WAYS: usize = 38;
 
 /// Each way by name.
-pub const WAYS: [(&str, Break); 39] = [
+pub const WAYS: [(&str, Break); 44] = [
     ("line longer than the limit", |state, random| {
         line(state, random).len = random.pick(&BAD_LENGTHS);
     }),
@@ -56,6 +56,13 @@ pub const WAYS: [(&str, Break); 39] = [
     }),
     ("item's entry largest", |state, random| filled_item(state, random).entry = u64::MAX),
     ("item's entry beyond 32 bits", |state, random| filled_item(state, random).entry += 1 << 32),
+    ("item's times 0", |state, random| filled_item(state, random).times = 0),
+    ("item's times one above the count", |state, random| {
+        let count = state.desk.count;
+        filled_item(state, random).times = count + 1;
+    }),
+    ("item's times largest", |state, random| filled_item(state, random).times = u64::MAX),
+    ("item's times beyond 32 bits", |state, random| filled_item(state, random).times += 1 << 32),
     ("item without form", |state, random| {
         let item = 1 + random.below(ITEMS.len());
         let value = random.pick(&NO_VALUES);
@@ -104,6 +111,7 @@ pub const WAYS: [(&str, Break); 39] = [
     }),
     ("empty item's bench", |state, random| empty_item(state, random).bench = 1),
     ("empty item's entry", |state, random| empty_item(state, random).entry = 1),
+    ("empty item's times", |state, random| empty_item(state, random).times = 1),
     ("empty item's byte", |state, random| {
         empty_item(state, random).value[random.below(LIMIT)] = b'?';
     }),
@@ -191,5 +199,5 @@ fn some<'a, T>(from: &'a mut [T], random: &mut Random, is_so: fn(&T) -> bool) ->
 /// Fills an item with a value that may be wrong for it.
 fn set(state: &mut State, random: &mut Random, item: usize, value: &[u8]) {
     let bench = random.below(BENCHES) as u64;
-    state.desk.items[item - 1] = Item::holding(value, state.desk.count, bench);
+    state.desk.items[item - 1] = Item::holding(value, state.desk.count, bench, 1);
 }

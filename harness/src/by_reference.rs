@@ -6,7 +6,7 @@ use crate::boundary::{
 };
 use crate::memory::{held, put};
 use crate::program::{Call, Program};
-use reference::desk::{self, BENCHES, FRESH, NOT_SOUND, NO_BENCH, NO_SUCH_BENCH};
+use reference::desk::{self, BENCHES, FRESH, NOT_SOUND, NO_SUCH_BENCH};
 use reference::{cif_file, grade, group, line, names, number, operator, rows, sequence, value};
 
 /// The reference program.
@@ -72,9 +72,10 @@ impl Program for Reference {
     }
 
     fn who(&self, memory: &Memory, item: u64) -> Told {
-        let none = (NOT_SOUND, NO_BENCH, 0);
-        let (answer, bench, entry) = held(memory).map_or(none, |(desk, _)| desk::who(&desk, item));
-        Told { entry: entry as usize, answer, bench }
+        let none = desk::Told::nobody(NOT_SOUND);
+        let told = held(memory).map_or(none, |(desk, _)| desk::who(&desk, item));
+        let desk::Told { answer, bench, entry, times } = told;
+        Told { entry: entry as usize, times: times as usize, answer, bench }
     }
 
     fn file(&self, memory: &Memory, block: &[u8], out: &mut [u8]) -> Filed {

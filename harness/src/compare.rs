@@ -8,6 +8,7 @@ mod points;
 mod sequences;
 mod sheets;
 mod symmetry;
+mod times;
 
 use crate::boundary::{Graded, NumberResult};
 use crate::by_reference::gathered;

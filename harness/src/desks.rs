@@ -45,7 +45,8 @@ impl State {
 pub fn holding<T: AsRef<[u8]>>(values: impl IntoIterator<Item = (usize, T)>) -> Desk {
     let mut desk = FRESH;
     for (entry, (item, value)) in (1..).zip(values) {
-        desk.items[item - 1] = Item::holding(value.as_ref(), entry, entry % BENCHES as u64);
+        let (bench, times) = (entry % BENCHES as u64, desk.items[item - 1].times + 1);
+        desk.items[item - 1] = Item::holding(value.as_ref(), entry, bench, times);
         desk.count = entry;
     }
     desk
@@ -115,8 +116,8 @@ impl Desks {
             let short = (1..=longest_value(place + 1)).contains(&value.len());
             if short && desk.count > 0 && self.random.below(3) <= filled {
                 let bench = self.random.below(BENCHES) as u64;
-                let entry = 1 + self.random.next() % desk.count;
-                desk.items[place] = Item::holding(&value, entry, bench);
+                let (entry, times) = (self.entry(desk.count), self.entry(desk.count));
+                desk.items[place] = Item::holding(&value, entry, bench, times);
             }
         }
         let lines: [Vec<u8>; BENCHES] = std::array::from_fn(|_| match self.random.below(4) {
@@ -142,11 +143,17 @@ impl Desks {
         }
         for item in &mut desk.items {
             let (value, len, entry) = (self.bytes(), self.number(), self.number());
-            *item = Item { value, len, entry, bench: self.number() };
+            *item = Item { value, len, entry, bench: self.number(), times: self.number() };
         }
         desk.count = self.number();
         let log = (0..self.random.below(300)).map(|_| self.random.byte()).collect();
         State { desk, log, used: self.number() }
+    }
+
+    /// A number of 1 to the count, often one of the two.
+    fn entry(&mut self, count: u64) -> u64 {
+        let any = 1 + self.random.next() % count;
+        self.random.pick(&[1, count, any, any])
     }
 
     fn bytes(&mut self) -> [u8; LIMIT] {

@@ -51,7 +51,7 @@ impl Files {
         for item in [1, ITEMS.len()] {
             if desk.count > 0 && self.random.once_in(2) {
                 let (value, bench) = (self.text(item), self.random.below(BENCHES) as u64);
-                desk.items[item - 1] = Item::holding(&value, desk.count, bench);
+                desk.items[item - 1] = Item::holding(&value, desk.count, bench, 1);
             }
         }
         desk

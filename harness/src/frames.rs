@@ -6,8 +6,8 @@
 //! Kind 0 is calls on a desk: how many calls, and the lengths of the log, of a block name and of the
 //! room for a file; then log, name, room, texts, numbers (8 bytes each) and calls. A call has its
 //! kind (0 key, 1 Report, 2 Who), its bench or item (8 bytes) and its byte. Answered are for each call
-//! its answer's number, with a Report level and reason of each row, with a Who bench and entry
-//! (8 bytes); then count (8 bytes) and answer of the file; then room, texts, numbers and log. Kind 1 is
+//! its answer's number, with a Report level and reason of each row, with a Who bench, entry and times
+//! (8 bytes each); then count (8 bytes) and answer of the file; then room, texts, numbers and log. Kind 1 is
 //! the same on memory that is first made a fresh desk, of which the answer comes first.
 //!
 //! Kind 2 is the wall screen: a row, 0, the length of a text, 0; then the text. Answered are the
@@ -22,7 +22,7 @@ use crate::inputs::{Inputs, ROWS};
 use crate::program::{Answer, Call, Program};
 use crate::random::Random;
 use crate::sequences::{
-    desk_sessions, few_calls, log_lengths, measured_examples, Sequence, Sequences,
+    desk_sessions, few_calls, log_lengths, measured_examples, rewritten, Sequence, Sequences,
 };
 use crate::sheet_lists;
 use crate::sheets::Sheets;
@@ -121,7 +121,9 @@ fn told(answer: &Answer) -> Vec<u8> {
     let rest = match answer {
         Answer::Key(_) => vec![],
         Answer::Report(told) => told.rows.iter().flat_map(|row| [row.level, row.reason]).collect(),
-        Answer::Who(told) => [&[told.bench][..], &told.entry.to_le_bytes()].concat(),
+        Answer::Who(told) => {
+            [&[told.bench][..], &told.entry.to_le_bytes(), &told.times.to_le_bytes()].concat()
+        }
     };
     [vec![answer.number()], rest].concat()
 }
@@ -145,12 +147,13 @@ pub fn write_examples(folder: &Path) -> Result<(), String> {
 }
 
 /// The measured examples, as they are and typed, the sessions of desk with their files, and sequences
-/// about the length of the log and the order of few calls.
+/// about the length of the log, the order of few calls and items typed again.
 pub fn write_lists(folder: &Path) -> Result<(), String> {
     let mut frames = Frames::default();
     frames.examples();
     let lists = measured_examples().chain(log_lengths()).chain(desk_sessions());
-    lists.chain(few_calls().step_by(9)).for_each(|sequence| frames.sequence(&sequence));
+    let lists = lists.chain(few_calls().step_by(9)).chain(rewritten().step_by(8));
+    lists.for_each(|sequence| frames.sequence(&sequence));
     for (number, (_, input)) in (1..).zip(desk_sessions::scripts()) {
         let calls: Vec<Call> =
             keys(&input).map(|(bench, byte)| Call::Key { bench, byte }).collect();

@@ -26,6 +26,7 @@ mod points;
 pub mod program;
 pub mod proved;
 mod random;
+mod records;
 mod self_check;
 mod sequences;
 mod session;

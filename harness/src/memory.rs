@@ -20,8 +20,8 @@ pub fn held(memory: &Memory) -> Option<(Desk, u64)> {
     let number = |at: usize| numbers[at] as u64;
     let line = |bench| Line { bytes: text(bench), len: number(bench) };
     let item = |place| {
-        let [len, entry, bench] = numbers_of(place).map(number);
-        Item { value: text(DESK_ITEMS_SLOT + place), len, entry, bench }
+        let [len, entry, bench, times] = numbers_of(place).map(number);
+        Item { value: text(DESK_ITEMS_SLOT + place), len, entry, bench, times }
     };
     let desk = Desk { lines: from_fn(line), items: from_fn(item), count: number(DESK_COUNT_AT) };
     Some((desk, number(DESK_USED_AT)))
@@ -36,7 +36,8 @@ pub fn put(memory: &mut Memory, desk: &Desk, used: u64) {
     }
     for (place, item) in desk.items.iter().enumerate() {
         texts[slot(DESK_ITEMS_SLOT + place)].copy_from_slice(&item.value);
-        for (at, number) in numbers_of(place).into_iter().zip([item.len, item.entry, item.bench]) {
+        let held = [item.len, item.entry, item.bench, item.times];
+        for (at, number) in numbers_of(place).into_iter().zip(held) {
             numbers[at] = number as usize;
         }
     }
@@ -49,7 +50,7 @@ fn slot(at: usize) -> Range<usize> {
     DESK_LINE * at..DESK_LINE * (at + 1)
 }
 
-/// The places of an item's length, entry number and bench.
+/// The places of an item's length, entry number and bench, and of how many entries named it.
 fn numbers_of(place: usize) -> [usize; DESK_ITEM_NUMBERS] {
     from_fn(|at| DESK_ITEMS_AT + DESK_ITEM_NUMBERS * place + at)
 }

@@ -7,6 +7,7 @@ mod questions;
 mod rows;
 mod symmetry;
 mod texts;
+mod times;
 
 use crate::boundary::{
     Checked, Filed, Graded, LineResult, Memory, NumberResult, Operator, Reported, Told,
@@ -77,11 +78,12 @@ fn change(memory: &mut Memory, change: impl FnOnce(&mut Desk)) {
 
 /// Prints one line for each fault; answers how many were found and how many not.
 pub fn run() -> (usize, usize) {
-    let lists: [&[(&str, Wrong)]; 6] = [
+    let lists: [&[(&str, Wrong)]; 7] = [
         &texts::FAULTS,
         &rows::FAULTS,
         &keys::FAULTS,
         &questions::FAULTS,
+        &times::FAULTS,
         &files::FAULTS,
         &symmetry::FAULTS,
     ];
@@ -89,6 +91,7 @@ pub fn run() -> (usize, usize) {
     let mut results: Vec<(String, bool)> =
         faults.map(|(name, wrong)| found(name, wrong, gathered)).collect();
     results.extend(questions::ORDERS.map(|(name, order)| found(name, &Reference, order)));
+    results.push(found_by_log());
     let none = compare(&Reference, &Reference, &PLAN);
     let same = none.differences() == 0 && none.missing().is_empty();
     results.push(("the reference equals itself".into(), same));
@@ -100,8 +103,17 @@ pub fn run() -> (usize, usize) {
     (passed, results.len() - passed)
 }
 
+/// A fault of both programs, which only the log's bytes tell.
+fn found_by_log() -> (String, bool) {
+    let (name, wrong) = &times::FAULTS[0];
+    told(&format!("{name}, in both"), first_difference(wrong, wrong, gathered, &PLAN))
+}
+
 fn found(name: &str, wrong: &dyn Program, gather: Gather) -> (String, bool) {
-    let difference = first_difference(wrong, &Reference, gather, &PLAN);
+    told(name, first_difference(wrong, &Reference, gather, &PLAN))
+}
+
+fn told(name: &str, difference: Option<String>) -> (String, bool) {
     let passed = difference.as_ref().is_some_and(|told| told != "a panic");
     (format!("{name}: {}", difference.unwrap_or_else(|| "not found".into())), passed)
 }

@@ -7,7 +7,9 @@ use crate::random::Random;
 use crate::session::{Session, OTHER_BENCHES};
 use crate::sheet_lists;
 use crate::sheets::Sheets;
-use reference::desk::{key, record, values, Desk, BENCHES, EMPTY, ENTER, ERASE, FRESH, LOG_LIMIT};
+use reference::desk::{
+    key, record, values, Desk, BENCHES, EMPTY, ENTER, ERASE, FRESH, LOG_LIMIT, RECORD_HEAD,
+};
 use reference::names::ITEMS;
 use reference::program::{keys, LOG};
 
@@ -95,6 +97,7 @@ impl Sequences {
     /// each with a run of its keys in turn; the values are most often those of one sheet.
     fn typed(&mut self, count: usize, log: usize, filled: bool) -> Vec<Call> {
         let (sheet, benches, mut typed) = (self.sheets.values(), self.benches(), Typed::new(log));
+        let places = self.places();
         self.session.begin();
         if filled {
             self.fill(&mut typed, &sheet);
@@ -107,7 +110,7 @@ impl Sequences {
                 4..=8 => typed.calls.push(Call::Who { item: self.item() }),
                 9 => typed.press(self.number(), self.session.any_byte()),
                 10 => typed.press(bench, self.session.any_byte()),
-                _ => self.run(&mut typed, bench, &sheet),
+                _ => self.run(&mut typed, bench, &sheet, &places),
             }
         }
         typed.calls.truncate(count);
@@ -135,11 +138,21 @@ impl Sequences {
     }
 
     /// A run of one bench's keys.
-    fn run(&mut self, typed: &mut Typed, bench: u64, sheet: &Values) {
+    fn run(&mut self, typed: &mut Typed, bench: u64, sheet: &Values, places: &[usize]) {
         for _ in 0..self.random.pick(&[1, 1, 2, 3, 8, 40]) {
             let (held, random) = (typed.held(bench), &mut self.random);
-            let byte = self.session.key(bench, |session| next_line(random, session, held, sheet));
+            let next = |session: &mut Session| next_line(random, session, held, sheet, places);
+            let byte = self.session.key(bench, next);
             typed.press(bench, byte);
+        }
+    }
+
+    /// The places of the items that are typed, each as often as it stands here: of all, or now and
+    /// then of one or two, which the benches type over each other.
+    fn places(&mut self) -> Vec<usize> {
+        match self.random.below(4) {
+            0 => (0..=self.random.below(2)).map(|_| self.random.below(ITEMS.len())).collect(),
+            _ => vec![0, 0, 1, 1, 2, 2, 3, 4, 5, 6, 7, 8, 9],
         }
     }
 
@@ -207,12 +220,19 @@ impl Sequences {
     }
 }
 
-/// A line of any kind, or most often one of the sheet's values, after what the line holds is cleared.
-fn next_line(random: &mut Random, session: &mut Session, held: usize, sheet: &Values) -> Vec<u8> {
+/// A line of any kind, or most often one of the sheet's values at these places, after what the line
+/// holds is cleared.
+fn next_line(
+    random: &mut Random,
+    session: &mut Session,
+    held: usize,
+    sheet: &Values,
+    places: &[usize],
+) -> Vec<u8> {
     if random.once_in(4) {
         return session.next_line(held);
     }
-    let place = random.pick(&[0, 0, 1, 1, 2, 2, 3, 4, 5, 6, 7, 8, 9]);
+    let place = random.pick(places);
     let cleared: &[u8] = if held > 0 { &[EMPTY] } else { &[] };
     [cleared, ITEMS[place].0.as_bytes(), b" ", &sheet[place], &[ENTER]].concat()
 }
@@ -290,4 +310,42 @@ pub fn few_calls() -> impl Iterator<Item = Sequence> {
         let calls = typed.iter().copied().chain(three.map(|at| last[at % last.len()]));
         Sequence { calls: calls.collect(), log: vec![0xee; [40, 12, 9][number % 3]] }
     })
+}
+
+/// A bench's keys of a line with Enter, whatever the line held emptied after it.
+fn entered(bench: u64, line: &str) -> impl Iterator<Item = Call> + '_ {
+    let keys = line.bytes().chain([ENTER, EMPTY]);
+    keys.map(move |byte| Call::Key { bench, byte })
+}
+
+/// One item typed by every three benches, each time after an Enter that is refused, with Who after
+/// it; in turn with room for all records, and one byte short for the third and for the second. And an
+/// item that is typed twelve times.
+pub fn rewritten() -> impl Iterator<Item = Sequence> {
+    let every = [(1, "'C H4'"), (3, "FO"), (4, "0.16")].into_iter().flat_map(|(item, value)| {
+        (0..BENCHES.pow(3)).map(move |number| {
+            let benches = [number, number / BENCHES, number / BENCHES.pow(2)];
+            let name = ITEMS[item - 1].0;
+            let refused = [name.into(), format!("{name}x 1"), format!("{name} a'")];
+            let values = [value, "?", value].into_iter().zip(benches).zip(&refused);
+            let calls = values.flat_map(|((value, bench), refused)| {
+                let (bench, line) = ((bench % BENCHES) as u64, format!("{name} {value}"));
+                let calls: Vec<Call> =
+                    entered(bench, refused).chain(entered(bench, &line)).collect();
+                calls
+                    .into_iter()
+                    .chain([item, item + 1].map(|item| Call::Who { item: item as u64 }))
+            });
+            let record = RECORD_HEAD + value.len();
+            let room = [2 * record + 7, 2 * record + 6, record + 6][number % 3];
+            Sequence { calls: calls.collect(), log: vec![0x5a; room] }
+        })
+    });
+    let calls = (0..12).flat_map(|entry| {
+        let line = format!("{} {entry}", ITEMS[3].0);
+        let keys: Vec<Call> = entered(entry % BENCHES as u64, &line).collect();
+        keys.into_iter().chain([Call::Who { item: 4 }, Call::Who { item: 5 }])
+    });
+    let twelve = Sequence { calls: calls.collect(), log: vec![0xee; LOG] };
+    every.chain([twelve])
 }

@@ -37,7 +37,7 @@ const WITHOUT_CARBON: &[&str] = &[
 const AROUND_POINT: &[&str] = &["plain", "signed", "uncertain", "both"];
 
 /// Each question with its possible answers; an answer without a name is none.
-const QUESTIONS: [(&str, &[&str]); 53] = [
+const QUESTIONS: [(&str, &[&str]); 57] = [
     ("line", &["0", "5", "6", "7"]),
     ("row 6", GRADES),
     ("row 8", GRADES),
@@ -90,8 +90,14 @@ const QUESTIONS: [(&str, &[&str]); 53] = [
     ("17 at pair", &["first", "between", "last"]),
     ("line typed of", &["0", "less", "one less", "limit", "one more", "one more, no line"]),
     ("line asked of", &["0", "80", "81", "one less", "limit", "one more", "more"]),
-    ("old build's desk", &["fresh 2", "key 2", "key 1", "Report 2", "Who 2", "file 2"]),
+    ("old build's desk", REFUSED),
+    ("of 36 numbers", REFUSED),
+    ("played times", &["0", "1", "2", "3", "4 to 9", "more"]),
+    ("entered item", &["empty", "by its bench", "by another"]),
+    ("filled, refused", &["7", "8"]),
 ];
+/// What a desk of an earlier build is answered.
+const REFUSED: &[&str] = &["fresh 2", "key 2", "key 1", "Report 2", "Who 2", "file 2"];
 /// The places of a row of an operator.
 const PLACES: &[&str] = &["1", "2", "3", "4", "5", "6", "7", "8", "9", "10", "11", "12"];
 /// The most answers of a question.
@@ -160,6 +166,10 @@ pub enum Question {
     TypedLength,
     AskedLength,
     OldBuild,
+    OldNumbers,
+    PlayedTimes,
+    Entered,
+    NotCounted,
 }
 
 const GRADED: &[(u8, u8)] = &[(0, 0), (2, 0), (3, 0), (4, 0), (2, 1)];

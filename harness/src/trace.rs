@@ -128,7 +128,9 @@ fn told(answer: &Answer) -> String {
             let rows = reported.rows.iter().map(|row| format!(" {}/{}", row.level, row.reason));
             format!("{}{}", reported.answer, rows.collect::<String>())
         }
-        Answer::Who(told) => format!("{} {} {}", told.answer, told.bench, told.entry),
+        Answer::Who(told) => {
+            format!("{} {} {} {}", told.answer, told.bench, told.entry, told.times)
+        }
     }
 }
 
@@ -143,8 +145,8 @@ fn dump(memory: &Memory) -> String {
     let filled = (1..).zip(&desk.items).filter(|(_, item)| item.len > 0);
     let items: Vec<String> = filled
         .map(|(number, item)| {
-            let (bench, entry, value) = (item.bench, item.entry, shown(&item.value, item.len));
-            format!("0:{number}:{bench}:{entry}:0:{value}")
+            let (bench, entry, times) = (item.bench, item.entry, item.times);
+            format!("0:{number}:{bench}:{entry}:{times}:{}", shown(&item.value, item.len))
         })
         .collect();
     let (count, items, log) = (desk.count, items.join(";"), digits(&memory.log));

@@ -227,7 +227,7 @@ fn told(answer: &Answer) -> u64 {
     match answer {
         Answer::Key(answer) => (*answer).into(),
         Answer::Report(told) => told.rows.iter().map(|row| u64::from(row.level)).sum(),
-        Answer::Who(told) => told.entry as u64,
+        Answer::Who(told) => (told.entry + told.times) as u64,
     }
 }
 
@@ -236,7 +236,10 @@ fn by_own_desk(state: &mut State, call: &Call) -> u64 {
     match *call {
         Call::Key { bench, byte } => state.key(bench, byte).into(),
         Call::Report => desk::report(&state.desk).1.iter().map(|row| u64::from(row.level)).sum(),
-        Call::Who { item } => desk::who(&state.desk, item).2,
+        Call::Who { item } => {
+            let told = desk::who(&state.desk, item);
+            told.entry + told.times
+        }
     }
 }
 

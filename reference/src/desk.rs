@@ -1,4 +1,5 @@
-//! The whole desk: document 01, "What the desk holds", "Keys and their refusals" and "The log".
+//! The whole desk: document 01, "What the desk holds", "Keys and their refusals" and "The log", and
+//! how often an item was rewritten, by document 02, request No. 7.
 
 use crate::line::{classify, split, ACCEPTED, BYTES, LIMIT};
 use crate::names::{item, passes, ITEMS};
@@ -55,11 +56,13 @@ pub struct Item {
     pub len: u64,
     pub entry: u64,
     pub bench: u64,
+    /// "the number of accepted entries that named it"
+    pub times: u64,
 }
 
 impl Item {
-    pub fn holding(value: &[u8], entry: u64, bench: u64) -> Self {
-        Item { value: padded(value), len: value.len() as u64, entry, bench }
+    pub fn holding(value: &[u8], entry: u64, bench: u64, times: u64) -> Self {
+        Item { value: padded(value), len: value.len() as u64, entry, bench, times }
     }
 }
 
@@ -72,7 +75,7 @@ pub struct Desk {
 }
 
 const EMPTY_LINE: Line = Line { bytes: [0; LIMIT], len: 0 };
-const EMPTY_ITEM: Item = Item { value: [0; LIMIT], len: 0, entry: 0, bench: 0 };
+const EMPTY_ITEM: Item = Item { value: [0; LIMIT], len: 0, entry: 0, bench: 0, times: 0 };
 
 /// "A fresh desk has all of this empty."
 pub const FRESH: Desk =
@@ -102,7 +105,8 @@ fn line_is_sound(line: &Line) -> bool {
 
 /// "each filled item has bench 0 to 3, an entry number from 1 to the count and a value of the form
 /// below, bytes 32 to 126, that passes its kind and makes, after its name and one space, a line of
-/// at most [200] bytes; empty items are zero"
+/// at most [200] bytes; empty items are zero"; No. 7: "On a sound desk it is 1 to the entry count where
+/// filled, else 0."
 fn item_is_sound(number: usize, item: &Item, count: u64) -> bool {
     if item.len == 0 {
         return *item == EMPTY_ITEM;
@@ -112,6 +116,7 @@ fn item_is_sound(number: usize, item: &Item, count: u64) -> bool {
     };
     item.bench < BENCHES as u64
         && (1..=count).contains(&item.entry)
+        && (1..=count).contains(&item.times)
         && printable(value)
         && passes(number, value)
         && ITEMS[number - 1].0.len() + 1 + value.len() <= LIMIT
@@ -172,7 +177,8 @@ fn enter(desk: &mut Desk, log: &mut [u8], used: &mut u64, bench: u64) -> u8 {
     free[..record.len()].copy_from_slice(&record);
     *used += record.len() as u64;
     desk.count += 1;
-    desk.items[number - 1] = Item::holding(value, desk.count, bench);
+    let item = &mut desk.items[number - 1];
+    *item = Item::holding(value, desk.count, bench, item.times + 1);
     desk.lines[bench as usize] = EMPTY_LINE;
     ACCEPTED
 }
@@ -197,17 +203,36 @@ pub fn report(desk: &Desk) -> (u8, [Row; ROWS]) {
     (ACCEPTED, rows(&values(desk)))
 }
 
-/// The question *Who*: answer, bench and entry number.
-pub fn who(desk: &Desk, item: u64) -> (u8, u8, u64) {
+/// What *Who* answers.
+#[derive(Clone, Copy, Debug, PartialEq, Eq)]
+pub struct Told {
+    pub answer: u8,
+    pub bench: u8,
+    pub entry: u64,
+    pub times: u64,
+}
+
+impl Told {
+    /// "For an empty item, and with any refusal, bench is 255 and entry 0."; No. 7: "0 for empty items
+    /// and refusals"
+    pub fn nobody(answer: u8) -> Self {
+        Told { answer, bench: NO_BENCH, entry: 0, times: 0 }
+    }
+}
+
+/// The question *Who*: bench and entry number, and how many entries named the item.
+pub fn who(desk: &Desk, item: u64) -> Told {
     if !is_sound(desk) {
-        return (NOT_SOUND, NO_BENCH, 0);
+        return Told::nobody(NOT_SOUND);
     }
     if !(1..=ITEMS.len() as u64).contains(&item) {
-        return (NO_SUCH_ITEM, NO_BENCH, 0);
+        return Told::nobody(NO_SUCH_ITEM);
     }
     match desk.items[item as usize - 1] {
-        EMPTY_ITEM => (ACCEPTED, NO_BENCH, 0),
-        Item { bench, entry, .. } => (ACCEPTED, bench as u8, entry),
+        EMPTY_ITEM => Told::nobody(ACCEPTED),
+        Item { bench, entry, times, .. } => {
+            Told { answer: ACCEPTED, bench: bench as u8, entry, times }
+        }
     }
 }
 
@@ -251,6 +276,21 @@ mod tests {
             let line = &self.desk.lines[bench];
             &line.bytes[..line.len as usize]
         }
+
+        /// How many records of the used log have this item, by walking their lengths.
+        fn records(&self, item: usize) -> u64 {
+            let (mut left, mut count) = (&self.log[..self.used as usize], 0);
+            while let [low, high, _, _, _, of, ..] = *left {
+                count += u64::from(usize::from(of) == item);
+                left = &left[usize::from(u16::from_le_bytes([low, high]))..];
+            }
+            assert_eq!(left, [0; 0]);
+            count
+        }
+    }
+
+    fn told(bench: u8, entry: u64, times: u64) -> Told {
+        Told { answer: ACCEPTED, bench, entry, times }
     }
 
     const ENTRY: &str = "_refine_ls_R_factor_gt 0.16";
@@ -264,7 +304,7 @@ mod tests {
         assert!(run.log[10..].iter().all(|&byte| byte == 0xee));
         assert_eq!(run.desk.lines[0], EMPTY_LINE);
         assert_eq!(run.desk.count, 1);
-        assert_eq!(who(&run.desk, 4), (0, 0, 1));
+        assert_eq!(who(&run.desk, 4), told(0, 1, 1));
     }
 
     #[test]
@@ -375,8 +415,8 @@ mod tests {
         assert_eq!(run.enter(0, "_chemical_formula_sum 'C10 H20'"), ACCEPTED);
         assert_eq!(run.enter(3, "_CHEMICAL_formula_SUM    ?"), ACCEPTED);
         assert_eq!(run.enter(2, "_refine_ls_shift/su_max -0.06(1)"), ACCEPTED);
-        assert_eq!(who(&run.desk, 1), (0, 3, 2));
-        assert_eq!(who(&run.desk, 8), (0, 2, 3));
+        assert_eq!(who(&run.desk, 1), told(3, 2, 2));
+        assert_eq!(who(&run.desk, 8), told(2, 3, 1));
         assert_eq!(run.desk.items[0].value, padded(b"?"));
         let records =
             [record(0, 1, b"'C10 H20'"), record(3, 1, b"?"), record(2, 8, b"-0.06(1)")].concat();
@@ -388,10 +428,65 @@ mod tests {
     #[test]
     fn who_answers() {
         for item in [0, 11, 12, 256, 257, u64::MAX] {
-            assert_eq!(who(&FRESH, item), (NO_SUCH_ITEM, NO_BENCH, 0));
+            assert_eq!(who(&FRESH, item), Told::nobody(NO_SUCH_ITEM));
         }
         for item in 1..=10 {
-            assert_eq!(who(&FRESH, item), (ACCEPTED, NO_BENCH, 0));
+            assert_eq!(who(&FRESH, item), Told::nobody(ACCEPTED));
+        }
+        assert_eq!(Told::nobody(7), Told { answer: 7, bench: 255, entry: 0, times: 0 });
+    }
+
+    #[test]
+    fn each_item_counts_the_entries_that_named_it() {
+        let lines = [
+            "_chemical_formula_sum 'C10 H20'",
+            "_refine_ls_R_factor_gt ?",
+            "_chemical_formula_sum  .",
+            "_REFINE_LS_R_FACTOR_GT 0.16",
+            "_chemical_formula_sum 'C10 H20'",
+            "_refine_ls_R_factor_gt 0.16",
+            "_refine_ls_R_factor_gt 0.16",
+        ];
+        let mut run = Run::new(200);
+        for (entry, line) in (1..).zip(lines) {
+            let bench = entry % BENCHES as u64;
+            let number = item(line.split(' ').next().expect("a name").as_bytes());
+            let number = number.expect("a known name");
+            let before = who(&run.desk, number as u64).times;
+            assert_eq!(run.enter(bench, line), ACCEPTED);
+            assert_eq!(who(&run.desk, number as u64), told(bench as u8, entry, before + 1));
+            for number in 1..=ITEMS.len() {
+                assert_eq!(run.desk.items[number - 1].times, run.records(number), "{line}");
+            }
+        }
+        assert_eq!([1, 4, 2].map(|item| who(&run.desk, item).times), [3, 4, 0]);
+    }
+
+    #[test]
+    fn a_refused_enter_is_not_counted() {
+        let mut run = Run::new(20);
+        assert_eq!(run.enter(0, ENTRY), ACCEPTED);
+        for (line, answer) in [
+            ("_refine_ls_R_factor_gt", 5),
+            ("_refine_ls_R_factor_g 0.16", 6),
+            ("_refine_ls_R_factor_gt x", 7),
+            ("_refine_ls_R_factor_gt 0.16000", LOG_FULL),
+        ] {
+            assert_eq!(run.enter(0, line), answer);
+            assert_eq!(who(&run.desk, 4), told(0, 1, 1));
+            assert_eq!(run.key(0, EMPTY), ACCEPTED);
+        }
+        assert_eq!(run.enter(2, ENTRY), ACCEPTED);
+        assert_eq!((who(&run.desk, 4), run.records(4)), (told(2, 2, 2), 2));
+    }
+
+    #[test]
+    fn how_often_is_1_to_the_count() {
+        for (times, sound) in [(0, false), (1, true), (2, true), (3, true), (4, false)] {
+            let mut desk = Desk { count: 3, ..FRESH };
+            desk.items[3] = Item::holding(b"0.16", 1, 2, times);
+            let expected = if sound { told(2, 1, times) } else { Told::nobody(NOT_SOUND) };
+            assert_eq!((is_sound(&desk), who(&desk, 4)), (sound, expected), "{times}");
         }
     }
 
@@ -401,7 +496,7 @@ mod tests {
         assert_eq!(run.enter(1, ENTRY), ACCEPTED);
         run.text(0, "_a");
         let grown = run.desk;
-        let changes: [fn(&mut Desk); 27] = [
+        let changes: [fn(&mut Desk); 31] = [
             |desk| desk.lines[0].len = 201,
             |desk| desk.lines[0].len = 200,
             |desk| desk.lines[0].len = 3,
@@ -414,6 +509,9 @@ mod tests {
             |desk| desk.items[3].bench = 1 + 256,
             |desk| desk.items[3].entry = 0,
             |desk| desk.items[3].entry = 2,
+            |desk| desk.items[3].times = 0,
+            |desk| desk.items[3].times = 2,
+            |desk| desk.items[3].times = 1 + (1 << 32),
             |desk| desk.items[3].len = 5,
             |desk| desk.items[3].len = 200,
             |desk| desk.items[3].len = 201,
@@ -425,6 +523,7 @@ mod tests {
             |desk| desk.items[2] = desk.items[3],
             |desk| desk.items[9].bench = 1,
             |desk| desk.items[9].entry = 1,
+            |desk| desk.items[9].times = 1,
             |desk| desk.items[9].value[0] = b'?',
             |desk| desk.items[9].len = 1,
             |desk| desk.count = 0,
@@ -438,7 +537,8 @@ mod tests {
             }
             assert_eq!(run.key(4, ENTER), NO_SUCH_BENCH, "change {place}");
             assert_eq!(report(&run.desk), (NOT_SOUND, [Row::default(); ROWS]), "change {place}");
-            assert_eq!(who(&run.desk, 11), (NOT_SOUND, NO_BENCH, 0), "change {place}");
+            assert_eq!(who(&run.desk, 4), Told::nobody(NOT_SOUND), "change {place}");
+            assert_eq!(who(&run.desk, 11), Told::nobody(NOT_SOUND), "change {place}");
         }
     }
 
@@ -450,7 +550,7 @@ mod tests {
             let number = item(name.as_bytes()).expect("a known name");
             let filled = |length: usize| {
                 let mut desk = Desk { count: 1, ..FRESH };
-                desk.items[number - 1] = Item::holding("x".repeat(length).as_bytes(), 1, 3);
+                desk.items[number - 1] = Item::holding("x".repeat(length).as_bytes(), 1, 3, 1);
                 desk
             };
             assert!(is_sound(&filled(length)));

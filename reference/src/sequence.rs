@@ -37,7 +37,7 @@ pub fn gathered(calls: &[Call]) -> Vec<usize> {
 #[cfg(test)]
 mod tests {
     use super::*;
-    use crate::desk::{self, record, report, who, Desk, ERASE, FRESH, NO_BENCH};
+    use crate::desk::{self, record, report, who, Desk, Told, ERASE, FRESH};
     use crate::line::ACCEPTED;
     use crate::rows::{Row, ROWS};
 
@@ -46,7 +46,7 @@ mod tests {
     enum Answer {
         Key { answer: u8 },
         Report { answer: u8, rows: [Row; ROWS] },
-        Who { answer: u8, bench: u8, entry: u64 },
+        Who(Told),
     }
 
     /// Each call's answer, and the desk and the used number at the end.
@@ -75,10 +75,7 @@ mod tests {
                 let (answer, rows) = report(desk);
                 Answer::Report { answer, rows }
             }
-            Call::Who { item } => {
-                let (answer, bench, entry) = who(desk, item);
-                Answer::Who { answer, bench, entry }
-            }
+            Call::Who { item } => Answer::Who(who(desk, item)),
         }
     }
 
@@ -212,23 +209,11 @@ mod tests {
         calls.extend([key(5, ENTER), Call::Report]);
         let log = [0x5a; 30];
         let played = same_when_gathered(&calls, &log);
-        let who = |answer, bench, entry| Answer::Who { answer, bench, entry };
-        let asked: Vec<Answer> = played
-            .answers
-            .iter()
-            .copied()
-            .filter(|got| matches!(got, Answer::Who { .. }))
-            .collect();
-        assert_eq!(
-            asked,
-            [
-                who(0, NO_BENCH, 0),
-                who(0, 0, 1),
-                who(0, 1, 2),
-                who(0, NO_BENCH, 0),
-                who(6, NO_BENCH, 0)
-            ]
-        );
+        let by = |bench, entry| Answer::Who(Told { answer: ACCEPTED, bench, entry, times: 1 });
+        let nobody = |answer| Answer::Who(Told::nobody(answer));
+        let asked: Vec<Answer> =
+            played.answers.iter().copied().filter(|got| matches!(got, Answer::Who(_))).collect();
+        assert_eq!(asked, [nobody(0), by(0, 1), by(1, 2), nobody(0), nobody(6)]);
         let end = &played.answers[played.answers.len() - 2..];
         let rows = report(&played.desk).1;
         assert_eq!(end, [Answer::Key { answer: 1 }, Answer::Report { answer: ACCEPTED, rows }]);
@@ -247,6 +232,6 @@ mod tests {
         assert_eq!((desk, used), (FRESH, 0));
         assert_eq!(answers[..2], [2, 1].map(|answer| Answer::Key { answer }));
         assert!(matches!(answers[2], Answer::Report { answer: ACCEPTED, .. }));
-        assert_eq!(answers[3], Answer::Who { answer: ACCEPTED, bench: NO_BENCH, entry: 0 });
+        assert_eq!(answers[3], Answer::Who(Told::nobody(ACCEPTED)));
     }
 }

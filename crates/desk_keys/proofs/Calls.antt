@@ -1,6 +1,6 @@
 -- What a key call on lent memory leaves, by its tests.
 -- Assumes nothing.
-use mathlib.Core.Path.{_≡_, refl, sym, _∙_}
+use mathlib.Core.Path.{_≡_, refl, sym, ap, _∙_}
 use mathlib.Core.Bool.{true, false, _&&_, false≢true}
 use mathlib.Core.List.{List}
 use Prim.Native.Nat.{ℕ, _≤_, _<_}
@@ -8,8 +8,9 @@ use borrow.Author.Tests.{lt-ltb, le-ltb}
 use lib.ListN.{length}
 use Rattle.text.proofs.Bools.{and-both}
 use Rattle.desk_state.specs.Desks.{benchCount}
-use Rattle.desk_memory.specs.Memory.{isDesk, deskOf, usedOf}
-use Rattle.desk_memory.proofs.Desks.{desk-sized, lines-long}
+use Rattle.desk_state.specs.declared.sheet.Sheet.{Sheet}
+use Rattle.desk_memory.specs.Memory.{isDesk, textsOf, numbersOf, deskOf, usedOf}
+use Rattle.desk_memory.proofs.Desks.{desk-sized, lines-long, sheet-of, items-long}
 use Rattle.desk_soundness.specs.Sound.{soundDesk}
 use Rattle.desk_soundness.specs.SoundLog.{soundLog}
 use Rattle.desk_soundness.specs.SoundMemory.{soundMemory, soundForKeys}
@@ -45,7 +46,9 @@ module _ (t n log : List ℕ) (bench byte : ℕ) where
       with-log = and-both (soundMemory t n) (soundLog (deskOf t n) (length log) (usedOf n)) e .1
 
       pub lent-ready : Lent t n log bench
-      lent-ready = record { sized = desk-sized t n is-desk; ready = sound-ready (deskOf t n) (usedOf n) log bench (lines-long t n) h is-sound with-log }
+      lent-ready =
+          let ten = ap (λ (s : Sheet). length (s .items)) (sheet-of t n) ∙ items-long (textsOf t 0) (numbersOf n 0) in
+          record { sized = desk-sized t n is-desk; ready = sound-ready (deskOf t n) (usedOf n) log bench (lines-long t n) ten h is-sound with-log }
 
       pub stepped : {a : ℕ} {t′ n′ log′ : List ℕ} → length t′ ≡ length t → length n′ ≡ length n → leaves a t′ n′ log′ ≡ keyStep (deskOf t n) (usedOf n) log bench byte
           → KeyLent t n log bench byte a t′ n′ log′

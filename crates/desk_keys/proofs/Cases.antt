@@ -8,15 +8,17 @@ use borrow.Author.Tests.{lt-ltb, le-ltb, le-leb, lt-leb}
 use lib.ListN.{getD, set}
 use lib.Seq.{getD-set-other}
 use Rattle.line_items.specs.Typed.{lineMost}
+use Rattle.line_items.specs.Items.{itemCount}
 use Rattle.desk_state.specs.Lines.{emptyLine, erased}
 use Rattle.desk_state.specs.Desks.{benchCount, lineAt, withLine}
+use Rattle.desk_state.specs.Sheets.{itemAt}
 use Rattle.desk_state.specs.declared.line.Line.{Line}
-use Rattle.desk_soundness.specs.SoundLog.{logMost}
+use Rattle.desk_state.specs.declared.sheet.Item.{Item}
+use Rattle.desk_state.specs.declared.sheet.Sheet.{Sheet}
 use Rattle.desk_keys.specs.Key.{edited, appendKey}
-use Rattle.desk_memory.specs.Memory.{usedAt, countAt, Sized, deskOf, usedOf}
-use Rattle.desk_memory.proofs.Desks.{line-at}
-use Rattle.desk_soundness.proofs.Memories.{count-in}
-use Rattle.desk_keys.specs.Lent.{leaves, Lent}
+use Rattle.desk_memory.specs.Memory.{usedAt, Sized, textsOf, numbersOf, deskOf, usedOf}
+use Rattle.desk_memory.proofs.Desks.{line-at, sheet-of, item-at, count-of}
+use Rattle.desk_keys.specs.Lent.{leaves, Few, Lent}
 use Rattle.desk_keys.proofs.Stores.{appended-in, erased-in, same-line}
 
 module _ (t n : List ℕ) (s : Sized t n) (k : ℕ) (h : k < benchCount) (log : List ℕ) where
@@ -60,8 +62,12 @@ module _ (t n : List ℕ) (s : Sized t n) (k : ℕ) (h : k < benchCount) (log : 
 pub line-short : (t n log : List ℕ) (k : ℕ) → Lent t n log k → getD n k 0 ≤ lineMost
 line-short t n log k l = let r = l .ready in let e = ap (λ (x : Line). x .len) (line-at t n k (r .bench-in)) in omega (arith, r .short)
 
-pub few-entries : (t n log : List ℕ) (k : ℕ) → Lent t n log k → getD n (benchCount + countAt) 0 < logMost
-few-entries t n log k l = let r = l .ready in let e = count-in t n in omega (arith, r .few)
+pub few-entries : (t n log : List ℕ) (k : ℕ) → Lent t n log k → (item : ℕ) → 1 ≤ item → item ≤ itemCount → Few (numbersOf n 0) (item - 1)
+few-entries t n log k l item one most =
+    let r = l .ready in
+    let c = ap (λ (s : Sheet). s .count) (sheet-of t n) ∙ count-of (textsOf t 0) (numbersOf n 0) in
+    let i = ap (λ (s : Sheet). itemAt s item .times) (sheet-of t n) ∙ ap (λ (x : Item). x .times) (item-at (textsOf t 0) (numbersOf n 0) (item - 1) (omega arith)) in
+    record { count = omega (arith, r .few, c); times = omega (arith, r .named item one most, i) }
 
 -- memory with that used number
 pub leaves-desk : (a : ℕ) (t n log : List ℕ) {u : ℕ} → usedOf n ≡ u → leaves a t n log ≡ record { answer = a; desk = deskOf t n; used = u; log = log }

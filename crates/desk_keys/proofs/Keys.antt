@@ -12,15 +12,18 @@ use lib.ListN.{length, take, drop, take-append-drop}
 use lib.Seq.{drop-drop}
 use Rattle.text.proofs.Bools.{and-both}
 use Rattle.line_items.specs.Typed.{lineMost}
+use Rattle.line_items.specs.Items.{itemCount}
 use Rattle.desk_log.specs.Record.{recordLength, recordMost, recordOf, withRecord, hasRoom, writtenOf, freeAfter}
 use Rattle.desk_log.specs.declared.Written.the-variants.{Bytes, NoRoom}
 use Rattle.desk_log.proofs.Records.{free-written, tail-back, tail-lent, wrote-none, wrote-bytes, room-left}
+use Rattle.desk_state.specs.Sheets.{itemAt}
 use Rattle.desk_state.specs.Desks.{benchCount, noLine, lineAt}
 use Rattle.desk_soundness.specs.Sound.{soundLine, soundLines, soundDesk}
 use Rattle.desk_soundness.specs.SoundLog.{logMost, soundLog}
 use Rattle.desk_state.specs.declared.line.Line.{Line}
 use Rattle.desk_state.specs.declared.desk.Desk.{Desk}
 use Rattle.desk_soundness.proofs.Everys.{every-each}
+use Rattle.desk_soundness.proofs.Wording.{sound-is, times-most}
 use Rattle.desk_keys.specs.Key.{After, refused, entered, stored}
 use Rattle.desk_keys.specs.Ready.{Ready}
 
@@ -58,10 +61,10 @@ module _ (d : Desk) (used : ℕ) (log : List ℕ) (bench item : ℕ) (v last : L
       simp (room true yes) (cc)
 
 -- what a desk that is sound for key calls gives to the step of a key
-pub sound-ready : (d : Desk) (used : ℕ) (log : List ℕ) (bench : ℕ) → length (d .lines) ≡ benchCount → bench < benchCount
+pub sound-ready : (d : Desk) (used : ℕ) (log : List ℕ) (bench : ℕ) → length (d .lines) ≡ benchCount → length (d .sheet .items) ≡ itemCount → bench < benchCount
     → soundDesk d ≡ true → soundLog d (length log) used ≡ true → Ready d used log bench
 unfolding soundDesk soundLines soundLine soundLog
-sound-ready d used log bench four b s t =
+sound-ready d used log bench four ten b s t =
     let lines = and-both (soundLines d) _ s .0 in
     let line = every-each (λ (k : ℕ) (l : Line). soundLine l) (d .lines) 0 bench noLine lines (omega arith) in
     let t1 = and-both (leb (length log) logMost) (leb used (length log) && leb (6 * d .sheet .count) used) t in
@@ -73,5 +76,8 @@ sound-ready d used log bench four b s t =
       bench-in = b;
       short = leb-true (lineAt d bench .len) lineMost (and-both (leb (lineAt d bench .len) lineMost) _ line .0);
       few = omega arith;
+      named = λ item one last.
+          let i = sound-is d s .items item one (omega arith) in
+          omega (arith, times-most (d .sheet .count) item (itemAt (d .sheet) item) i);
       room = within;
     }

@@ -11,7 +11,7 @@ use Rattle.line_reader.specs.declared.line.Class.{Class}
 use Rattle.line_reader.specs.declared.line.Class.the-variants as class
 use Rattle.desk_log.specs.Record.{recordLength, recordFits, withRecord}
 use Rattle.desk_state.specs.Lines.{typed, emptyLine, appended, erased}
-use Rattle.desk_state.specs.Sheets.{filled}
+use Rattle.desk_state.specs.Sheets.{filled, itemAt}
 use Rattle.desk_state.specs.Desks.{benchCount, lineAt, withLine}
 use Rattle.desk_soundness.specs.Sound.{soundDesk}
 use Rattle.desk_soundness.specs.SoundLog.{soundLog}
@@ -34,9 +34,9 @@ refused a d used log = record { answer = a; desk = d; used = used; log = log }
 abbrev pub edited : Desk → ℕ → List ℕ → ℕ → Line → After
 edited d used log bench l = record { answer = 0; desk = withLine d bench l; used = used; log = log }
 
--- the sheet with one entry more: its number "is the count after that entry was accepted"
+-- the sheet with one entry more: its number "is the count after that entry was accepted"; document 02, No. 7: one entry more has named its item
 abbrev pub withEntry : Sheet → ℕ → ℕ → List ℕ → Sheet
-withEntry s bench item v = record { items = set (s .items) (item - 1) (filled bench (s .count + 1) v); count = s .count + 1 }
+withEntry s bench item v = record { items = set (s .items) (item - 1) (filled bench (s .count + 1) (itemAt s item .times + 1) v); count = s .count + 1 }
 
 -- "An accepted Enter stores the value .. and empties that line"
 abbrev pub entered : Desk → ℕ → ℕ → List ℕ → Desk

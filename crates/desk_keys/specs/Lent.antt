@@ -10,6 +10,7 @@ use Rattle.line_items.specs.Items.{itemCount}
 use Rattle.desk_state.specs.Desks.{benchCount}
 use Rattle.desk_state.specs.declared.desk.Desk.{Desk}
 use Rattle.desk_memory.specs.Memory.{itemNumbers, countAt, Sized, isDesk, slot, deskOf, usedOf}
+use Rattle.desk_soundness.specs.SoundLog.{logMost}
 use Rattle.desk_keys.specs.Key.{After, keyOf, withEntry}
 use Rattle.desk_keys.specs.Ready.{Ready}
 
@@ -27,9 +28,14 @@ pub record KeyLent (t n log : List ℕ) (bench byte a : ℕ) (t′ n′ log′ :
 abbrev pub entryDesk : Desk → ℕ → ℕ → List ℕ → Desk
 entryDesk d bench item v = record { lines = d .lines; sheet = withEntry (d .sheet) bench item v }
 
+-- of a sheet's block, what an entry at place k adds 1 to has room for it: the count, and how often the item was named
+pub record Few (n : List ℕ) (k : ℕ) : Type 0 where
+  pub count : getD n countAt 0 < logMost
+  pub times : getD (slot itemNumbers n k) 3 0 < logMost
+
 -- the numbers of a sheet's block with one entry more, at place k
 pub record EntryNumbers (n : List ℕ) (k len bench : ℕ) (n′ : List ℕ) : Type 0 where
-  pub here : slot itemNumbers n′ k ≡ len ∷ (getD n countAt 0 + 1) ∷ bench ∷ []
+  pub here : slot itemNumbers n′ k ≡ len ∷ (getD n countAt 0 + 1) ∷ bench ∷ (getD (slot itemNumbers n k) 3 0 + 1) ∷ []
   pub others : (j : ℕ) → j < itemCount → (j ≡ k → ⊥) → slot itemNumbers n′ j ≡ slot itemNumbers n j
   pub count : getD n′ countAt 0 ≡ getD n countAt 0 + 1
 

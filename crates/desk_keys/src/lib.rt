@@ -1,6 +1,6 @@
 // The key call of the desk: one key of a bench, on a desk in memory that the caller lends.
 ghost use mathlib.Core.Path.{_≡_};
-ghost use Prim.Native.Nat.{ℕ, _+_, _*_, _<_, _≤_};
+ghost use Prim.Native.Nat.{ℕ, _+_, _*_, _-_, _<_, _≤_};
 ghost use mathlib.Core.List.{List};
 ghost use lib.ListN.{length, getD, take, drop};
 ghost use Rattle.line_items.specs.Typed.{lineMost};
@@ -8,10 +8,9 @@ ghost use Rattle.line_items.specs.Items.{itemCount};
 ghost use Rattle.desk_answers.specs.Number.{answerNumber};
 ghost use Rattle.desk_state.specs.Lines.{typed, emptyLine, erased};
 ghost use Rattle.desk_state.specs.Desks.{benchCount, lineAt, withLine};
-ghost use Rattle.desk_memory.specs.Memory.{countAt, sheetNumbers, sheetsAt, Sized, deskOf, usedOf};
-ghost use Rattle.desk_soundness.specs.SoundLog.{logMost};
+ghost use Rattle.desk_memory.specs.Memory.{sheetNumbers, sheetsAt, Sized, numbersOf, deskOf, usedOf};
 ghost use Rattle.desk_keys.specs.Key.{edited, entered, stored, enter, appendKey, keyStep};
-ghost use Rattle.desk_keys.specs.Lent.{leaves, KeyLent, entryDesk, EntryNumbers, Lent};
+ghost use Rattle.desk_keys.specs.Lent.{leaves, KeyLent, entryDesk, Few, EntryNumbers, Lent};
 use desk_answers::Answer;
 use desk_log::Written;
 use desk_memory::BENCH_AT;
@@ -19,6 +18,7 @@ use desk_memory::COUNT_AT;
 use desk_memory::ENTRY_AT;
 use desk_memory::ITEM_NUMBERS;
 use desk_memory::LEN_AT;
+use desk_memory::TIMES_AT;
 use desk_memory::USED_AT;
 use desk_state::desk::BENCH_COUNT;
 use line_items::LINE_MOST;
@@ -66,14 +66,16 @@ fn clear_line(texts: &mut [u8], numbers: &mut [usize], bench: usize)
 
 // The numbers of one entry more, in a sheet's block.
 fn put_numbers(numbers: &mut [usize], k: usize, len: usize, bench: usize)
-    requires { ⌜ (k < itemCount) × (getD (now numbers) countAt 0 < logMost) × (length (now numbers) ≡ sheetNumbers) ⌝ }
+    requires { ⌜ (k < itemCount) × Few (now numbers) k × (length (now numbers) ≡ sheetNumbers) ⌝ }
     ensures { λ _. ⌜ EntryNumbers (now (numbers .entry)) k len bench (now (numbers .exit)) ⌝ }
 {
     let entry = numbers[COUNT_AT] + 1;
     let at = k * ITEM_NUMBERS;
+    let times = numbers[at + TIMES_AT] + 1;
     numbers[at + LEN_AT] = len;
     numbers[at + ENTRY_AT] = entry;
     numbers[at + BENCH_AT] = bench;
+    numbers[at + TIMES_AT] = times;
     numbers[COUNT_AT] = entry;
 }
 
@@ -86,7 +88,7 @@ fn put_entry(
     from: usize,
     len: usize,
 )
-    requires { ⌜ (1 ≤ item) × (item ≤ itemCount) × (len ≤ lineMost) × (from + len ≤ sheetsAt) × (getD (now numbers) (benchCount + countAt) 0 < logMost) × Sized (now texts) (now numbers) ⌝ }
+    requires { ⌜ (1 ≤ item) × (item ≤ itemCount) × (len ≤ lineMost) × (from + len ≤ sheetsAt) × Few (numbersOf (now numbers) 0) (item - 1) × Sized (now texts) (now numbers) ⌝ }
     ensures { λ _. ⌜ (deskOf (now (texts .exit)) (now (numbers .exit)) ≡ entryDesk (deskOf (now (texts .entry)) (now (numbers .entry))) bench item (take len (drop from (now (texts .entry))))) × (usedOf (now (numbers .exit)) ≡ usedOf (now (numbers .entry))) ⌝ }
 {
     let k = item - 1;
@@ -106,7 +108,7 @@ fn enter_desk(
     len: usize,
     used: usize,
 )
-    requires { ⌜ (bench < benchCount) × (1 ≤ item) × (item ≤ itemCount) × (len ≤ lineMost) × (from + len ≤ sheetsAt) × (getD (now numbers) (benchCount + countAt) 0 < logMost) × Sized (now texts) (now numbers) ⌝ }
+    requires { ⌜ (bench < benchCount) × (1 ≤ item) × (item ≤ itemCount) × (len ≤ lineMost) × (from + len ≤ sheetsAt) × Few (numbersOf (now numbers) 0) (item - 1) × Sized (now texts) (now numbers) ⌝ }
     ensures { λ _. ⌜ (deskOf (now (texts .exit)) (now (numbers .exit)) ≡ entered (deskOf (now (texts .entry)) (now (numbers .entry))) bench item (take len (drop from (now (texts .entry))))) × (usedOf (now (numbers .exit)) ≡ used) ⌝ }
 {
     numbers[USED_AT] = used;

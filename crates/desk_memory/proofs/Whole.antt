@@ -27,7 +27,8 @@ item-number : (v m v′ m′ : List ℕ) → itemFrom v m ≡ itemFrom v′ m′
 item-number v m v′ m′ e zero h = ap (λ (x : Item). x .len) e
 item-number v m v′ m′ e (suc zero) h = ap (λ (x : Item). x .entry) e
 item-number v m v′ m′ e (suc (suc zero)) h = ap (λ (x : Item). x .bench) e
-item-number v m v′ m′ e (suc (suc (suc i))) h = absurd (omega arith)
+item-number v m v′ m′ e (suc (suc (suc zero))) h = ap (λ (x : Item). x .times) e
+item-number v m v′ m′ e (suc (suc (suc (suc i)))) h = absurd (omega arith)
 
 -- of a sheet's blocks that hold the same sheet
 module _ (t n t′ n′ : List ℕ) (e : sheetFrom t n ≡ sheetFrom t′ n′) where

@@ -16,9 +16,9 @@ use Rattle.desk_state.specs.declared.sheet.Item.{Item}
 use Rattle.desk_state.specs.declared.sheet.Sheet.{Sheet}
 use Rattle.desk_state.specs.declared.desk.Desk.{Desk}
 
--- an item's numbers: the length of its value, its entry number and its bench
+-- an item's numbers: the length of its value, its entry number, its bench, and how many accepted entries named it
 abbrev pub itemNumbers : ℕ
-itemNumbers = 3
+itemNumbers = 4
 
 -- a sheet's block: the count stands after the items' numbers
 abbrev pub countAt : ℕ
@@ -67,7 +67,7 @@ abbrev pub lineFrom : List ℕ → ℕ → Line
 lineFrom bytes len = record { bytes = bytes; len = len }
 
 abbrev pub itemFrom : List ℕ → List ℕ → Item
-itemFrom value n = record { value = value; len = getD n 0 0; entry = getD n 1 0; bench = getD n 2 0 }
+itemFrom value n = record { value = value; len = getD n 0 0; entry = getD n 1 0; bench = getD n 2 0; times = getD n 3 0 }
 
 -- the line of a bench
 abbrev pub lineIn : List ℕ → List ℕ → ℕ → Line

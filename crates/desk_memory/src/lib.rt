@@ -12,14 +12,16 @@ use desk_state::desk::BENCH_COUNT;
 use line_items::ITEM_COUNT;
 use line_items::LINE_MOST;
 
-// An item's numbers: the length of its value, its entry number and its bench.
+// An item's numbers: the length of its value, its entry number, its bench, and how many accepted entries named it.
 pub const LEN_AT: usize = 0;
 
 pub const ENTRY_AT: usize = LEN_AT + 1;
 
 pub const BENCH_AT: usize = ENTRY_AT + 1;
 
-pub const ITEM_NUMBERS: usize = BENCH_AT + 1;
+pub const TIMES_AT: usize = BENCH_AT + 1;
+
+pub const ITEM_NUMBERS: usize = TIMES_AT + 1;
 
 // A sheet's block: the count stands after the items' numbers.
 pub const COUNT_AT: usize = ITEM_COUNT * ITEM_NUMBERS;

@@ -14,23 +14,24 @@ use Rattle.desk_state.specs.declared.desk.Desk.{Desk}
 use Rattle.desk_answers.specs.Number.{askedNumber}
 use Rattle.desk_questions.specs.declared.who.Told.{Told}
 
--- what Who tells: the number of its answer, the item's last entry and its bench
+-- what Who tells: the number of its answer, the item's last entry and its bench, and how many accepted entries named it
 pub record Who : Type 0 where
   pub answer : ℕ
   pub entry : ℕ
   pub bench : ℕ
+  pub times : ℕ
 
 -- the function's result
 abbrev pub whoIn : Told → Who
-whoIn t = record { answer = askedNumber (t .answer); entry = t .entry; bench = t .bench }
+whoIn t = record { answer = askedNumber (t .answer); entry = t .entry; bench = t .bench; times = t .times }
 
--- "For an empty item, and with any refusal, bench is 255 and entry 0"
+-- "For an empty item, and with any refusal, bench is 255 and entry 0"; document 02, No. 7: "Who tells it too, 0 for empty items and refusals"
 abbrev pub nobody : ℕ → Who
-nobody a = record { answer = a; entry = 0; bench = noBench }
+nobody a = record { answer = a; entry = 0; bench = noBench; times = 0 }
 
--- "bench and entry number" of an item
+-- "bench and entry number" of an item, and "the number of accepted entries that named it"
 unfoldable pub toldOf : Item → Who
-toldOf i = cond (eqb (i .len) 0) (nobody 0) (record { answer = 0; entry = i .entry; bench = i .bench })
+toldOf i = cond (eqb (i .len) 0) (nobody 0) (record { answer = 0; entry = i .entry; bench = i .bench; times = i .times })
 
 -- "Who takes an item number: 2 if unsound, else 6 if not 1 to 10; else 0 with bench and entry number"
 unfoldable pub whoOf : Desk → ℕ → Who

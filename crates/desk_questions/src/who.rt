@@ -11,17 +11,19 @@ use desk_answers::Asked;
 use desk_memory::BENCH_AT;
 use desk_memory::ENTRY_AT;
 use desk_memory::LEN_AT;
+use desk_memory::TIMES_AT;
 use desk_memory::USED_AT;
 use desk_memory::number_at;
 use desk_state::desk::BENCH_COUNT;
 use desk_state::desk::NO_BENCH;
 use line_items::ITEM_COUNT;
 
-// The answer, the number of the item's last entry, and its bench.
+// The answer, the number of the item's last entry, its bench, and how many accepted entries named the item.
 pub struct Told {
     pub answer: Asked,
     pub entry: usize,
     pub bench: u8,
+    pub times: usize,
 }
 
 fn tell_nobody(answer: Asked) -> Told
@@ -31,6 +33,7 @@ fn tell_nobody(answer: Asked) -> Told
         answer,
         entry: 0,
         bench: NO_BENCH,
+        times: 0,
     }
 }
 
@@ -44,10 +47,12 @@ fn tell(numbers: &[usize], k: usize) -> Told
     }
     let entry = number_at(numbers, k, ENTRY_AT);
     let bench = number_at(numbers, k, BENCH_AT);
+    let times = number_at(numbers, k, TIMES_AT);
     Told {
         answer: Asked::Answered,
         entry,
         bench: bench as u8,
+        times,
     }
 }
 

@@ -25,7 +25,7 @@ use Rattle.desk_state.specs.Desks.{benchCount, noLine, lineAt}
 use Rattle.desk_state.specs.declared.line.Line.{Line}
 use Rattle.desk_state.specs.declared.sheet.Item.{Item}
 use Rattle.desk_state.specs.declared.desk.Desk.{Desk}
-use Rattle.desk_soundness.specs.Sound.{every, zeros, soundLine, soundEmpty, soundFilled, soundItem, soundLines, soundSheet, soundDesk}
+use Rattle.desk_soundness.specs.Sound.{every, zeros, soundLine, soundEmpty, counted, soundFilled, soundItem, soundLines, soundSheet, soundDesk}
 use Rattle.desk_soundness.specs.Wording.{AreZero, SoundLine, EmptyItem, FilledItem, SoundItem, Sound}
 use Rattle.desk_soundness.proofs.Everys.{every-each}
 
@@ -55,11 +55,26 @@ unfolding soundEmpty
 empty-is i z e =
     let bench = and-both (eqb (i .bench) 0) _ e in
     let entry = and-both (eqb (i .entry) 0) _ (bench .1) in
-    record { len = z; bench = eqb-true (i .bench) 0 (bench .0); entry = eqb-true (i .entry) 0 (entry .0); value = all-same 0 (i .value) (entry .1) }
+    let times = and-both (eqb (i .times) 0) _ (entry .1) in
+    record {
+      len = z;
+      bench = eqb-true (i .bench) 0 (bench .0);
+      entry = eqb-true (i .entry) 0 (entry .0);
+      times = eqb-true (i .times) 0 (times .0);
+      value = all-same 0 (i .value) (times .1);
+    }
 
 empty-taken : (i : Item) → EmptyItem i → soundEmpty i ≡ true
 unfolding soundEmpty
-empty-taken i h = simp (eq-eqb (i .bench) 0 (h .bench), eq-eqb (i .entry) 0 (h .entry), zeros-taken (i .value) (h .value))
+empty-taken i h = simp (eq-eqb (i .bench) 0 (h .bench), eq-eqb (i .entry) 0 (h .entry), eq-eqb (i .times) 0 (h .times), zeros-taken (i .value) (h .value))
+
+pub counted-is : (count n : ℕ) → counted count n ≡ true → (1 ≤ n) × (n ≤ count)
+unfolding counted
+counted-is count n e = let b = and-both (leb 1 n) (leb n count) e in (leb-true 1 n (b .0), leb-true n count (b .1))
+
+pub counted-taken : (count n : ℕ) → 1 ≤ n → n ≤ count → counted count n ≡ true
+unfolding counted
+counted-taken count n f l = simp (le-leb 1 n f, le-leb n count l)
 
 module _ (count k : ℕ) (i : Item) where
   filled-is : (i .len ≡ 0 → ⊥) → soundFilled count k i ≡ true → FilledItem count k i
@@ -67,9 +82,9 @@ module _ (count k : ℕ) (i : Item) where
   filled-is some e =
       let v = valueIn i in
       let bench = and-both (ltb (i .bench) benchCount) _ e in
-      let first = and-both (leb 1 (i .entry)) _ (bench .1) in
-      let last = and-both (leb (i .entry) count) _ (first .1) in
-      let most = and-both (leb (i .len) lineMost) _ (last .1) in
+      let entry = and-both (counted count (i .entry)) _ (bench .1) in
+      let times = and-both (counted count (i .times)) _ (entry .1) in
+      let most = and-both (leb (i .len) lineMost) _ (times .1) in
       let fit = and-both (fits k v) _ (most .1) in
       let kind = and-both (passes k v) _ (fit .0) in
       let form = and-both (isValue v) _ (kind .1) in
@@ -79,8 +94,10 @@ module _ (count k : ℕ) (i : Item) where
         some = omega (arith, some);
         most = leb-true (i .len) lineMost (most .0);
         bench = ltb-true (i .bench) benchCount (bench .0);
-        first = leb-true 1 (i .entry) (first .0);
-        last = leb-true (i .entry) count (last .0);
+        first = counted-is count (i .entry) (entry .0) .0;
+        last = counted-is count (i .entry) (entry .0) .1;
+        once = counted-is count (i .times) (times .0) .0;
+        often = counted-is count (i .times) (times .0) .1;
         form = value-is v (form .0);
         bytes = bytes .0;
         kind = passes-is k v (kind .0);
@@ -94,8 +111,8 @@ module _ (count k : ℕ) (i : Item) where
       let v = valueIn i in
       simp (
         lt-ltb (i .bench) benchCount (h .bench),
-        le-leb 1 (i .entry) (h .first),
-        le-leb (i .entry) count (h .last),
+        counted-taken count (i .entry) (h .first) (h .last),
+        counted-taken count (i .times) (h .once) (h .often),
         le-leb (i .len) lineMost (h .most),
         passes-taken k v one (h .known) (h .kind),
         value-taken v (h .form),
@@ -119,6 +136,11 @@ module _ (count n : ℕ) (i : Item) where
   item-taken (SoundItem.filled h) =
       let m = h .some in
       simp (ne-eqb (i .len) 0 (λ e. omega arith), filled-taken count (n + 1) i (omega arith) h)
+
+-- a sound item was named at most as often as there are entries
+pub times-most : (count k : ℕ) (i : Item) → SoundItem count k i → i .times ≤ count
+times-most count k i (SoundItem.empty h) = omega (arith, h .times)
+times-most count k i (SoundItem.filled h) = h .often
 
 -- ---- a desk
 

@@ -29,14 +29,19 @@ zeros bs = all (between 0 0) bs
 unfoldable pub soundLine : Line → Bool
 soundLine l = leb (l .len) lineMost && (all isTyped (typed l) && zeros (drop (l .len) (l .bytes)))
 
--- "empty items are zero"
+-- "empty items are zero"; document 02, No. 7: "else 0"
 unfoldable pub soundEmpty : Item → Bool
-soundEmpty i = eqb (i .bench) 0 && (eqb (i .entry) 0 && zeros (i .value))
+soundEmpty i = eqb (i .bench) 0 && (eqb (i .entry) 0 && (eqb (i .times) 0 && zeros (i .value)))
 
--- "each filled item has bench 0 to 3, an entry number from 1 to the count and a value .. " that its item, k, can hold; "unused bytes are zero"
+-- "from 1 to the count"
+unfoldable pub counted : ℕ → ℕ → Bool
+counted count n = leb 1 n && leb n count
+
+-- "each filled item has bench 0 to 3, an entry number from 1 to the count and a value .. " that its item, k, can hold; "unused bytes are zero"; document 02,
+-- No. 7: how often it was named "is 1 to the entry count where filled"
 unfoldable pub soundFilled : ℕ → ℕ → Item → Bool
 soundFilled count k i =
-    ltb (i .bench) benchCount && (leb 1 (i .entry) && (leb (i .entry) count
+    ltb (i .bench) benchCount && (counted count (i .entry) && (counted count (i .times)
     && (leb (i .len) lineMost && (fits k (valueIn i) && zeros (drop (i .len) (i .value))))))
 
 -- an item at place k, counted from 0, of a sheet with that count; it is filled when it has a value

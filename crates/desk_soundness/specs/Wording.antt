@@ -28,15 +28,17 @@ pub record SoundLine (l : Line) : Type 0 where
   pub bytes : all isTyped (typed l) ≡ true
   pub unused : AreZero (drop (l .len) (l .bytes))
 
--- "empty items are zero"
+-- "empty items are zero"; document 02, No. 7: "On a sound desk it is 1 to the entry count where filled, else 0"
 pub record EmptyItem (i : Item) : Type 0 where
   pub len : i .len ≡ 0
   pub bench : i .bench ≡ 0
   pub entry : i .entry ≡ 0
+  pub times : i .times ≡ 0
   pub value : AreZero (i .value)
 
 -- "each filled item has bench 0 to 3, an entry number from 1 to the count and a value of the form below, bytes 32 to 126, that passes its kind and makes, after
--- its name and one space, a line of at most 80 (200) bytes .. unused bytes are zero"; the item is k, one of the ten
+-- its name and one space, a line of at most 80 (200) bytes .. unused bytes are zero"; the item is k, one of the ten. Document 02, No. 7: the number of accepted
+-- entries that named it "is 1 to the entry count where filled"
 pub record FilledItem (count k : ℕ) (i : Item) : Type 0 where
   pub known : k ≤ itemCount
   pub some : 1 ≤ i .len
@@ -44,6 +46,8 @@ pub record FilledItem (count k : ℕ) (i : Item) : Type 0 where
   pub bench : i .bench < benchCount
   pub first : 1 ≤ i .entry
   pub last : i .entry ≤ count
+  pub once : 1 ≤ i .times
+  pub often : i .times ≤ count
   pub form : ValueText (valueIn i)
   pub bytes : all isTyped (valueIn i) ≡ true
   pub kind : Passes k (valueIn i)

@@ -6,7 +6,7 @@ ghost use Rattle.line_items.specs.Typed.{lineMost};
 ghost use Rattle.line_items.specs.Items.{itemCount};
 ghost use Rattle.desk_state.specs.declared.desk.Desk.{Desk};
 ghost use Rattle.desk_memory.specs.Memory.{itemNumbers, sheetTexts, sheetNumbers, Sized, lineFrom, itemFrom, sheetFrom, deskOf};
-ghost use Rattle.desk_soundness.specs.Sound.{soundLine, soundEmpty, soundFilled, soundItem, soundLines, soundSheet};
+ghost use Rattle.desk_soundness.specs.Sound.{soundLine, soundEmpty, counted, soundFilled, soundItem, soundLines, soundSheet};
 ghost use Rattle.desk_soundness.specs.SoundLog.{soundLog};
 ghost use Rattle.desk_soundness.specs.SoundMemory.{soundMemory, soundForKeys};
 use desk_memory::BENCH_AT;
@@ -16,6 +16,7 @@ use desk_memory::ITEM_NUMBERS;
 use desk_memory::LEN_AT;
 use desk_memory::SHEETS_AT;
 use desk_memory::TEXTS;
+use desk_memory::TIMES_AT;
 use desk_memory::USED_AT;
 use desk_state::desk::BENCH_COUNT;
 use line_items::FIRST_TYPED;
@@ -52,7 +53,20 @@ fn is_sound_empty(value: &[u8], numbers: &[usize]) -> bool
     if numbers[ENTRY_AT] != 0 {
         return false;
     }
+    if numbers[TIMES_AT] != 0 {
+        return false;
+    }
     text::all_between(value, 0, 0)
+}
+
+// Whether n is from 1 to the count.
+fn is_counted(count: usize, n: usize) -> bool
+    ensures { λ r. ⌜ r ≡ counted count n ⌝ }
+{
+    if n < 1 {
+        return false;
+    }
+    n <= count
 }
 
 // Whether the filled item k of a sheet with that count is sound.
@@ -63,11 +77,10 @@ fn is_sound_filled(count: usize, k: usize, value: &[u8], numbers: &[usize]) -> b
     if BENCH_COUNT <= numbers[BENCH_AT] {
         return false;
     }
-    let entry = numbers[ENTRY_AT];
-    if entry < 1 {
+    if !is_counted(count, numbers[ENTRY_AT]) {
         return false;
     }
-    if count < entry {
+    if !is_counted(count, numbers[TIMES_AT]) {
         return false;
     }
     let n = numbers[LEN_AT];

@@ -9,17 +9,18 @@ use Rattle.desk_state.specs.Lines.{padded}
 use Rattle.desk_state.specs.declared.sheet.Item.{Item}
 use Rattle.desk_state.specs.declared.sheet.Sheet.{Sheet}
 
--- "Each filled item holds its value as typed (quotes included), the bench, and the entry number"
-abbrev pub filled : ℕ → ℕ → List ℕ → Item
-filled bench entry value = record { value = padded value; len = length value; entry = entry; bench = bench }
+-- "Each filled item holds its value as typed (quotes included), the bench, and the entry number"; document 02, No. 7: "Each filled item shall hold the number
+-- of accepted entries that named it"
+abbrev pub filled : ℕ → ℕ → ℕ → List ℕ → Item
+filled bench entry times value = record { value = padded value; len = length value; entry = entry; bench = bench; times = times }
 
 -- "empty items are zero"
 abbrev pub emptyItem : Item
-emptyItem = record { value = replicate lineMost 0; len = 0; entry = 0; bench = 0 }
+emptyItem = record { value = replicate lineMost 0; len = 0; entry = 0; bench = 0; times = 0 }
 
 -- what the logic reads past the end of an array of items
 abbrev pub noItem : Item
-noItem = record { value = []; len = 0; entry = 0; bench = 0 }
+noItem = record { value = []; len = 0; entry = 0; bench = 0; times = 0 }
 
 -- the item of that number, counted from 1
 abbrev pub itemAt : Sheet → ℕ → Item

@@ -31,7 +31,7 @@ reportTold r = reportedAs (r .answer) (r .rows)
 
 -- what Who told
 abbrev pub whoTold : DeskTold → Who
-whoTold r = record { answer = r .answer; entry = r .entry; bench = r .bench }
+whoTold r = record { answer = r .answer; entry = r .entry; bench = r .bench; times = r .times }
 
 -- what the writer told, and what the lent bytes then hold
 abbrev pub filingTold : DeskFiled → List ℕ → Filing

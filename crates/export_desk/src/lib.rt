@@ -14,10 +14,11 @@ pub struct DeskReported {
     pub rows: Rows,
 }
 
-// The item's last entry, the number of the answer, and the item's bench.
+// The item's last entry, how many accepted entries named it, the number of the answer, and the item's bench.
 #[repr(C)]
 pub struct DeskTold {
     pub entry: usize,
+    pub times: usize,
     pub answer: u8,
     pub bench: u8,
 }
@@ -78,6 +79,7 @@ pub extern "C" fn desk_who(texts: &[u8], numbers: &[usize], item: u64) -> DeskTo
     let answer = told.answer;
     DeskTold {
         entry: told.entry,
+        times: told.times,
         answer: desk_answers::asked_number(answer),
         bench: told.bench,
     }

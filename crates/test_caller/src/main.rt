@@ -108,6 +108,7 @@ fn who(texts: &[u8], numbers: &[usize], item: u64) {
     put_byte(told.answer);
     put_byte(told.bench);
     put_wide(told.entry as u64);
+    put_wide(told.times as u64);
 }
 
 // Reads a call, makes it and writes its answer.

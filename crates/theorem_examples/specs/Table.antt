@@ -39,7 +39,7 @@ pub data Asked : Type 0 where
 -- a sheet that holds these values
 unfoldable pub sheetWith : List Typed → List Item
 sheetWith [] = emptySheet .items
-sheetWith (t ∷ ts) = set (sheetWith ts) (t .item - 1) (filled 0 1 (bytes (t .value)))
+sheetWith (t ∷ ts) = set (sheetWith ts) (t .item - 1) (filled 0 1 1 (bytes (t .value)))
 
 abbrev pub summed : Weight → List ℕ
 summed (Thousandths n) = n ∷ []

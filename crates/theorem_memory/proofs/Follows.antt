@@ -1,12 +1,14 @@
 -- Every run on memory of zeros is the sequence of calls that demand 3 speaks of.
 -- Assumes nothing.
-use mathlib.Core.Path.{_≡_, refl, sym, ap, _∙_}
+use mathlib.Core.Path.{_≡_, refl, sym, ap, _∙_, subst⁻¹}
 use mathlib.Core.Bool.{true}
 use mathlib.Core.List.{List, _∷_}
 use Prim.Native.Nat.{ℕ}
+use lib.ListN.{take}
 use Rattle.rows.specs.Rows.{noRows}
 use Rattle.rows.specs.declared.Rows.{Rows}
 use Rattle.rows_sheet.specs.Sheet.{rowsOf}
+use Rattle.desk_state.specs.Sheets.{itemAt}
 use Rattle.desk_state.specs.declared.desk.Desk.{Desk}
 use Rattle.desk_memory.specs.Memory.{isDesk, deskOf}
 use Rattle.desk_memory.proofs.Desks.{zeros-fresh, still-desk}
@@ -14,6 +16,7 @@ use Rattle.desk_keys.specs.Key.{After}
 use Rattle.desk_questions.specs.Report.{Report, reportLent, reportedOf}
 use Rattle.desk_questions.specs.Who.{Who, whoLent, whoOf}
 use Rattle.theorem_sequences.specs.Calls.{Call, Reply, keyed, reported, told, State, stateOf, freshState, left, step, answered, final}
+use Rattle.theorem_sequences.specs.Logged.{recordsNaming}
 use Rattle.theorem_sequences.proofs.Desk.{desk-sequences, report-is}
 use Rattle.theorem_memory.specs.Runs.{Memory, stateIn, freshMemory, Lends, a-key, a-report, a-who, Run, done, call, MemorySequence}
 
@@ -64,8 +67,11 @@ pub memory-demand-3 : (log : List ℕ) {cs : List Call} {ps : List (Call × Repl
 memory-demand-3 log {cs} run =
     let r = run-is (zeros-fresh .0) run in
     let e = fresh-held log in
+    let state = sym (r .1) ∙ ap (λ (s : State). final (step rowsOf noRows) s cs) e in
+    let all = desk-sequences log cs in
     record {
       answers = sym (r .0) ∙ ap (λ (s : State). answered (step rowsOf noRows) s cs) e;
-      state = sym (r .1) ∙ ap (λ (s : State). final (step rowsOf noRows) s cs) e;
-      sequences = desk-sequences log cs;
+      state = state;
+      sequences = all;
+      logged = λ k some known. subst⁻¹ (λ (s : State). itemAt (s .desk .sheet) k .times ≡ recordsNaming k (take (s .used) (s .log))) state (all .logged k some known);
     }

@@ -3,8 +3,10 @@
 use mathlib.Core.Path.{_≡_}
 use mathlib.Core.Bool.{true}
 use mathlib.Core.List.{List, [], _∷_}
-use Prim.Native.Nat.{ℕ}
-use lib.ListN.{length, replicate}
+use Prim.Native.Nat.{ℕ, _≤_}
+use lib.ListN.{length, take, replicate}
+use Rattle.line_items.specs.Items.{itemCount}
+use Rattle.desk_state.specs.Sheets.{itemAt}
 use Rattle.rows.specs.Rows.{noRows}
 use Rattle.rows.specs.declared.Rows.{Rows}
 use Rattle.rows_sheet.specs.Sheet.{rowsOf}
@@ -16,6 +18,7 @@ use Rattle.desk_questions.specs.Who.{Who, whoLent}
 use Rattle.desk_session.specs.Lent.{held}
 use Rattle.theorem_sequences.specs.Calls.{Call, key, ask, report, who, Reply, keyed, reported, told, State}
 use Rattle.theorem_sequences.specs.Gather.{gatherAnswered}
+use Rattle.theorem_sequences.specs.Logged.{recordsNaming}
 use Rattle.theorem_sequences.specs.Sequences.{Sequences, deskAnswers, stateAfter}
 
 -- what is lent to a call
@@ -50,6 +53,8 @@ pub record MemorySequence (log : List ℕ) (cs : List Call) (ps : List (Call × 
   pub answers : ps ≡ deskAnswers rowsOf noRows log cs
   pub state : stateIn m ≡ stateAfter rowsOf noRows log cs
   pub sequences : Sequences rowsOf noRows log cs
+  -- document 02, No. 7: "on any desk grown from a fresh one, its records in the used log", of the bytes that are lent
+  pub logged : (k : ℕ) → 1 ≤ k → k ≤ itemCount → itemAt (stateIn m .desk .sheet) k .times ≡ recordsNaming k (take (stateIn m .used) (m .log))
 
 -- demand 3 in bytes: calls run from zeros and a log, and the same calls gathered, from zeros and an equal log; every call gets the answer that it got before, and
 -- all bytes of desk and log are equal

@@ -18,7 +18,7 @@ use Rattle.line_kinds.specs.Kinds.{fits}
 use Rattle.desk_log.proofs.Records.{record-length}
 use Rattle.desk_state.specs.Sheets.{emptyItem, noItem, valueIn}
 use Rattle.desk_state.specs.Desks.{benchCount}
-use Rattle.desk_soundness.specs.Sound.{every, zeros, soundFilled, soundItem}
+use Rattle.desk_soundness.specs.Sound.{every, zeros, counted, soundFilled, soundItem}
 use Rattle.desk_soundness.specs.SoundLog.{logMost}
 use Rattle.desk_state.specs.declared.sheet.Item.{Item}
 use Rattle.theorem_sequences.specs.Calls.{key, typing}
@@ -44,8 +44,8 @@ filled-fits n j i e h =
     let rest = zeros (drop (i .len) (i .value)) in
     let g : soundFilled n (j + 1) i ≡ true = rw e at h in
     let g1 = and-both (ltb (i .bench) benchCount) _ g .1 in
-    let g2 = and-both (leb 1 (i .entry)) _ g1 .1 in
-    let g3 = and-both (leb (i .entry) n) _ g2 .1 in
+    let g2 = and-both (counted n (i .entry)) _ g1 .1 in
+    let g3 = and-both (counted n (i .times)) _ g2 .1 in
     let g4 = and-both (leb (i .len) lineMost) _ g3 .1 in
     ap (λ (k : ℕ). fits k (valueIn i)) (sym (add-one j)) ∙ and-both (fits (j + 1) (valueIn i)) rest g4 .0
 

@@ -1,7 +1,7 @@
 -- Laws of tests and of what they choose.
 -- Assumes nothing.
 use mathlib.Core.Path.{_≡_, refl}
-use mathlib.Core.Bool.{Bool, true, false, cond, _&&_}
+use mathlib.Core.Bool.{Bool, true, false, cond, _&&_, false≢true}
 
 -- two choices by one test agree, seen through f and g, when their sides do
 pub cond-sim : {A B C : Type 0} (f : A → C) (g : B → C) (b : Bool) (x y : A) (x′ y′ : B)
@@ -24,10 +24,11 @@ cond-false b x y e = rw e
 pub and-true-true : (a b : Bool) → a ≡ true → b ≡ true → (a && b) ≡ true
 and-true-true a b p q = rw (p, q)
 
--- a weaker test under a conjunction, and under a choice
-pub and-map : (a b c : Bool) → (b ≡ true → c ≡ true) → (a && b) ≡ true → (a && c) ≡ true
-and-map true b c f h = f h
-and-map false b c f h = h
+-- weaker tests under a conjunction, and under a choice
+pub and-map : (a b c d : Bool) → (a ≡ true → b ≡ true) → (c ≡ true → d ≡ true) → (a && c) ≡ true → (b && d) ≡ true
+and-map true true c d f g h = g h
+and-map true false c d f g h = absurd (false≢true (f refl))
+and-map false b c d f g h = absurd (false≢true h)
 
 pub cond-map : (t x y z : Bool) → (y ≡ true → z ≡ true) → cond t x y ≡ true → cond t x z ≡ true
 cond-map true x y z f h = h

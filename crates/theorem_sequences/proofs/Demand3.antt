@@ -2,7 +2,7 @@
 -- Assumes nothing.
 use mathlib.Core.Path.{_≡_, refl, sym, ap, _∙_, subst⁻¹}
 use mathlib.Core.List.{List, [], _∷_, _++_}
-use Prim.Native.Nat.{ℕ}
+use Prim.Native.Nat.{ℕ, _≤_}
 use native.Mathlib.Omega.{arith}
 use lib.ListN.{length, take, drop, getD-replicate}
 use lib.Seq.{take-append-seam, drop-append-seam}
@@ -18,14 +18,16 @@ use Rattle.desk_state.specs.declared.sheet.Item.{Item}
 use Rattle.desk_state.specs.declared.sheet.Sheet.{Sheet}
 use Rattle.theorem_sequences.specs.Calls.{Call, key, ask, report, who, keyed, State, step}
 use Rattle.theorem_sequences.specs.Gather.{own, gather, gatherAnswered}
-use Rattle.theorem_sequences.specs.Work.{Work, noWork, recordsOf, keyAnswer, workStep}
-use Rattle.theorem_sequences.specs.Sequences.{Entered, enteredFirst, enteredBy, textOf, answerAfter, workAfter, Sequences}
+use Rattle.theorem_sequences.specs.Work.{Work, noWork, recordsOf, timesOf, keyAnswer, workStep}
+use Rattle.theorem_sequences.specs.Logged.{recordsNaming}
+use Rattle.theorem_sequences.specs.Sequences.{Entered, enteredFirst, enteredBy, textOf, stateAfter, answerAfter, workAfter, Sequences}
 use Rattle.theorem_sequences.proofs.GatherChecks.{gather-regroups}
 use Rattle.theorem_sequences.proofs.OneRegrouping.{one-regrouping}
 use Rattle.theorem_sequences.proofs.Gathering.{final-append, gathered}
 use Rattle.theorem_sequences.proofs.Simulation.{Followed, followed}
 use Rattle.theorem_sequences.proofs.WorkLaws.{work-laws}
 use Rattle.theorem_sequences.proofs.OwnKeys.{own-keys}
+use Rattle.theorem_sequences.proofs.Times.{held-times, records-naming}
 use Rattle.theorem_sequences.proofs.DeskFollows.{workState, Good, log-length, log-sound, item-at, desk-follows}
 use Rattle.theorem_sequences.proofs.WorkAnswers.{work-table}
 use Rattle.theorem_sequences.proofs.Enters.{enter-entered, adds-none, entered-benches}
@@ -42,6 +44,7 @@ fresh-good log = record {
   };
   sound = refl;
   room = omega arith;
+  fitting = tt;
 }
 
 module _ {Rows : Type 0} (rowsOf : Sheet → Rows) (noRows : Rows) (log : List ℕ) where
@@ -75,6 +78,9 @@ module _ {Rows : Type 0} (rowsOf : Sheet → Rows) (noRows : Rows) (log : List �
       let moved = gathered (workStep rowsOf (length log)) (λ w. Unit {0}) (work-laws rowsOf (length log)) cs noWork tt in
       let es = workAfter rowsOf noRows log cs .entries in
       let r = recordsOf es in
+      let bytes = ap (λ (s : State). take (s .used) (s .log)) end ∙ take-append-seam r (drop (length r) log) in
+      let held : (k : ℕ) → 1 ≤ k → k ≤ itemCount → itemAt (stateAfter rowsOf noRows log cs .desk .sheet) k .times ≡ timesOf es k = λ k some known.
+      ap (λ (s : State). itemAt (s .desk .sheet) k .times) end ∙ ap (λ (i : Item). i .times) (item-at es k some known) ∙ held-times es k in
       record {
         regrouped = gather-regroups cs;
         one-regrouping = λ ds r. one-regrouping cs ds (gather cs) r (gather-regroups cs);
@@ -92,12 +98,14 @@ module _ {Rows : Type 0} (rowsOf : Sheet → Rows) (noRows : Rows) (log : List �
         entry = λ before after bench e h. next-entry before bench h;
         no-entry = λ before after c e h. next-no-entry before c h;
         entries = entered-benches rowsOf (length log) cs noWork ∙ ap (enteredBy []) (sym (follows cs .answers));
-        used-log = ap (λ (s : State). take (s .used) (s .log)) end ∙ take-append-seam r (drop (length r) log);
+        used-log = bytes;
         used = ap (λ (s : State). s .used) end;
         rest-of-log = subst⁻¹ (λ (s : State). drop (s .used) (s .log) ≡ drop (s .used) log) end (drop-append-seam r (drop (length r) log));
         log-length = ap (λ (s : State). length (s .log)) end ∙ log-length log es (follows cs .kept .room);
         count = ap (λ (s : State). s .desk .sheet .count) end;
         items = λ k some known. ap (λ (s : State). itemAt (s .desk .sheet) k) end ∙ item-at es k some known;
+        times = held;
+        logged = λ k some known. held k some known ∙ sym (records-naming k es (follows cs .kept .fitting)) ∙ ap (recordsNaming k) (sym bytes);
         all-items = ap (λ (s : State). length (s .desk .sheet .items)) end;
         sound = ap (λ (s : State). soundDesk (s .desk)) end ∙ follows cs .kept .sound;
         log-sound = ap (λ (s : State). soundLog (s .desk) (length (s .log)) (s .used)) end ∙ log-sound log (workAfter rowsOf noRows log cs) (follows cs .kept);

@@ -7,9 +7,9 @@ use Prim.Native.Nat.{ℕ, zero, suc, _+_, _-_, _*_, _≤_, _<_}
 use native.Mathlib.Nat.{add-zero, add-suc, suc-add}
 use native.Mathlib.Numerals.{add-one}
 use native.Mathlib.Omega.{arith}
-use borrow.Author.Tests.{ltb-true, leb-true, le-leb, ne-eqb, eq-eqb, eqb-true}
+use borrow.Author.Tests.{ltb-true, ltb-false, leb-true, le-leb, ne-eqb, eq-eqb, eqb-true}
 use lib.Dec.{ltb, leb, eqb}
-use lib.ListN.{length, getD, take, drop, set, length-append, length-drop, length-map}
+use lib.ListN.{length, getD, take, drop, set, length-append, length-drop, length-map, List·getD-eq-default}
 use lib.Seq.{take-at, drop-append-add, drop-drop}
 use Rattle.text.specs.Run.{between}
 use Rattle.text.proofs.Bools.{and-both, not-holds}
@@ -35,13 +35,14 @@ use Rattle.desk_keys.specs.Key.{After, refused, edited, entered, stored, entere
 use Rattle.desk_questions.specs.Who.{Who, nobody, toldOf, whoOf}
 use Rattle.theorem_sequences.specs.Calls.{report, who, Call, key, ask, keyed, reported, told, State, left, reportOf, step}
 use Rattle.theorem_refusals.specs.KeyNumber.{enterNumber, byteNumber}
-use Rattle.theorem_sequences.specs.Work.{Entry, Work, typedBy, recordsOf, lastOf, itemsFrom, sheetOf, tableAnswer, accepts, editedText, keyAnswer, keyWork, lastTold, whoLast, workStep}
+use Rattle.theorem_sequences.specs.Work.{Entry, Work, typedBy, recordsOf, timesOf, lastOf, itemsFrom, sheetOf, tableAnswer, accepts, editedText, withEntryOf, entriesAfter, keyAnswer, keyWork, lastTold, whoLast, workStep}
 use Rattle.theorem_sequences.specs.Shaped.{Shaped}
-use Rattle.theorem_sequences.proofs.Choices.{cond-sim, cond-true}
+use Rattle.theorem_sequences.proofs.Choices.{cond-sim, cond-true, cond-keeps}
 use Rattle.theorem_sequences.proofs.Lists.{map-set, getD-map}
 use Rattle.theorem_sequences.proofs.LineLaws.{sound-canonical, typed-lineOf, appended-lineOf, erased-lineOf, shorter}
 use Rattle.theorem_sequences.proofs.Kept.{Keeps, key-keeps, line-sound}
 use Rattle.theorem_sequences.proofs.WorkLaws.{refused-work}
+use Rattle.theorem_sequences.proofs.Times.{held-times, six, Fitting}
 use Rattle.theorem_sequences.proofs.Simulation.{Follows}
 
 -- ---- the desk, the used number and the log of a work
@@ -64,14 +65,10 @@ pub record Good (log : List ℕ) (w : Work) : Type 0 where
   pub shape : Shaped (deskOf w)
   pub sound : soundDesk (deskOf w) ≡ true
   pub room : length (recordsOf (w .entries)) ≤ length log
+  pub fitting : Fitting (w .entries)
 
 pub log-length : (log : List ℕ) (es : List Entry) → length (recordsOf es) ≤ length log → length (logOf log es) ≡ length log
 log-length log es h = simp (length-append, length-drop) (omega arith)
-
--- six bytes at least for each entry
-six : (es : List Entry) → 6 * length es ≤ length (recordsOf es)
-six [] = omega arith
-six (e ∷ es) = let h = six es in simp length-append (omega arith)
 
 -- of the log's part of soundness only its length is in question
 pub log-sound : (log : List ℕ) (w : Work) → Good log w
@@ -105,13 +102,16 @@ items-at (suc n) k (suc j) f h = items-at n (suc k) j f (omega arith) ∙ ap f (
 pub item-at : (es : List Entry) (k : ℕ) → 1 ≤ k → k ≤ itemCount → itemAt (sheetOf es) k ≡ lastOf es k
 item-at es k some known = items-at itemCount 1 (k - 1) (lastOf es) (omega arith) ∙ ap (lastOf es) (let e : 1 + (k - 1) ≡ k = omega arith in e)
 
-sheet-more : (e : Entry) (es : List Entry) → 1 ≤ e .item
-    → set (sheetOf es .items) (e .item - 1) (filled (e .bench) (length es + 1) (e .value)) ≡ sheetOf (e ∷ es) .items
-sheet-more e es some =
+sheet-more : (e : Entry) (es : List Entry) → 1 ≤ e .item → e .item ≤ itemCount
+    → set (sheetOf es .items) (e .item - 1) (filled (e .bench) (length es + 1) (itemAt (sheetOf es) (e .item) .times + 1) (e .value)) ≡ sheetOf (e ∷ es) .items
+sheet-more e es some known =
+    let held : itemAt (sheetOf es) (e .item) .times ≡ timesOf es (e .item) = ap (λ (i : Item). i .times) (item-at es (e .item) some known) ∙ held-times es (e .item) in
+    let new : ℕ → Item = λ n. filled (e .bench) (length es + 1) n (e .value) in
     let at : 1 + (e .item - 1) ≡ e .item = omega arith in
     let other : (i : ℕ) → (i ≡ 1 + (e .item - 1) → ⊥) → lastOf es i ≡ lastOf (e ∷ es) i = λ i n. rw (ne-eqb i (e .item) (λ p. n (omega arith))) in
-    let here : filled (e .bench) (length es + 1) (e .value) ≡ lastOf (e ∷ es) (1 + (e .item - 1)) = rw (at, eq-eqb (e .item) (e .item) refl, add-one) in
-    ap (λ x. set (sheetOf es .items) (e .item - 1) x) here ∙ items-set itemCount 1 (e .item - 1) (lastOf es) (lastOf (e ∷ es)) other
+    let here : new (timesOf es (e .item) + 1) ≡ lastOf (e ∷ es) (1 + (e .item - 1))
+    = rw (at, eq-eqb (e .item) (e .item) refl, add-one (length es), add-one (timesOf es (e .item))) in
+    ap (λ m. set (sheetOf es .items) (e .item - 1) (new (m + 1))) held ∙ ap (λ x. set (sheetOf es .items) (e .item - 1) x) here ∙ items-set itemCount 1 (e .item - 1) (lastOf es) (lastOf (e ∷ es)) other
 
 -- ---- equal parts make equal wholes
 
@@ -130,6 +130,18 @@ log-more r v log n e =
     rw (take-at r (drop (length r) log) (length r) refl, drop-append-add r (drop (length r) log) n, drop-drop, length-append, e, append-assoc)
 
 -- ---- a key
+
+-- a line is no longer than a record's length can tell
+fitting-more : (a bench byte : ℕ) (t : List ℕ) (es : List Entry) → length t ≤ lineMost → Fitting es → Fitting (entriesAfter a bench byte t es)
+fitting-more a bench byte t es short f =
+    cond-keeps Fitting (accepts a) (cond (eqb byte 10) (withEntryOf (classOf t) bench t es) es) es
+    (λ p. cond-keeps Fitting (eqb byte 10) (withEntryOf (classOf t) bench t es) es (λ q. of-class (classOf t)) (λ q. f)) (λ p. f)
+  where
+    of-class : (c : Class) → Fitting (withEntryOf c bench t es)
+    of-class class.BadForm = f
+    of-class class.UnknownName = f
+    of-class class.WrongKind = f
+    of-class (class.Entry item start) = (simp length-drop (omega arith), f)
 
 -- Enter's byte is none of the others
 enter-byte : (byte : ℕ) (t : List ℕ) → eqb byte 10 ≡ true → editedText byte t ≡ []
@@ -189,7 +201,7 @@ module _ (log : List ℕ) (w : Work) (bench byte : ℕ) where
         ap (λ (k : ℕ). cond (leb n (k - U)) next (refused 8 D U L)) (log-length log es room)
         ∙ cond-sim (λ (x : After). x) afterOf (leb n (length log - U)) next (refused 8 D U L) 0 8
         (λ p. rw (enter-key, enter-byte byte t enter-key, e) (after-eq
-        (desk-eq (map-set lineOf (w .typed) bench []) (sheet-more new es (entry-is t item start e .some)) (add-one (length es)))
+        (desk-eq (map-set lineOf (w .typed) bench []) (sheet-more new es (entry-is t item start e .some) (entry-is t item start e .known)) (add-one (length es)))
         (ap (λ (k : ℕ). U + k) (sym m) ∙ sym (length-append (recordsOf es) (recordOf bench item v)))
         (log-more (recordsOf es) (recordOf bench item v) log n m)))
         (λ p. refused-follows 8 refl)
@@ -247,20 +259,36 @@ module _ (log : List ℕ) (w : Work) (bench byte : ℕ) where
         ∙ cond-sim same afterOf (leb (length log) logMost) _ _ _ _ (λ n. step-follows (ltb-true bench benchCount b)) (λ n. refused-follows 2 refl))
         (λ b. refused-follows 1 refl)
 
+    -- nothing is typed by a bench that is not there
+    typed-short : length t ≤ lineMost
+    typed-short = go (ltb bench benchCount) refl
+      where
+        go : (x : Bool) → ltb bench benchCount ≡ x → length t ≤ lineMost
+        go true e = short (ltb-true bench benchCount e)
+        go false e =
+            let h = ltb-false bench benchCount e in
+            let z : t ≡ [] = List·getD-eq-default (w .typed) [] (omega (arith, g .shape .lines, length-map (w .typed) lineOf)) in
+            rw z (omega arith)
+
     key-good : Good log (keyWork (keyAnswer (length log) w bench byte) bench byte w)
     key-good =
         let k : Keeps D U L (afterOf (keyAnswer (length log) w bench byte)) = rw key-follows at (key-keeps D U L (g .shape) (g .sound) bench byte) in
         let w′ = keyWork (keyAnswer (length log) w bench byte) bench byte w in
         let r = recordsOf (w′ .entries) in
         let n = k .log-length ∙ log-length log (w .entries) (g .room) in
-        record { shape = k .shape; sound = k .sound; room = omega (arith, length-append r (drop (length r) log), n) }
+        record {
+          shape = k .shape;
+          sound = k .sound;
+          room = omega (arith, length-append r (drop (length r) log), n);
+          fitting = fitting-more (keyAnswer (length log) w bench byte) bench byte t (w .entries) typed-short (g .fitting);
+        }
 
 -- ---- questions
 
 -- a sound item that an entry filled is not empty
-filled-some : (n k bench number : ℕ) (v : List ℕ) → soundItem n k (filled bench (suc number) v) ≡ true → eqb (length v) 0 ≡ false
+filled-some : (n k bench number times : ℕ) (v : List ℕ) → soundItem n k (filled bench (suc number) times v) ≡ true → eqb (length v) 0 ≡ false
 unfolding soundItem soundEmpty
-filled-some n k bench number v h =
+filled-some n k bench number times v h =
     not-holds (eqb (length v) 0) (λ e.
     let q = rw e at h in
     let z = and-both (eqb (suc number) 0) _ (and-both (eqb bench 0) _ q .1) .0 in
@@ -274,7 +302,7 @@ told-last (e ∷ es) n k item h = go (told-last es n k item) (eqb item (e .item)
   where
     go : (soundItem n k (lastOf es item) ≡ true → toldOf (lastOf es item) ≡ lastTold es item) → (x : Bool) → eqb item (e .item) ≡ x
         → soundItem n k (lastOf (e ∷ es) item) ≡ true → toldOf (lastOf (e ∷ es) item) ≡ lastTold (e ∷ es) item
-    go ih true x s = let y = filled-some n k (e .bench) (length es) (e .value) (rw x at s) in rw (x, y)
+    go ih true x s = let y = filled-some n k (e .bench) (length es) (suc (timesOf es item)) (e .value) (rw x at s) in rw (x, y)
     go ih false x s = rw x (ih (rw x at s))
 
 who-follows : (log : List ℕ) (w : Work) → Good log w → (item : ℕ) → whoOf (deskOf w) item ≡ whoLast (w .entries) item

@@ -18,9 +18,10 @@ use Rattle.line_kinds.specs.Kinds.{passes, fits}
 use Rattle.line_reader.proofs.Entries.{IsEntry}
 use Rattle.desk_state.specs.Sheets.{filled, valueIn}
 use Rattle.desk_state.specs.Desks.{benchCount}
-use Rattle.desk_soundness.specs.Sound.{zeros, soundEmpty, soundFilled, soundItem}
+use Rattle.desk_soundness.specs.Sound.{zeros, soundEmpty, counted, soundFilled, soundItem}
 use Rattle.desk_state.specs.declared.sheet.Item.{Item}
-use Rattle.theorem_sequences.proofs.Choices.{and-true-true, and-map, cond-map}
+use Rattle.desk_soundness.proofs.Wording.{counted-is, counted-taken}
+use Rattle.theorem_sequences.proofs.Choices.{and-map, cond-map}
 use Rattle.theorem_sequences.proofs.LineLaws.{padded-zeros, typed-lineOf}
 
 -- a value has at least one byte
@@ -37,24 +38,33 @@ pub entry-fits : (t : List ℕ) (k v : ℕ) → IsEntry t k v → fits k (drop v
 unfolding fits
 entry-fits t k v h = simp (h .passes, h .value, h .value-typed, le-leb (length (itemRow k .name) + 1 + length (drop v t)) lineMost (h .room))
 
+counted-more : (n m : ℕ) → counted n m ≡ true → counted (n + 1) m ≡ true
+counted-more n m h = let c = counted-is n m h in counted-taken (n + 1) m (c .0) (omega (arith, c .1))
+
 pub item-more : (n k : ℕ) (i : Item) → soundItem n k i ≡ true → soundItem (n + 1) k i ≡ true
 unfolding soundItem soundFilled
 item-more n k i h =
     let rest = leb (i .len) lineMost && (fits (k + 1) (valueIn i) && zeros (drop (i .len) (i .value))) in
     cond-map (eqb (i .len) 0) (soundEmpty i) (soundFilled n (k + 1) i) (soundFilled (n + 1) (k + 1) i)
-    (and-map (ltb (i .bench) benchCount) (leb 1 (i .entry) && (leb (i .entry) n && rest)) (leb 1 (i .entry) && (leb (i .entry) (n + 1) && rest))
-    (and-map (leb 1 (i .entry)) (leb (i .entry) n && rest) (leb (i .entry) (n + 1) && rest)
-    (λ g.
-    let b = and-both (leb (i .entry) n) rest g in
-    let m = leb-true (i .entry) n (b .0) in
-    and-true-true (leb (i .entry) (n + 1)) rest (le-leb (i .entry) (n + 1) (omega arith)) (b .1))))
+    (and-map (ltb (i .bench) benchCount) (ltb (i .bench) benchCount) (counted n (i .entry) && (counted n (i .times) && rest))
+    (counted (n + 1) (i .entry) && (counted (n + 1) (i .times) && rest)) (λ g. g)
+    (and-map (counted n (i .entry)) (counted (n + 1) (i .entry)) (counted n (i .times) && rest) (counted (n + 1) (i .times) && rest) (counted-more n (i .entry))
+    (and-map (counted n (i .times)) (counted (n + 1) (i .times)) rest rest (counted-more n (i .times)) (λ g. g))))
     h
 
--- the item k, at place k - 1, filled by the entry n
-pub filled-sound : (bench n k : ℕ) (v : List ℕ) → bench < benchCount → 1 ≤ n → 1 ≤ k → 1 ≤ length v → length v ≤ lineMost → fits k v ≡ true
-    → soundItem n (k - 1) (filled bench n v) ≡ true
+-- the item k, at place k - 1, filled by the entry n, one of m that name it
+pub filled-sound : (bench n m k : ℕ) (v : List ℕ) → bench < benchCount → 1 ≤ m → m ≤ n → 1 ≤ k → 1 ≤ length v → length v ≤ lineMost → fits k v ≡ true
+    → soundItem n (k - 1) (filled bench n m v) ≡ true
 unfolding soundItem soundFilled
-filled-sound bench n k v b one some long short h =
+filled-sound bench n m k v b one most some long short h =
     let at : k - 1 + 1 ≡ k = omega arith in
-    let value : fits (k - 1 + 1) (valueIn (filled bench n v)) ≡ true = ap (λ (j : ℕ). fits j (valueIn (filled bench n v))) at ∙ ap (fits k) (typed-lineOf v) ∙ h in
-    simp (ne-eqb (length v) 0 (omega arith), lt-ltb bench benchCount b, le-leb 1 n one, le-leb n n (omega arith), le-leb (length v) lineMost short, value, padded-zeros v)
+    let value : fits (k - 1 + 1) (valueIn (filled bench n m v)) ≡ true = ap (λ (j : ℕ). fits j (valueIn (filled bench n m v))) at ∙ ap (fits k) (typed-lineOf v) ∙ h in
+    simp (
+      ne-eqb (length v) 0 (omega arith),
+      lt-ltb bench benchCount b,
+      counted-taken n n (omega arith) (omega arith),
+      counted-taken n m one most,
+      le-leb (length v) lineMost short,
+      value,
+      padded-zeros v,
+    )

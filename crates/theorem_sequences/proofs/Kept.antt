@@ -22,7 +22,7 @@ use Rattle.line_reader.proofs.Entries.{entry-is}
 use Rattle.desk_log.specs.Record.{recordLength, recordOf}
 use Rattle.desk_log.proofs.Records.{record-length}
 use Rattle.desk_state.specs.Lines.{typed, lineOf, emptyLine, appended, erased}
-use Rattle.desk_state.specs.Sheets.{filled, noItem}
+use Rattle.desk_state.specs.Sheets.{filled, noItem, itemAt}
 use Rattle.desk_state.specs.Desks.{benchCount, noLine, lineAt, withLine}
 use Rattle.desk_soundness.specs.Sound.{soundLine, soundLines, soundItem, soundSheet, soundDesk}
 use Rattle.desk_soundness.specs.SoundLog.{logMost, soundLog}
@@ -30,6 +30,7 @@ use Rattle.desk_state.specs.declared.line.Line.{Line}
 use Rattle.desk_state.specs.declared.sheet.Item.{Item}
 use Rattle.desk_state.specs.declared.desk.Desk.{Desk}
 use Rattle.desk_soundness.proofs.Everys.{every-each}
+use Rattle.desk_soundness.proofs.Wording.{sound-is, times-most}
 use Rattle.desk_keys.specs.Key.{After, refused, edited, withEntry, entered, stored, enteredAs, appendKey, keyStep, keyOf}
 use Rattle.theorem_sequences.specs.Shaped.{Shaped}
 use Rattle.theorem_sequences.proofs.Choices.{cond-keeps, and-true-true}
@@ -117,18 +118,21 @@ module _ (d : Desk) (used : ℕ) (log : List ℕ) (shape : Shaped d) (sound : so
       unfolding soundDesk soundSheet
       sheet-keeps =
           let n = d .sheet .count in
-          every-set (soundItem (n + 1)) (d .sheet .items) 0 (item - 1) (filled bench (n + 1) v)
+          let m = itemAt (d .sheet) item .times in
+          let most : m ≤ n = times-most n item (itemAt (d .sheet) item) (sound-is d sound .items item some (omega (arith, shape .items))) in
+          every-set (soundItem (n + 1)) (d .sheet .items) 0 (item - 1) (filled bench (n + 1) (m + 1) v)
           (every-more (soundItem n) (soundItem (n + 1)) (item-more n) (d .sheet .items) 0 (and-both (soundLines d) (soundSheet (d .sheet)) sound .1))
-          (rw zero-add (filled-sound bench (n + 1) item v b (omega arith) some long short h))
+          (rw zero-add (filled-sound bench (n + 1) (m + 1) item v b (omega arith) (omega arith) some long short h))
 
       entered-shape : Shaped (entered d bench item v)
       entered-shape =
           let c = clear-keeps .shape in
+          let new : Item = filled bench (d .sheet .count + 1) (itemAt (d .sheet) item .times + 1) v in
           record {
             lines = c .lines;
             line-bytes = c .line-bytes;
-            items = length-set (d .sheet .items) (item - 1) (filled bench (d .sheet .count + 1) v) ∙ shape .items;
-            item-bytes = at-set (λ (x : Item). length (x .value) ≡ lineMost) (d .sheet .items) itemCount (item - 1) (filled bench (d .sheet .count + 1) v) noItem
+            items = length-set (d .sheet .items) (item - 1) new ∙ shape .items;
+            item-bytes = at-set (λ (x : Item). length (x .value) ≡ lineMost) (d .sheet .items) itemCount (item - 1) new noItem
                 (shape .items) (padded-length v short) (shape .item-bytes);
           }
 

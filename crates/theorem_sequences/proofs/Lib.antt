@@ -10,6 +10,7 @@ pub mod GatherChecks
 pub mod OneRegrouping
 pub mod OwnKeys
 pub mod WorkLaws
+pub mod Times
 pub mod DeskFollows
 pub mod EntryWords
 pub mod Enters

@@ -9,15 +9,22 @@ use Rattle.line_items.specs.Items.{itemCount}
 use Rattle.line_reader.specs.Wording.{IsLine}
 use Rattle.desk_log.specs.Record.{recordOf}
 use Rattle.desk_state.specs.declared.sheet.Sheet.{Sheet}
+use Rattle.desk_questions.specs.Who.{Who}
 use Rattle.theorem_sequences.specs.Calls.{Call, key, keyed, told}
-use Rattle.theorem_sequences.specs.Work.{Entry, recordsOf, whoLast}
+use Rattle.theorem_sequences.specs.Work.{Entry, recordsOf, timesOf, whoLast}
 use Rattle.theorem_sequences.specs.Sequences.{answerAfter, workAfter}
 use Rattle.theorem_sequences.specs.Owner.{entering, Owned}
 use Rattle.theorem_sequences.proofs.Demand3.{demand-3}
 
--- of the newest entry Who tells bench and number
-who-newest : (e : Entry) (es : List Entry) → 1 ≤ e .item → e .item ≤ itemCount → whoLast (e ∷ es) (e .item) ≡ record { answer = 0; entry = length (e ∷ es); bench = e .bench }
+-- of the newest entry Who tells bench and number, and how many name its item
+who-newest : (e : Entry) (es : List Entry) → 1 ≤ e .item → e .item ≤ itemCount
+    → whoLast (e ∷ es) (e .item) ≡ record { answer = 0; entry = length (e ∷ es); bench = e .bench; times = timesOf (e ∷ es) (e .item) }
 who-newest e es some known = rw (le-leb 1 (e .item) some, le-leb (e .item) itemCount known, eq-eqb (e .item) (e .item) refl)
+
+-- equal parts make an equal whole
+who-eq : {n n′ b b′ m m′ : ℕ} → n ≡ n′ → b ≡ b′ → m ≡ m′
+    → _≡_ {A = Who} (record { answer = 0; entry = n; bench = b; times = m }) (record { answer = 0; entry = n′; bench = b′; times = m′ })
+who-eq p q r = cc
 
 module _ {Rows : Type 0} (rowsOf : Sheet → Rows) (noRows : Rows) (log : List ℕ) (before : List Call) (bench : ℕ) where
   pub entry-owned : answerAfter rowsOf noRows log before (key bench 10) ≡ keyed 0 → Owned rowsOf noRows log before bench
@@ -27,6 +34,8 @@ module _ {Rows : Type 0} (rowsOf : Sheet → Rows) (noRows : Rows) (log : List �
       let x = now .entry before [] bench refl h in
       let e = x .new in
       let es = workAfter rowsOf noRows log before .entries in
+      let some = x .item .first in
+      let known = x .item .last in
       record {
         name = x .name;
         value = e .value;
@@ -35,6 +44,7 @@ module _ {Rows : Type 0} (rowsOf : Sheet → Rows) (noRows : Rows) (log : List �
         named = x .item;
         logged = now .used-log ∙ ap recordsOf (x .added) ∙ ap₂ (λ (r : List ℕ) b. r ++ recordOf b (e .item) (e .value)) (sym (old .used-log)) (x .of-bench);
         tells = now .who-next (e .item)
-            ∙ ap told (ap (λ fs. whoLast fs (e .item)) (x .added) ∙ who-newest e es (x .item .first) (x .item .last)
-            ∙ ap₂ (λ n b. record { answer = 0; entry = n; bench = b }) (ap length (sym (x .added)) ∙ sym (now .count)) (x .of-bench));
+            ∙ ap told (ap (λ fs. whoLast fs (e .item)) (x .added) ∙ who-newest e es some known
+            ∙ who-eq (ap length (sym (x .added)) ∙ sym (now .count)) (x .of-bench)
+            (ap (λ fs. timesOf fs (e .item)) (sym (x .added)) ∙ sym (now .times (e .item) some known) ∙ now .logged (e .item) some known));
       }

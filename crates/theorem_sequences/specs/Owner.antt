@@ -11,6 +11,7 @@ use Rattle.desk_log.specs.Record.{recordOf}
 use Rattle.desk_state.specs.declared.sheet.Sheet.{Sheet}
 use Rattle.theorem_sequences.specs.Calls.{Call, key, ask, who, told, State}
 use Rattle.theorem_sequences.specs.Gather.{own}
+use Rattle.theorem_sequences.specs.Logged.{recordsNaming}
 use Rattle.theorem_sequences.specs.Sequences.{textOf, deskAnswers, stateAfter, answerAfter}
 
 -- the calls before, and the bench's Enter
@@ -29,6 +30,11 @@ pub record Owned {Rows : Type 0} (rowsOf : Sheet → Rows) (noRows : Rows) (log 
   pub named : IsName name item
   -- its record is the next of the used log and names the bench
   pub logged : usedLog (stateAfter rowsOf noRows log (entering before bench)) ≡ usedLog (stateAfter rowsOf noRows log before) ++ recordOf bench item value
-  -- Who, asked next, names the bench, and the count as the entry's number
+  -- Who, asked next, names the bench, the count as the entry's number, and how many records of the used log name the item
   pub tells : answerAfter rowsOf noRows log (entering before bench) (ask (who item))
-      ≡ told (record { answer = 0; entry = stateAfter rowsOf noRows log (entering before bench) .desk .sheet .count; bench = bench })
+      ≡ told (record {
+        answer = 0;
+        entry = stateAfter rowsOf noRows log (entering before bench) .desk .sheet .count;
+        bench = bench;
+        times = recordsNaming item (usedLog (stateAfter rowsOf noRows log (entering before bench)));
+      })

@@ -10,6 +10,8 @@
 -- - a desk that stores only its first entry: `items`, which asks for the last entry that names an item, and `count`;
 -- - an invented entry number: `items` and `tells`, where a number is how many entries there are up to that one, and `entries`, by which these are the
 --   Enters to which the desk gave 0;
+-- - a number of entries that stays at 1, is another item's, or counts refused Enters: `times` and `logged`, where it is how many entries name the item, and how
+--   many records of the used log do;
 -- - keys of benches that run together: `gathered-answers` and `gathered-state`, by which a bench's answers do not depend on the keys between its own, and
 --   `own-keys`, by which what a bench has typed, and with `entry` the line of each of its entries, is of its own keys and no others;
 -- - an entry under another bench's number, as of the first to type after a refused Enter: `entry`, `used-log` for its record, and `who-next` for the
@@ -31,7 +33,8 @@ use Rattle.desk_state.specs.declared.sheet.Sheet.{Sheet}
 use Rattle.theorem_sequences.specs.Calls.{Call, key, ask, report, who, Reply, keyed, reported, told, State, freshState, step, answered, final}
 use Rattle.theorem_sequences.specs.Gather.{own, gather, gatherAnswered, Regrouped}
 use Rattle.theorem_sequences.specs.WorkTable.{workTable, FromTable}
-use Rattle.theorem_sequences.specs.Work.{Entry, Work, noWork, typedBy, recordsOf, lastOf, sheetOf, accepts, textAfter, whoLast, workStep}
+use Rattle.theorem_sequences.specs.Logged.{recordsNaming}
+use Rattle.theorem_sequences.specs.Work.{Entry, Work, noWork, typedBy, recordsOf, timesOf, lastOf, sheetOf, accepts, textAfter, whoLast, workStep}
 
 -- an Enter of a bench that added an entry: "Its line, name and value, is what its bench had typed"
 pub record Entered (bench : ℕ) (before after : Work) : Type 0 where
@@ -125,6 +128,11 @@ module _ {Rows : Type 0} (rowsOf : Sheet → Rows) (noRows : Rows) where
     pub count : stateAfter log cs .desk .sheet .count ≡ length (workAfter log cs .entries)
     -- "each item holds value, bench and number of the last one that names it, or is empty"
     pub items : (k : ℕ) → 1 ≤ k → k ≤ itemCount → itemAt (stateAfter log cs .desk .sheet) k ≡ lastOf (workAfter log cs .entries) k
+    -- document 02, No. 7: "Each filled item shall hold the number of accepted entries that named it"
+    pub times : (k : ℕ) → 1 ≤ k → k ≤ itemCount → itemAt (stateAfter log cs .desk .sheet) k .times ≡ timesOf (workAfter log cs .entries) k
+    -- and that is, "on any desk grown from a fresh one, its records in the used log"
+    pub logged : (k : ℕ) → 1 ≤ k → k ≤ itemCount
+        → itemAt (stateAfter log cs .desk .sheet) k .times ≡ recordsNaming k (take (stateAfter log cs .used) (stateAfter log cs .log))
     pub all-items : length (stateAfter log cs .desk .sheet .items) ≡ itemCount
     -- the desk is sound, and sound with its log but for the log's length: what the table of the work tests is all that can give 2
     pub sound : soundDesk (stateAfter log cs .desk) ≡ true
@@ -134,7 +142,7 @@ module _ {Rows : Type 0} (rowsOf : Sheet → Rows) (noRows : Rows) where
         → answerAfter log before (ask report) ≡ reported 0 (rowsOf (sheetOf (workAfter log before .entries)))
     pub tells : (before after : List Call) (item : ℕ) → cs ≡ before ++ (ask (who item) ∷ after)
         → answerAfter log before (ask (who item)) ≡ told (whoLast (workAfter log before .entries) item)
-    -- Who, asked next after the whole sequence, names bench and number of the last entry that names the item
+    -- Who, asked next after the whole sequence, names bench and number of the last entry that names the item, and how many entries name it
     pub who-next : (item : ℕ) → answerAfter log cs (ask (who item)) ≡ told (whoLast (workAfter log cs .entries) item)
     -- Report, asked next, judges the sheet of all entries
     pub report-next : answerAfter log cs (ask report) ≡ reported 0 (rowsOf (sheetOf (workAfter log cs .entries)))

@@ -46,10 +46,15 @@ abbrev pub recordsOf : List Entry → List ℕ
 recordsOf [] = []
 recordsOf (e ∷ es) = recordsOf es ++ recordOf (e .bench) (e .item) (e .value)
 
--- "value, bench and number of the last one that names it, or is empty"; an entry is "numbered by how many there are up to it"
+-- document 02, No. 7: "the number of accepted entries that named it"
+abbrev pub timesOf : List Entry → ℕ → ℕ
+timesOf [] item = 0
+timesOf (e ∷ es) item = cond (eqb item (e .item)) (suc (timesOf es item)) (timesOf es item)
+
+-- "value, bench and number of the last one that names it, or is empty"; an entry is "numbered by how many there are up to it"; and how many named it
 abbrev pub lastOf : List Entry → ℕ → Item
 lastOf [] item = emptyItem
-lastOf (e ∷ es) item = cond (eqb item (e .item)) (filled (e .bench) (length (e ∷ es)) (e .value)) (lastOf es item)
+lastOf (e ∷ es) item = cond (eqb item (e .item)) (filled (e .bench) (length (e ∷ es)) (timesOf (e ∷ es) item) (e .value)) (lastOf es item)
 
 -- n items, the first of them item k
 abbrev pub itemsFrom : (ℕ → Item) → ℕ → ℕ → List Item
@@ -104,10 +109,10 @@ keyWork a bench byte w = record {
 
 -- ---- a question
 
--- bench and number of the last entry that names the item
+-- bench and number of the last entry that names the item, and how many name it
 abbrev pub lastTold : List Entry → ℕ → Who
 lastTold [] item = nobody 0
-lastTold (e ∷ es) item = cond (eqb item (e .item)) (record { answer = 0; entry = length (e ∷ es); bench = e .bench }) (lastTold es item)
+lastTold (e ∷ es) item = cond (eqb item (e .item)) (record { answer = 0; entry = length (e ∷ es); bench = e .bench; times = timesOf (e ∷ es) item }) (lastTold es item)
 
 -- "6 if not 1 to 10"
 abbrev pub whoLast : List Entry → ℕ → Who

@@ -6,12 +6,13 @@ use super::{from_seeds, Comparison, Plan};
 use crate::boundary::{Memory, DESK_FILE, DESK_NUMBERS, DESK_TEXTS};
 use crate::broken::{each_broken, WAYS};
 use crate::desks::Desks;
-use crate::old_build::saved;
+use crate::old_build::{saved, OLD_LIMIT};
 use crate::program::Call;
 use crate::random::Random;
 use crate::session::OTHER_BENCHES;
 use crate::tally::{Question, CALLS};
 use reference::desk::{BENCHES, EMPTY, ENTER, ERASE, NOT_SOUND, NO_SUCH_BENCH};
+use reference::line::LIMIT;
 use reference::names::ITEMS;
 use std::fmt::Display;
 
@@ -69,22 +70,26 @@ impl Comparison<'_> {
         }
     }
 
-    /// Desks saved by the old build, lent as they are. The first has nothing in it.
+    /// Desks saved by earlier builds, lent as they are. The first has nothing in it.
     fn old_desks(&mut self, name: &'static str, seed: u64, count: u64) {
         self.begin(name);
         let mut desks = Desks::new(seed.rotate_left(56));
         for number in 0..count {
-            let mut saved = saved(&mut desks);
-            if number == 0 {
-                saved.texts.fill(0);
-                saved.numbers.fill(0);
+            for (limit, question) in
+                [(OLD_LIMIT, Question::OldBuild), (LIMIT, Question::OldNumbers)]
+            {
+                let mut saved = saved(&mut desks, limit);
+                if number == 0 {
+                    saved.texts.fill(0);
+                    saved.numbers.fill(0);
+                }
+                self.old_desk(saved, question, &format_args!("{name}, desk {number}"));
             }
-            self.old_desk(saved, &format_args!("{name}, desk {number}"));
         }
     }
 
     /// Every call on such a desk is refused as its list says, and nothing is changed.
-    fn old_desk(&mut self, saved: Memory, place: &dyn Display) {
+    fn old_desk(&mut self, saved: Memory, question: Question, place: &dyn Display) {
         self.group().inputs += 1;
         let mut both = Both::new(saved.clone());
         let mut refused = vec![(0, self.fresh(&mut both, place))];
@@ -100,7 +105,7 @@ impl Comparison<'_> {
             return self.different(|| format!("{place}: a desk of the old build is taken over"));
         }
         for (at, _) in refused {
-            self.tally.note(Question::OldBuild, at);
+            self.tally.note(question, at);
         }
     }
 

@@ -6,10 +6,10 @@ use crate::boundary::Memory;
 use crate::program::{Answer, Call};
 use crate::random::Random;
 use crate::sequences::{
-    desk_sessions, few_calls, log_lengths, measured_examples, Sequence, Sequences,
+    desk_sessions, few_calls, log_lengths, measured_examples, rewritten, Sequence, Sequences,
 };
 use crate::tally::Question;
-use reference::desk::LOG_LIMIT;
+use reference::desk::{ENTER, LOG_LIMIT};
 use std::fmt::Display;
 
 /// One sequence for each fifty lines.
@@ -25,6 +25,7 @@ impl Comparison<'_> {
         self.seeded(plan, from_seeds!("sequences"), SEQUENCES_ONE_IN, Self::generated_sequences);
         self.sequences("measured examples typed", measured_examples());
         self.sequences("lengths of the log", log_lengths());
+        self.sequences("items rewritten", rewritten());
     }
 
     pub(super) fn listed_sequences(&mut self) {
@@ -75,8 +76,18 @@ impl Comparison<'_> {
         }
         let mut answers = vec![];
         for (number, call) in (1..).zip(calls) {
-            let answer = self.call(&mut both, call, &format_args!("{place}, call {number}"))?;
+            let place = format_args!("{place}, call {number}");
+            let before = matches!(call, Call::Key { byte: ENTER, .. })
+                .then(|| both.tested.numbers.clone())
+                .unwrap_or_default();
+            let answer = self.call(&mut both, call, &place)?;
+            if !self.same_as_records(&both.tested, call, &answer, &place) {
+                return None;
+            }
             self.note_played(&answer);
+            if let (Call::Key { bench, byte: ENTER }, Answer::Key(answer)) = (*call, answer) {
+                self.note_entered(&before, &both.tested, bench, answer);
+            }
             answers.push(answer);
         }
         Some((answers, both.tested))
@@ -119,7 +130,10 @@ impl Comparison<'_> {
         match answer {
             Answer::Key(answer) => self.tally.note(Question::PlayedKey, (*answer).into()),
             Answer::Report(reported) => self.tally.note_played_rows(&reported.rows),
-            Answer::Who(told) => self.tally.note(Question::PlayedWho, who_place(told)),
+            Answer::Who(told) => {
+                self.tally.note(Question::PlayedWho, who_place(told));
+                self.note_times(told.times);
+            }
         }
     }
 }

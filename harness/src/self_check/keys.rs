@@ -1,10 +1,10 @@
 //! Faulty programs for a fresh desk and for the key call.
 
 use super::{change, Wrong};
-use crate::boundary::{Memory, DESK_COUNT_AT, DESK_NUMBERS, DESK_TEXTS, DESK_USED_AT};
+use crate::boundary::{Memory, DESK_COUNT_AT, DESK_TEXTS, DESK_USED_AT};
 use crate::by_reference::Reference;
 use crate::memory::held;
-use crate::old_build::{OLD_LIMIT, OLD_TEXTS};
+use crate::old_build::{taken_over, OLD_LIMIT};
 use crate::points::Pointed;
 use crate::program::Program;
 use reference::desk::{
@@ -117,7 +117,7 @@ fn quotes_lost(memory: &mut Memory, bench: u64, byte: u8) -> u8 {
             for item in desk.items.iter_mut().filter(|item| item.entry == count) {
                 let typed = item.value;
                 let text = value::text(&typed[..item.len as usize]);
-                *item = Item::holding(text, count, item.bench);
+                *item = Item::holding(text, count, item.bench, item.times);
             }
         });
     }
@@ -200,7 +200,7 @@ fn line_of_81(memory: &mut Memory, bench: u64, byte: u8) -> u8 {
 }
 
 fn old_taken(memory: &mut Memory) -> u8 {
-    if (memory.texts.len(), memory.numbers.len()) == (OLD_TEXTS, DESK_NUMBERS) {
+    if taken_over(memory).is_some() {
         memory.texts.fill(0);
         memory.numbers.fill(0);
         return ACCEPTED;

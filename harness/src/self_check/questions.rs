@@ -1,14 +1,12 @@
 //! Faulty programs for Report and Who, and wrong orders of calls.
 
 use super::Wrong;
-use crate::boundary::{
-    Memory, Reported, Row, Told, DESK_COUNT_AT, DESK_LINE, DESK_NUMBERS, DESK_USED_AT,
-};
+use crate::boundary::{Memory, Reported, Row, Told, DESK_COUNT_AT, DESK_NUMBERS, DESK_USED_AT};
 use crate::by_reference::{gathered, Reference};
 use crate::compare::Gather;
 use crate::desks::{holding, in_memory, longest_value, sheet};
 use crate::memory::{held, put};
-use crate::old_build::{OLD_LIMIT, OLD_TEXTS};
+use crate::old_build::{taken_over, OLD_LIMIT};
 use crate::program::{Call, Program};
 use reference::desk::{values, ENTER, NOT_SOUND, NO_BENCH, NO_SUCH_ITEM, RECORD_HEAD};
 use reference::line::{classify, split, ACCEPTED, LIMIT};
@@ -109,14 +107,8 @@ fn shortened(memory: &Memory) -> Memory {
     memory
 }
 
-/// Its texts are read as if the slots were as long as today's.
 fn old_taken(memory: &Memory) -> Reported {
-    if memory.texts.len() != OLD_TEXTS {
-        return Reference.report(memory);
-    }
-    let slots = memory.texts.chunks(OLD_LIMIT);
-    let texts = slots.flat_map(|slot| [slot, &[0; DESK_LINE - OLD_LIMIT]].concat()).collect();
-    Reference.report(&Memory { texts, ..memory.clone() })
+    Reference.report(&taken_over(memory).unwrap_or_else(|| memory.clone()))
 }
 
 fn refusal() -> Reported {
@@ -162,7 +154,8 @@ fn unsound_answered(memory: &Memory, item: u64) -> Told {
     let place = (item as usize).wrapping_sub(1);
     match desk.and_then(|(desk, _)| desk.items.get(place).copied()) {
         Some(item) if item.len > 0 => {
-            Told { entry: item.entry as usize, answer: ACCEPTED, bench: item.bench as u8 }
+            let (entry, times) = (item.entry as usize, item.times as usize);
+            Told { entry, times, answer: ACCEPTED, bench: item.bench as u8 }
         }
         _ => right,
     }

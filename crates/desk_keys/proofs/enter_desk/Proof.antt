@@ -2,6 +2,7 @@
 -- Assumes nothing.
 use native.Mathlib.Omega.{arith}
 use mathlib.Core.Path.{_∙_, ap}
+use Prim.Native.Nat.{_-_}
 use lib.ListN.{take, drop, length-set}
 use denote.Ref.{now}
 use Rattle.desk_state.specs.Lines.{emptyLine}
@@ -9,7 +10,7 @@ use Rattle.desk_state.specs.Desks.{withLine}
 use Rattle.desk_state.specs.declared.desk.Desk.{Desk}
 use Rattle.desk_memory.specs.Memory.{usedAt}
 use Rattle.desk_keys.specs.Lent.{entryDesk}
-use Rattle.desk_keys.proofs.Stores.{used-in, used-count, used-sized}
+use Rattle.desk_keys.proofs.Stores.{used-in, used-few, used-sized}
 use borrow.Author.Needs.{needs}
 use Rattle.desk_keys.proofs.enter_desk.Statement.{statement}
 use Rattle.desk_keys.proofs.enter_desk.Tie as tie
@@ -19,8 +20,8 @@ put-entry-requires c κs =
     let s = c .before .before .before .before in
     let a = s .args in
     let z = s .pre .6 in
-    let e = used-count (now (a .texts)) (now (a .numbers)) z (a .used) in
-    (omega arith, omega arith, omega arith, omega arith, omega arith, used-sized (now (a .texts)) (now (a .numbers)) z (a .used))
+    let f = used-few (now (a .texts)) (now (a .numbers)) z (a .used) (a .item - 1) (s .pre .5) in
+    (omega arith, omega arith, omega arith, omega arith, f, used-sized (now (a .texts)) (now (a .numbers)) z (a .used))
 
 clear-line-requires : tie.Need-clear-line-requires
 clear-line-requires c κs =

@@ -6,25 +6,25 @@ use mathlib.Core.List.{List}
 use Prim.Native.Nat.{ℕ, _+_, _*_, _-_, _<_}
 use borrow.Rule.Slice.PartMut.{putMid, mid-len}
 use lib.ListN.{length, take, drop, replicate, length-drop}
-use lib.Seq.{length-take-le, getD-take, getD-drop}
+use lib.Seq.{length-take-le}
 use denote.Ref.{now}
 use Rattle.text_copies.specs.Copy.{copied}
 use Rattle.line_items.specs.Typed.{lineMost}
 use Rattle.line_items.specs.Items.{itemCount}
 use Rattle.desk_state.specs.Desks.{benchCount}
-use Rattle.desk_memory.specs.Memory.{countAt, sheetNumbers, usedAt, slot, deskOf}
+use Rattle.desk_memory.specs.Memory.{usedAt, slot, deskOf}
 use Rattle.desk_keys.proofs.Stores.{filled-slot, item-in, used-kept}
 use borrow.Author.Needs.{needs}
 use Rattle.desk_keys.proofs.put_entry.Statement.{statement}
 use Rattle.desk_keys.proofs.put_entry.Tie as tie
 
 put-numbers-requires : tie.Need-put-numbers-requires
+unfolding slot
 put-numbers-requires c κs =
     let s = c .before .before .before .before .before .before .before .before .before .before .before in
     let n = now (s .args .numbers) in
-    let e = getD-take sheetNumbers (drop benchCount n) countAt 0 (omega arith) ∙ getD-drop benchCount n countAt 0 in
     let l = mid-len benchCount usedAt n (omega (arith, s .pre .5 .numbers)) in
-    (omega arith, omega (arith, s .pre .4), l)
+    (omega arith, s .pre .4, l)
 
 returns : tie.Need-returns
 unfolding slot

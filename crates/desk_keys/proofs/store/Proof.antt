@@ -80,7 +80,7 @@ enter-desk-requires c κs =
     let l = s .pre .3 in
     let h = short s in
     let b = l .ready .bench-in in
-    (b, s .pre .0, s .pre .1, omega arith, omega arith, few-entries (now (a .texts)) (now (a .numbers)) (now (a .log)) (a .bench) l, l .sized)
+    (b, s .pre .0, s .pre .1, omega arith, omega arith, few-entries (now (a .texts)) (now (a .numbers)) (now (a .log)) (a .bench) l (a .item) (s .pre .0) (s .pre .1), l .sized)
 
 returns-2 : tie.Need-returns-2
 returns-2 c =

@@ -17,7 +17,14 @@ returns-2 c = simp (eq-eqb _ 0 (c .before .before .if1 .left), ne-eqb _ 0 (c .if
 
 returns-3 : tie.Need-returns-3
 unfolding soundEmpty
-returns-3 c = c .all-between .ensures ∙ simp (eq-eqb _ 0 (c .before .before .before .if1 .left), eq-eqb _ 0 (c .before .if2 .left))
+returns-3 c = simp (eq-eqb _ 0 (c .before .before .before .before .if1 .left), eq-eqb _ 0 (c .before .before .if2 .left), ne-eqb _ 0 (c .if3 .taken))
+
+returns-4 : tie.Need-returns-4
+unfolding soundEmpty
+returns-4 c =
+    let e3 = c .before in
+    let e2 = e3 .before .before in
+    c .all-between .ensures ∙ simp (eq-eqb _ 0 (e2 .before .before .if1 .left), eq-eqb _ 0 (e2 .if2 .left), eq-eqb _ 0 (e3 .if3 .left))
 
 pub is-sound-empty-spec : {M : Type 1} → statement M
-is-sound-empty-spec = tie.close (tie.spec (λ c. search needs) returns (λ c. search needs) returns-2 (λ c κs. search needs) returns-3)
+is-sound-empty-spec = tie.close (tie.spec (λ c. search needs) returns (λ c. search needs) returns-2 (λ c. search needs) returns-3 (λ c κs. search needs) returns-4)

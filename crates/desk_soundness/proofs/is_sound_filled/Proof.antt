@@ -1,17 +1,25 @@
 -- `desk_soundness::is_sound_filled` meets its contract: each return has the tests of `soundFilled` on its way.
 -- Assumes nothing.
 use native.Mathlib.Omega.{arith}
-use mathlib.Core.Path.{sym, _∙_}
+use mathlib.Core.Path.{_≡_, sym, _∙_}
+use mathlib.Core.Bool.{true}
 use lib.ListN.{getD, length-take}
 use denote.Ref.{now}
-use borrow.Author.Tests.{le-leb, lt-leb, lt-ltb, le-ltb}
+use borrow.Author.Tests.{le-leb, lt-leb, lt-ltb, le-ltb, not-true, not-false}
 use Rattle.text.proofs.Parts.{rest-part}
 use Rattle.desk_state.specs.Desks.{benchCount}
 use Rattle.line_items.specs.Typed.{lineMost}
-use Rattle.desk_soundness.specs.Sound.{soundFilled}
+use Rattle.desk_soundness.specs.Sound.{soundFilled, counted}
 use borrow.Author.Needs.{needs}
 use Rattle.desk_soundness.proofs.is_sound_filled.Statement.{statement}
 use Rattle.desk_soundness.proofs.is_sound_filled.Tie as tie
+
+-- the entry number is counted, and how often the item was named
+entry-counted : (c : tie.Else2) → (let a = c .before .before .before .before .before .before .before .args in counted (a .count) (getD (now (a .numbers)) 1 0) ≡ true)
+entry-counted c = sym (c .before .is-counted .ensures) ∙ not-false (c .before .is-counted .result) (c .if2 .left)
+
+times-counted : (c : tie.Else3) → (let a = c .before .before .before .before .before .before .before .before .before .before .args in counted (a .count) (getD (now (a .numbers)) 3 0) ≡ true)
+times-counted c = sym (c .before .is-counted2 .ensures) ∙ not-false (c .before .is-counted2 .result) (c .if3 .left)
 
 returns : tie.Need-returns
 unfolding soundFilled
@@ -19,20 +27,20 @@ returns c = simp (le-ltb _ benchCount (c .if1 .taken))
 
 returns-2 : tie.Need-returns-2
 unfolding soundFilled
-returns-2 c = simp (lt-ltb _ benchCount (c .before .before .if1 .left), lt-leb 1 _ (c .if2 .taken))
+returns-2 c = simp (lt-ltb _ benchCount (c .before .before .before .if1 .left), sym (c .before .is-counted .ensures) ∙ not-true (c .before .is-counted .result) (c .if2 .taken))
 
 returns-3 : tie.Need-returns-3
 unfolding soundFilled
 returns-3 c =
-    let e2 = c .before in
-    simp (lt-ltb _ benchCount (e2 .before .before .if1 .left), le-leb 1 _ (e2 .if2 .left), lt-leb _ _ (c .if3 .taken))
+    let e2 = c .before .before .before in
+    simp (lt-ltb _ benchCount (e2 .before .before .before .if1 .left), entry-counted e2, sym (c .before .is-counted2 .ensures) ∙ not-true (c .before .is-counted2 .result) (c .if3 .taken))
 
 returns-4 : tie.Need-returns-4
 unfolding soundFilled
 returns-4 c =
     let e3 = c .before .before in
-    let e2 = e3 .before in
-    simp (lt-ltb _ benchCount (e2 .before .before .if1 .left), le-leb 1 _ (e2 .if2 .left), le-leb _ _ (e3 .if3 .left), lt-leb _ lineMost (c .if4 .taken))
+    let e2 = e3 .before .before .before in
+    simp (lt-ltb _ benchCount (e2 .before .before .before .if1 .left), entry-counted e2, times-counted e3, lt-leb _ lineMost (c .if4 .taken))
 
 returns-5 : tie.Need-returns-5
 unfolding soundFilled
@@ -40,19 +48,19 @@ returns-5 c =
     let f = c .before .before in
     let e4 = f .before .before .before in
     let e3 = e4 .before .before in
-    let e2 = e3 .before in
-    let e1 = e2 .before .before in
+    let e2 = e3 .before .before .before in
+    let e1 = e2 .before .before .before in
     let a = e1 .before .before .before .before .args in
     c .all-between .ensures
-    ∙ simp (rest-part (now (a .value)) (getD (now (a .numbers)) 0 0), lt-ltb _ benchCount (e1 .if1 .left), le-leb 1 _ (e2 .if2 .left), le-leb _ _ (e3 .if3 .left), le-leb _ lineMost (e4 .if4 .left), sym (f .before .fits-item .ensures) ∙ f .if5 .taken)
+    ∙ simp (rest-part (now (a .value)) (getD (now (a .numbers)) 0 0), lt-ltb _ benchCount (e1 .if1 .left), entry-counted e2, times-counted e3, le-leb _ lineMost (e4 .if4 .left), sym (f .before .fits-item .ensures) ∙ f .if5 .taken)
 
 returns-6 : tie.Need-returns-6
 unfolding soundFilled
 returns-6 c =
     let e4 = c .before .before .before in
     let e3 = e4 .before .before in
-    let e2 = e3 .before in
-    simp (lt-ltb _ benchCount (e2 .before .before .if1 .left), le-leb 1 _ (e2 .if2 .left), le-leb _ _ (e3 .if3 .left), le-leb _ lineMost (e4 .if4 .left), sym (c .before .fits-item .ensures) ∙ c .if5 .left)
+    let e2 = e3 .before .before .before in
+    simp (lt-ltb _ benchCount (e2 .before .before .before .if1 .left), entry-counted e2, times-counted e3, le-leb _ lineMost (e4 .if4 .left), sym (c .before .fits-item .ensures) ∙ c .if5 .left)
 
 pub is-sound-filled-spec : {M : Type 1} → statement M
 is-sound-filled-spec =
@@ -61,7 +69,10 @@ is-sound-filled-spec =
     (λ c. search needs)
     returns
     (λ c. search needs)
+    (λ c κs. search needs)
     returns-2
+    (λ c. search needs)
+    (λ c κs. search needs)
     returns-3
     (λ c. search needs)
     returns-4

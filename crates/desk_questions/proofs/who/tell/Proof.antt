@@ -1,8 +1,7 @@
 -- `desk_questions::who::tell` meets its contract: the item is empty or not.
 -- Assumes nothing.
 use native.Mathlib.Omega.{arith}
-use mathlib.Core.Path.{_≡_, sym, _∙_, ap}
-use Prim.Native.Nat.{ℕ}
+use mathlib.Core.Path.{sym, _∙_}
 use borrow.Author.Tests.{eq-eqb, ne-eqb}
 use Rattle.desk_questions.specs.Who.{toldOf}
 use borrow.Author.Needs.{needs}
@@ -15,20 +14,20 @@ returns c =
     let l = c .before in
     λ v. c .tell-nobody .ensures ∙ simp (eq-eqb _ 0 (sym (l .before .number-at .ensures) ∙ l .if1 .taken))
 
-cast-t9 : tie.Need-cast-t9
-cast-t9 c =
-    let e = c .before .before in
+cast-t10 : tie.Need-cast-t10
+cast-t10 c =
+    let e = c .before .before .before in
     let l = e .before in
     let s = l .before .before in
     let filled = s .pre (λ z. e .if1 .left (l .number-at .ensures ∙ z)) in
-    omega (arith, c .number-at3 .ensures, filled)
+    omega (arith, c .before .number-at3 .ensures, filled)
 
 returns-2 : tie.Need-returns-2
 unfolding toldOf
 returns-2 c =
-    let e = c .before .before in
+    let e = c .before .before .before in
     let l = e .before in
-    λ v. simp (ne-eqb _ 0 (λ z. e .if1 .left (l .number-at .ensures ∙ z)), c .before .number-at2 .ensures, c .number-at3 .ensures)
+    λ v. simp (ne-eqb _ 0 (λ z. e .if1 .left (l .number-at .ensures ∙ z)), c .before .before .number-at2 .ensures, c .before .number-at3 .ensures, c .number-at4 .ensures)
 
 pub tell-spec : {M : Type 1} → statement M
 tell-spec =
@@ -39,5 +38,6 @@ tell-spec =
     returns
     (λ c κs. search needs)
     (λ c κs. search needs)
-    cast-t9
+    (λ c κs. search needs)
+    cast-t10
     returns-2)
