@@ -155,7 +155,7 @@ fn is_open(numbers: &[usize], k: usize, bench: usize) -> bool
     number_at(numbers, k, BENCH_AT) == bench
 }
 
-// The same, if no other bench owns the item.
+// The value is stored, as `store` says, if no other bench owns the item.
 fn store_if_open(
     texts: &mut [u8],
     numbers: &mut [usize],

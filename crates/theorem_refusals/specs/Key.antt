@@ -1,5 +1,5 @@
--- The table of a key call, row by row in the words of document 01 ("Keys and their refusals") and of document 02, No. 8. That it is what a key call answers is `key-table`, of a
--- desk in lent memory `lent-key-table` (proofs/KeyAnswers.antt).
+-- The table of a key call, row by row in the words of document 01 ("Keys and their refusals") and of document 02, No. 8. That it is what a key call answers
+-- is `key-table`, of a desk in lent memory `lent-key-table` (proofs/KeyAnswers.antt).
 -- Assumes nothing.
 use Prim.Native.Nat.{ℕ, _-_, _≤_, _<_}
 use mathlib.Core.Path.{_≡_}

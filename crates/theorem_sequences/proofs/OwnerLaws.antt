@@ -40,6 +40,10 @@ first-owns (l ∷ later) first before item x n z = first-owns later first before
 pub owner-is : {es : List Entry} {item bench : ℕ} → Owns es item bench → (x : ℕ) → ownerOf es item x ≡ bench
 owner-is {es} {item} o x = ap (λ fs. ownerOf fs item x) (o .parts) ∙ first-owns (o .later) (o .first) (o .before) item x (o .names) (o .none-before) ∙ o .of-bench
 
+-- so an item has at most one owner
+pub one-owns : {es : List Entry} {item a b : ℕ} → Owns es item a → Owns es item b → a ≡ b
+one-owns o p = sym (owner-is o 0) ∙ owner-is p 0
+
 -- no entry names the item, or one is the first
 pub data Named (es : List Entry) (item : ℕ) : Type 0 where
   unnamed : timesOf es item ≡ 0 → Named es item
