@@ -318,15 +318,15 @@ fn entered(bench: u64, line: &str) -> impl Iterator<Item = Call> + '_ {
     keys.map(move |byte| Call::Key { bench, byte })
 }
 
-/// One item typed by every three benches, each time after an Enter that is refused, with Who after
-/// it; in turn with room for all records, and one byte short for the third and for the second. And an
-/// item that its bench types twelve times.
+/// One item typed by every three benches, each time after an Enter that is refused with 5, 6 or 7,
+/// with Who after it; in turn with room for all records, and one byte short for the third and for the
+/// second. And an item that its bench types twelve times.
 pub fn rewritten() -> impl Iterator<Item = Sequence> {
-    let every = [(1, "'C H4'"), (3, "FO"), (4, "0.16")].into_iter().flat_map(|(item, value)| {
+    let every = [(3, "FO"), (4, "0.16"), (9, "-0.06")].into_iter().flat_map(|(item, value)| {
         (0..BENCHES.pow(3)).map(move |number| {
             let benches = [number, number / BENCHES, number / BENCHES.pow(2)];
             let name = ITEMS[item - 1].0;
-            let refused = [name.into(), format!("{name}x 1"), format!("{name} a'")];
+            let refused = [name.into(), format!("{name}x 1"), format!("{name} 'x'")];
             let values = [value, "?", value].into_iter().zip(benches).zip(&refused);
             let calls = values.flat_map(|((value, bench), refused)| {
                 let (bench, line) = ((bench % BENCHES) as u64, format!("{name} {value}"));
