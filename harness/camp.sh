@@ -99,7 +99,7 @@ refusals_of() {
     BEGIN {
         split("this bench is not there: a pair begins with 0, 1, 2 or 3|the desk is not sound|this key does nothing here|the line is full" \
             "|not a name, a space and a value|no item has this name|not a number, or no category, as this item wants" \
-            "|the rest of the log is too short for this entry", means, "|")
+            "|the rest of the log is too short for this entry|this value belongs to another bench", means, "|")
     }
     function named(bench, b) {
         return b == 10 ? "Enter after `" line[bench] "`" : b == 8 ? "erase" : b == 24 ? "empty the line" : b >= 32 && b <= 126 ? "key " sprintf("%c", b) : "byte " b
@@ -176,6 +176,17 @@ bench 3 has not entered `a`
 3 of 4 keys refused
 END_OF_LINES
 )"$'\n' '' "$camp" refusals - < <(printf '4\n3a/\n\0\0')
+    runs "camp refusals: items of others" 1 "$(sed "s/^/$about/" <<'END_OF_LINES'
+pair 84, bench 3: 9, this value belongs to another bench (Enter after `_refine_ls_R_factor_gt 0.3`)
+pair 85, bench 3: 9, this value belongs to another bench (Enter after `_refine_ls_R_factor_gt 0.3`)
+pair 159, bench 0: 7, not a number, or no category, as this item wants (Enter after `_refine_ls_wR_factor_obs 1234567890`)
+pair 161, bench 0: 9, this value belongs to another bench (Enter after `_refine_ls_wR_factor_obs 123456789`)
+pair 193, bench 1: 9, this value belongs to another bench (Enter after `_chemical_formula_sum 'C10 H20'`)
+bench 0 has not entered `_refine_ls_wR_factor_obs 123456789`
+bench 1 has not entered `_chemical_formula_sum 'C10 H20'`
+5 of 225 keys refused
+END_OF_LINES
+)"$'\n' '' "$camp" refusals - <$sessions/items_of_others.in
     runs "camp refusals: the first entry that the log has no room for" 1 $'8, the rest of the log is too short for this entry\n' '' \
         bash -o pipefail -c '"$1" refusals "$2" | sed -n "1s/.*bench [0-3]: \(.*\) (Enter after .*/\1/p"' - "$camp" $sessions/log_one_byte_too_short.in
     runs "camp refusals: an odd byte alone" 0 "$about"$'the last byte has no pair and is passed over\n'"$about"$'0 of 0 keys refused\n' '' "$camp" refusals - < <(printf 0)
@@ -255,6 +266,7 @@ who() {
     runs "camp who: an empty item" 1 "camp: $first.in: item 5 is empty"$'\n' '' "$camp" who $first.in _refine_ls_R_factor_obs
     runs "camp who: nothing typed" 1 $'camp: standard input: every item is empty\n' '' "$camp" who - </dev/null
     runs "camp who: an empty item of nothing typed" 1 $'camp: standard input: item 10 is empty\n' '' "$camp" who - 10 </dev/null
+    runs "camp who: the owner of an unassigned value" 0 $'item 1 _chemical_formula_sum: bench 2, entry 5, typed 2 times: \'C10 H22\'\n' '' "$camp" who $sessions/items_of_others.in 1
     runs "camp who: a refused Enter is not counted" 0 $'item 2 _chemical_formula_weight: bench 3, entry 2, typed 2 times: 45.\n' '' \
         "$camp" who - < <(printf '%s\n' '_chemical_formula_weight 45.' '_chemical_formula_weight 45.' '_chemical_formula_weight 4 5' | typed 3)
     for input in $sessions/*.in; do

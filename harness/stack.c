@@ -141,8 +141,8 @@ int main(void) {
     print("wall_grade", grade, base);
     print("desk_fresh", fresh, base);
     for (size_t at = 0; at < sizeof lines / sizeof *lines; at++) {
-        type(0, lines[at]);
-        type(0, "\n");
+        type(1, lines[at]);
+        type(1, "\n");
     }
     type(1, lines[3]);
     print("desk_key, a byte appended", append, base);

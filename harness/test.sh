@@ -313,6 +313,31 @@ rewritten() {
     echo "dump|lines=,,, counts=3 items=0:4:0:3:3:302e32 used=26 log=${records}090001000004302e32b6bdc4cb"
 }
 
+# An item of another bench: 9 after 7 and before 8, the line kept and corrected, and its owner's next entry.
+owned() {
+    echo 'new 33 0|ok'
+    typed 0 '_refine_ls_R_factor_gt ?'
+    echo 'k 0 10|0'
+    typed 1 '_refine_ls_R_factor_gt 0.x'
+    echo 'k 1 10|7'
+    echo 'k 1 8|0'
+    echo 'k 1 50|0'
+    echo 'k 1 10|9'
+    echo 'who 0 4|0 0 1 1'
+    echo 'dump|lines=,5f726566696e655f6c735f525f666163746f725f677420302e32,, counts=1 items=0:4:0:1:1:3f used=7 log=0700010000043f31383f464d545b626970777e858c939aa1a8afb6bdc4cbd2d9e0'
+    echo 'k 1 10|9'
+    typed 0 '_refine_ls_R_factor_gt 0.123456(7)'
+    echo 'k 0 10|0'
+    echo 'who 0 4|0 0 2 2'
+    echo 'k 1 10|9'
+    typed 0 '_refine_ls_R_factor_gt 0.16'
+    echo 'k 0 10|8'
+    echo 'k 0 8|0'
+    echo 'k 0 10|0'
+    echo 'k 1 10|9'
+    echo 'who 0 4|0 0 3 3'
+}
+
 # Before the first fresh desk, several of them, dumps between calls, and wrong commands.
 fresh_desks() {
     echo 'dump|lines=,,, counts=0 items= used=0 log='
@@ -379,12 +404,14 @@ trace_keys() {
     trace_table "reference's trace: keys" reference-trace < <(session)
     trace_table "reference's trace: questions" reference-trace < <(questions)
     trace_table "reference's trace: an item rewritten" reference-trace < <(rewritten)
+    trace_table "reference's trace: an item of another bench" reference-trace < <(owned)
     trace_table "reference's trace: fresh desks" reference-trace < <(fresh_desks)
     trace_table "reference's trace: files" reference-trace < <(files)
     trace_table "reference's trace: symmetry" reference-trace < <(symmetry)
     trace_table "trace: keys" < <(session)
     trace_table "trace: questions" < <(questions)
     trace_table "trace: an item rewritten" < <(rewritten)
+    trace_table "trace: an item of another bench" < <(owned)
     trace_table "trace: fresh desks" < <(fresh_desks)
     trace_table "trace: files" < <(files)
     trace_table "trace: symmetry" < <(symmetry)

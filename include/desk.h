@@ -2,7 +2,7 @@
  * The desk: four benches, one sheet of ten items, a count of accepted entries, and a log.
  *
  * Link with libexport_desk.a. The rules are those of document 01 and of document 02, No. 1, 2, 4,
- * 6 and 7.
+ * and 6 to 8.
  *
  * Memory: a desk lives in two runs that the caller lends to every call, `texts` of DESK_TEXTS bytes
  * and `numbers` of DESK_NUMBERS numbers; zeros in both are a fresh desk. Its log is a run of bytes,
@@ -67,6 +67,7 @@ uint8_t desk_fresh(uint8_t *texts, size_t texts_length, size_t *numbers, size_t 
 /*
  * One key of a bench. 32 to 126 are appended to the bench's line, 8 erases its last byte, 24 empties
  * it, 10 is Enter, which stores the value, writes its record to the log and empties the line. The
+ * bench whose entry first fills an item owns it, also where that value was ? or . for unassigned. The
  * first that applies:
  *   1  the bench is not 0 to 3
  *   2  the memory is no desk, or the desk is not sound, or not with this log
@@ -75,6 +76,7 @@ uint8_t desk_fresh(uint8_t *texts, size_t texts_length, size_t *numbers, size_t 
  *   5  Enter: the line is not a name, spaces and a value
  *   6  Enter: the name is none of the ten
  *   7  Enter: the value fails its item's kind
+ *   9  Enter: the item is owned by another bench
  *   8  Enter: the record is longer than the unused part of the log
  *   0  accepted
  * A refusal changes nothing.

@@ -1,4 +1,4 @@
-/* What the numbers of refusals mean, in words to the counsellor: document 01, document 02 from 10 on. */
+/* What the numbers of refusals mean, in words to the counsellor: document 01, document 02 from 9 on. */
 #include "meanings.h"
 
 #include <stddef.h>
@@ -12,6 +12,7 @@ static const char *const meanings[] = {
     [6] = "no item has this name",
     [7] = "not a number, or no category, as this item wants",
     [8] = "the rest of the log is too short for this entry",
+    [9] = "this value belongs to another bench",
     [10] = "the file is longer than the bytes lent for it",
     [11] = "not 1 to 32 letters, digits or -",
     [13] = "not an operator",

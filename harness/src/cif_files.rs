@@ -64,7 +64,7 @@ impl Typist {
         entries
     }
 
-    /// Types the entries, each from some bench, and writes both files.
+    /// Types the entries, those of an item from one bench, and writes both files.
     fn sheet(
         &mut self,
         program: &dyn Program,
@@ -73,8 +73,9 @@ impl Typist {
         name: &str,
     ) -> Result<(), String> {
         let mut memory = State::fresh(LOG, 0).memory();
+        let owners = ITEMS.map(|_| self.random.below(BENCHES) as u64);
         for entry in entries {
-            let (line, bench) = (self.line(entry), self.random.below(BENCHES) as u64);
+            let (line, bench) = (self.line(entry), owners[entry.0 - 1]);
             for byte in line.iter().chain([&ENTER]) {
                 let answer = program.key(&mut memory, bench, *byte);
                 if answer != ACCEPTED {

@@ -5,7 +5,7 @@ use crate::desks::State;
 use crate::program::Program;
 use crate::sheet_lists::longest_formula;
 use crate::tally::Tally;
-use reference::desk::{LOG_FULL, NOT_SOUND, RECORD_HEAD};
+use reference::desk::{NOT_OWNER, NOT_SOUND, RECORD_HEAD};
 use reference::line::LIMIT;
 use reference::names::ITEMS;
 use reference::program::{cif_program, keys, program, LOG};
@@ -79,6 +79,7 @@ pub fn scripts() -> Vec<Script> {
         ("log_one_byte_too_short", log_one_byte_too_short()),
         ("all_ten_items", all_ten_items()),
         ("overwritten", overwritten()),
+        ("items_of_others", items_of_others()),
         ("erase_and_cancel", erase_and_cancel()),
         ("line_of_199", line_of_199()),
         ("line_of_200", line_of_200()),
@@ -138,10 +139,9 @@ fn refused_enter_of_another() -> Vec<u8> {
 /// Records as long as an entry's can be, then one that takes the rest of the log to its last byte; one
 /// more finds no room.
 fn log_filled_to_its_end() -> Vec<u8> {
-    let bench = |entry: usize| b'0' + (entry % 4) as u8;
-    let filled = (0..LONGEST_RECORDS).flat_map(|entry| typed(bench(entry), formula(LONGEST)));
+    let filled = (0..LONGEST_RECORDS).flat_map(|_| typed(b'3', formula(LONGEST)));
     let rest = LOG % (RECORD_HEAD + LONGEST) - RECORD_HEAD;
-    let last = typed(bench(LONGEST_RECORDS), formula(rest));
+    let last = typed(b'3', formula(rest));
     filled.chain(last).chain(typed(b'1', R_FACTOR)).collect()
 }
 
@@ -149,7 +149,7 @@ fn log_filled_to_its_end() -> Vec<u8> {
 fn log_one_byte_too_short() -> Vec<u8> {
     let before = (0..LONGEST_RECORDS).flat_map(|_| typed(b'2', formula(LONGEST)));
     let rest = LOG % (RECORD_HEAD + LONGEST) - RECORD_HEAD;
-    let ends = [typed(b'0', formula(rest + 1)), typed(b'0', "\x08\n")];
+    let ends = [typed(b'2', formula(rest + 1)), typed(b'2', "\x08\n")];
     before.chain(ends.concat()).chain(typed(b'1', R_FACTOR)).collect()
 }
 
@@ -168,13 +168,28 @@ fn all_ten_items() -> Vec<u8> {
     ])
 }
 
+/// Values typed over by the bench that owns them.
 fn overwritten() -> Vec<u8> {
     [
         together(&[(b'0', R_FACTOR), (b'1', WR_FACTOR)]),
-        typed(b'3', "_refine_ls_R_factor_gt 0.3\n"),
-        typed(b'2', "_refine_ls_wR_factor_obs ?\n"),
-        typed(b'0', "_refine_ls_wR_factor_obs 1234567890\n"),
-        typed(b'1', "_refine_ls_R_factor_gt    0.04(2)\n"),
+        typed(b'0', "_refine_ls_R_factor_gt 0.3\n"),
+        typed(b'1', "_refine_ls_wR_factor_obs ?\n"),
+        typed(b'1', "_refine_ls_wR_factor_obs 1234567890\n"),
+        typed(b'0', "_refine_ls_R_factor_gt    0.04(2)\n"),
+    ]
+    .concat()
+}
+
+/// Values that belong to another bench, one of them unassigned; the line of one is corrected to an item
+/// that is free, and the owner corrects its own.
+fn items_of_others() -> Vec<u8> {
+    [
+        together(&[(b'0', R_FACTOR), (b'1', WR_FACTOR)]),
+        typed(b'3', "_refine_ls_R_factor_gt 0.3\n\n\x08\x08\x08\x08\x08\x08obs 0.3\n"),
+        typed(b'2', "_chemical_formula_sum ?\n"),
+        typed(b'0', "_refine_ls_wR_factor_obs 1234567890\n\x08\n"),
+        typed(b'1', "_chemical_formula_sum 'C10 H20'\n"),
+        typed(b'2', "_chemical_formula_sum 'C10 H22'\n"),
     ]
     .concat()
 }
@@ -203,7 +218,7 @@ fn line_of_200() -> Vec<u8> {
     [
         typed(b'0', spaces + "5\n"),
         typed(b'1', value.trim_end().to_string() + "H\n"),
-        typed(b'2', summed),
+        typed(b'1', summed),
         sheet(&[(2, "49852015.4"), (3, "FM")]),
     ]
     .concat()
@@ -220,7 +235,8 @@ fn unassigned() -> Vec<u8> {
     let values: Vec<(usize, &str)> = (1..=ITEMS.len()).zip(marks).collect();
     [
         sheet(&values),
-        typed(b'2', "_refine_ls_R_factor_gt '?'\n\x18_reflns_threshold_expression '?'\n"),
+        typed(b'3', "_refine_ls_R_factor_gt '?'\n"),
+        typed(b'1', "_reflns_threshold_expression '?'\n"),
     ]
     .concat()
 }
@@ -232,8 +248,8 @@ fn quoted() -> Vec<u8> {
         typed(b'0', "_chemical_formula_sum 'C10 H20\"\n\x08'\n"),
         typed(b'3', "_reflns_threshold_expression \"F^2^ > 4.5\\s(F^2^)\"\n"),
         typed(b'2', "_publ_requested_category 'C'O'\n\x08\x08\x08O'\n"),
-        typed(b'2', "_chemical_formula_sum \"'\"\n"),
-        typed(b'1', "_reflns_threshold_expression ''\n"),
+        typed(b'0', "_chemical_formula_sum \"'\"\n"),
+        typed(b'3', "_reflns_threshold_expression ''\n"),
     ]
     .concat()
 }
@@ -395,7 +411,7 @@ pub fn write(folder: &Path) -> Result<(), String> {
 /// The answers of keys, and the levels and reasons of the rows, that no session has. A desk that
 /// starts fresh, with such a log, is always sound.
 fn left_out(scripts: &[Script]) -> Vec<String> {
-    let (mut tally, mut seen) = (Tally::default(), [false; LOG_FULL as usize + 1]);
+    let (mut tally, mut seen) = (Tally::default(), [false; NOT_OWNER as usize + 1]);
     for (_, input) in scripts {
         let mut state = State::fresh(LOG, 0);
         for (bench, byte) in keys(input) {
@@ -404,7 +420,7 @@ fn left_out(scripts: &[Script]) -> Vec<String> {
         tally.note_rows(&Reference.report(&state.memory()).rows);
     }
     let answers =
-        (0..=LOG_FULL).filter(|&answer| answer != NOT_SOUND && !seen[usize::from(answer)]);
+        (0..=NOT_OWNER).filter(|&answer| answer != NOT_SOUND && !seen[usize::from(answer)]);
     let answers = answers.map(|answer| format!("answer {answer}"));
     answers.chain(tally.missing_rows()).collect()
 }

@@ -22,7 +22,8 @@ use crate::inputs::{Inputs, ROWS};
 use crate::program::{Answer, Call, Program};
 use crate::random::Random;
 use crate::sequences::{
-    desk_sessions, few_calls, log_lengths, measured_examples, rewritten, Sequence, Sequences,
+    contended, desk_sessions, few_calls, log_lengths, measured_examples, rewritten, Sequence,
+    Sequences,
 };
 use crate::sheet_lists;
 use crate::sheets::Sheets;
@@ -147,13 +148,13 @@ pub fn write_examples(folder: &Path) -> Result<(), String> {
 }
 
 /// The measured examples, as they are and typed, the sessions of desk with their files, and sequences
-/// about the length of the log, the order of few calls and items typed again.
+/// about the length of the log, the order of few calls, and items typed again and by another bench.
 pub fn write_lists(folder: &Path) -> Result<(), String> {
     let mut frames = Frames::default();
     frames.examples();
     let lists = measured_examples().chain(log_lengths()).chain(desk_sessions());
     let lists = lists.chain(few_calls().step_by(9)).chain(rewritten().step_by(8));
-    lists.for_each(|sequence| frames.sequence(&sequence));
+    lists.chain(contended().step_by(10)).for_each(|sequence| frames.sequence(&sequence));
     for (number, (_, input)) in (1..).zip(desk_sessions::scripts()) {
         let calls: Vec<Call> =
             keys(&input).map(|(bench, byte)| Call::Key { bench, byte }).collect();

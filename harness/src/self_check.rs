@@ -3,6 +3,7 @@
 
 mod files;
 mod keys;
+mod owners;
 mod questions;
 mod rows;
 mod symmetry;
@@ -78,12 +79,13 @@ fn change(memory: &mut Memory, change: impl FnOnce(&mut Desk)) {
 
 /// Prints one line for each fault; answers how many were found and how many not.
 pub fn run() -> (usize, usize) {
-    let lists: [&[(&str, Wrong)]; 7] = [
+    let lists: [&[(&str, Wrong)]; 8] = [
         &texts::FAULTS,
         &rows::FAULTS,
         &keys::FAULTS,
         &questions::FAULTS,
         &times::FAULTS,
+        &owners::FAULTS,
         &files::FAULTS,
         &symmetry::FAULTS,
     ];

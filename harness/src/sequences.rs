@@ -318,15 +318,15 @@ fn entered(bench: u64, line: &str) -> impl Iterator<Item = Call> + '_ {
     keys.map(move |byte| Call::Key { bench, byte })
 }
 
-/// One item typed by every three benches, each time after an Enter that is refused, with Who after
-/// it; in turn with room for all records, and one byte short for the third and for the second. And an
-/// item that is typed twelve times.
+/// One item typed by every three benches, each time after an Enter that is refused with 5, 6 or 7,
+/// with Who after it; in turn with room for all records, and one byte short for the third and for the
+/// second. And an item that its bench types twelve times.
 pub fn rewritten() -> impl Iterator<Item = Sequence> {
-    let every = [(1, "'C H4'"), (3, "FO"), (4, "0.16")].into_iter().flat_map(|(item, value)| {
+    let every = [(3, "FO"), (4, "0.16"), (9, "-0.06")].into_iter().flat_map(|(item, value)| {
         (0..BENCHES.pow(3)).map(move |number| {
             let benches = [number, number / BENCHES, number / BENCHES.pow(2)];
             let name = ITEMS[item - 1].0;
-            let refused = [name.into(), format!("{name}x 1"), format!("{name} a'")];
+            let refused = [name.into(), format!("{name}x 1"), format!("{name} 'x'")];
             let values = [value, "?", value].into_iter().zip(benches).zip(&refused);
             let calls = values.flat_map(|((value, bench), refused)| {
                 let (bench, line) = ((bench % BENCHES) as u64, format!("{name} {value}"));
@@ -343,9 +343,37 @@ pub fn rewritten() -> impl Iterator<Item = Sequence> {
     });
     let calls = (0..12).flat_map(|entry| {
         let line = format!("{} {entry}", ITEMS[3].0);
-        let keys: Vec<Call> = entered(entry % BENCHES as u64, &line).collect();
+        let keys: Vec<Call> = entered(2, &line).collect();
         keys.into_iter().chain([Call::Who { item: 4 }, Call::Who { item: 5 }])
     });
     let twelve = Sequence { calls: calls.collect(), log: vec![0xee; LOG] };
     every.chain([twelve])
+}
+
+/// Another bench types the item of an owner, first while its value is assigned or not: with Enter twice,
+/// while the owner types it again, with a value of another kind, and corrected to an item that is free.
+/// The log has each room about its record.
+pub fn contended() -> impl Iterator<Item = Sequence> {
+    let benches = (0..BENCHES * BENCHES).map(|pair| [pair / BENCHES, pair % BENCHES]);
+    benches.filter(|[owner, other]| owner != other).flat_map(|[owner, other]| {
+        ["0.16", "?", "."].into_iter().flat_map(move |first| {
+            [0, 6, 8, 9, 10, 18, 40].into_iter().map(move |room| {
+                let texts = [
+                    (owner, format!("_refine_ls_R_factor_gt {first}\n")),
+                    (other, "_refine_ls_R_factor_gt 0.2\n\n".into()),
+                    (owner, "_refine_ls_R_factor_gt ?\n\x18".into()),
+                    (other, "\n\x08x\n\x083\n".into()),
+                    (other, "\x08\x08\x08\x08\x08\x08obs 0.2\n".into()),
+                    (owner, "_refine_ls_R_factor_obs 0.3\n".into()),
+                ];
+                let questions = [Call::Who { item: 4 }, Call::Who { item: 5 }, Call::Report];
+                let calls = texts.into_iter().flat_map(|(bench, text)| {
+                    let key = |byte| Call::Key { bench: bench as u64, byte };
+                    text.into_bytes().into_iter().map(key).chain(questions).collect::<Vec<_>>()
+                });
+                let log = vec![0x5a; RECORD_HEAD + first.len() + room];
+                Sequence { calls: calls.collect(), log }
+            })
+        })
+    })
 }

@@ -37,7 +37,7 @@ const WITHOUT_CARBON: &[&str] = &[
 const AROUND_POINT: &[&str] = &["plain", "signed", "uncertain", "both"];
 
 /// Each question with its possible answers; an answer without a name is none.
-const QUESTIONS: [(&str, &[&str]); 57] = [
+const QUESTIONS: [(&str, &[&str]); 59] = [
     ("line", &["0", "5", "6", "7"]),
     ("row 6", GRADES),
     ("row 8", GRADES),
@@ -47,7 +47,7 @@ const QUESTIONS: [(&str, &[&str]); 57] = [
     ("value", &["none", "unassigned", "bare", "quoted"]),
     ("line's form", &["no", "yes"]),
     ("item", &["none", "1", "2", "3", "4", "5", "6", "7", "8", "9", "10"]),
-    ("key", &["0", "1", "2", "3", "4", "5", "6", "7", "8"]),
+    ("key", &["0", "1", "2", "3", "4", "5", "6", "7", "8", "9"]),
     ("key accepted", &["append", "erase", "erase nothing", "empty", "Enter"]),
     ("entry's bench", &["0", "1", "2", "3"]),
     ("entry's item", &["1", "2", "3", "4", "5", "6", "7", "8", "9", "10"]),
@@ -57,7 +57,7 @@ const QUESTIONS: [(&str, &[&str]); 57] = [
     ("texts, numbers", &["- -", "- =", "- +", "= -", "= =", "= +", "+ -", "+ =", "+ +"]),
     ("log played on", &["of none", "shorter", "of the limit", "too long"]),
     ("gathering", &["changes nothing", "moves keys"]),
-    ("played key", &["0", "1", "2", "3", "4", "5", "6", "7", "8"]),
+    ("played key", &["0", "1", "2", "3", "4", "5", "6", "7", "8", "9"]),
     ("played Who", &["0 by 0", "0 by 1", "0 by 2", "0 by 3", "0 empty", "6"]),
     ("file", &["0", "2", "10", "11"]),
     ("filled items", &["0", "1", "2", "3", "4", "5", "6", "7", "8", "9", "10"]),
@@ -93,8 +93,10 @@ const QUESTIONS: [(&str, &[&str]); 57] = [
     ("old build's desk", REFUSED),
     ("of 36 numbers", REFUSED),
     ("played times", &["0", "1", "2", "3", "4 to 9", "more"]),
-    ("entered item", &["empty", "by its bench", "by another"]),
-    ("filled, refused", &["7", "8"]),
+    ("entered item", &["empty", "filled"]),
+    ("filled, refused", &["own 7", "own 8", "another's 7", "another's 9"]),
+    ("9 with", &["room", "exact room", "one byte less", "no room"]),
+    ("9 of", &["a value", "?", "."]),
 ];
 /// What a desk of an earlier build is answered.
 const REFUSED: &[&str] = &["fresh 2", "key 2", "key 1", "Report 2", "Who 2", "file 2"];
@@ -169,7 +171,9 @@ pub enum Question {
     OldNumbers,
     PlayedTimes,
     Entered,
-    NotCounted,
+    FilledRefused,
+    NotOwnerRoom,
+    NotOwnerValue,
 }
 
 const GRADED: &[(u8, u8)] = &[(0, 0), (2, 0), (3, 0), (4, 0), (2, 1)];

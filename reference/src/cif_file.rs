@@ -54,10 +54,10 @@ mod tests {
     use super::*;
     use crate::desk::{key, FRESH};
 
-    /// A desk on which one bench after the other typed these lines, each accepted.
+    /// A desk on which benches 0 to 2 in turn typed these lines, each accepted.
     fn typed(lines: &[&str]) -> Desk {
         let (mut desk, mut log, mut used) = (FRESH, [0; 4096], 0);
-        for (line, bench) in lines.iter().zip([0, 1, 2, 3].into_iter().cycle()) {
+        for (line, bench) in lines.iter().zip([0, 1, 2].into_iter().cycle()) {
             for byte in line.bytes().chain([10]) {
                 assert_eq!(key(&mut desk, &mut log, &mut used, bench, byte), ACCEPTED, "{line}");
             }

@@ -1,5 +1,5 @@
 //! The whole desk: document 01, "What the desk holds", "Keys and their refusals" and "The log", and
-//! how often an item was rewritten, by document 02, request No. 7.
+//! from document 02 how often an item was rewritten, request No. 7, and whose it is, request No. 8.
 
 use crate::line::{classify, split, ACCEPTED, BYTES, LIMIT};
 use crate::names::{item, passes, ITEMS};
@@ -33,6 +33,8 @@ pub const LINE_FULL: u8 = 4;
 pub const NO_SUCH_ITEM: u8 = 6;
 /// "the record is longer than the unused part of the log"
 pub const LOG_FULL: u8 = 8;
+/// "item owned by another bench, after 7 and before 8"
+pub const NOT_OWNER: u8 = 9;
 /// *Who*: "For an empty item, and with any refusal, bench is 255 and entry 0."
 pub const NO_BENCH: u8 = 255;
 
@@ -169,6 +171,9 @@ fn enter(desk: &mut Desk, log: &mut [u8], used: &mut u64, bench: u64) -> u8 {
         return refusal;
     };
     let number = item(name).expect("an accepted line names an item");
+    if is_owned_by_another(&desk.items[number - 1], bench) {
+        return NOT_OWNER;
+    }
     let record = record(bench as u8, number as u8, value);
     let free = &mut log[*used as usize..];
     if record.len() > free.len() {
@@ -181,6 +186,12 @@ fn enter(desk: &mut Desk, log: &mut [u8], used: &mut u64, bench: u64) -> u8 {
     *item = Item::holding(value, desk.count, bench, item.times + 1);
     desk.lines[bench as usize] = EMPTY_LINE;
     ACCEPTED
+}
+
+/// "The bench whose entry first fills an item owns it, also if that value was unassigned; nobody else
+/// may write it." So the bench that a filled item holds is its owner's.
+fn is_owned_by_another(item: &Item, bench: u64) -> bool {
+    item.len > 0 && item.bench != bench
 }
 
 /// "length of the whole record (two bytes), kind 1 (two bytes), bench, item, the value as typed;
@@ -412,14 +423,14 @@ mod tests {
     #[test]
     fn entries_replace_and_count() {
         let mut run = Run::new(4096);
-        assert_eq!(run.enter(0, "_chemical_formula_sum 'C10 H20'"), ACCEPTED);
+        assert_eq!(run.enter(3, "_chemical_formula_sum 'C10 H20'"), ACCEPTED);
         assert_eq!(run.enter(3, "_CHEMICAL_formula_SUM    ?"), ACCEPTED);
         assert_eq!(run.enter(2, "_refine_ls_shift/su_max -0.06(1)"), ACCEPTED);
         assert_eq!(who(&run.desk, 1), told(3, 2, 2));
         assert_eq!(who(&run.desk, 8), told(2, 3, 1));
         assert_eq!(run.desk.items[0].value, padded(b"?"));
         let records =
-            [record(0, 1, b"'C10 H20'"), record(3, 1, b"?"), record(2, 8, b"-0.06(1)")].concat();
+            [record(3, 1, b"'C10 H20'"), record(3, 1, b"?"), record(2, 8, b"-0.06(1)")].concat();
         assert_eq!(run.log[..run.used as usize], records);
         let (answer, rows) = report(&run.desk);
         assert_eq!((answer, rows[0].reason, rows[9].level), (0, 1, 2));
@@ -449,9 +460,9 @@ mod tests {
         ];
         let mut run = Run::new(200);
         for (entry, line) in (1..).zip(lines) {
-            let bench = entry % BENCHES as u64;
-            let number = item(line.split(' ').next().expect("a name").as_bytes());
-            let number = number.expect("a known name");
+            let name = line.split(' ').next().expect("a name");
+            let number = item(name.as_bytes()).expect("a known name");
+            let bench = (number % BENCHES) as u64;
             let before = who(&run.desk, number as u64).times;
             assert_eq!(run.enter(bench, line), ACCEPTED);
             assert_eq!(who(&run.desk, number as u64), told(bench as u8, entry, before + 1));
@@ -476,8 +487,61 @@ mod tests {
             assert_eq!(who(&run.desk, 4), told(0, 1, 1));
             assert_eq!(run.key(0, EMPTY), ACCEPTED);
         }
-        assert_eq!(run.enter(2, ENTRY), ACCEPTED);
-        assert_eq!((who(&run.desk, 4), run.records(4)), (told(2, 2, 2), 2));
+        assert_eq!(run.enter(2, ENTRY), NOT_OWNER);
+        assert_eq!(run.enter(0, ENTRY), ACCEPTED);
+        assert_eq!((who(&run.desk, 4), run.records(4)), (told(0, 2, 2), 2));
+    }
+
+    #[test]
+    fn the_first_bench_owns_the_item() {
+        for first in ["0.16", "?", "."] {
+            for (owner, other) in (0..4).flat_map(|owner| (0..4).map(move |other| (owner, other))) {
+                let mut run = Run::new(100);
+                assert_eq!(run.enter(owner, &format!("_refine_ls_R_factor_gt {first}")), ACCEPTED);
+                let answer = run.enter(other, "_REFINE_LS_R_FACTOR_GT 0.2");
+                assert_eq!(answer, if owner == other { ACCEPTED } else { NOT_OWNER });
+                assert_eq!(run.key(other, EMPTY), ACCEPTED);
+                assert_eq!(run.enter(owner, "_refine_ls_R_factor_gt ?"), ACCEPTED);
+                let entries = 2 + u64::from(owner == other);
+                assert_eq!(who(&run.desk, 4), told(owner as u8, entries, entries));
+                assert_eq!(run.enter(other, "_refine_ls_R_factor_obs 0.2"), ACCEPTED);
+            }
+        }
+    }
+
+    /// The answer to an Enter of bench 1, in a log with so much room after the entry of an owner.
+    fn answer_with_room(owner: u64, value: &str, room: usize) -> u8 {
+        let mut run = Run::new(10 + room);
+        assert_eq!(run.enter(owner, ENTRY), ACCEPTED);
+        run.enter(1, &format!("_refine_ls_R_factor_gt {value}"))
+    }
+
+    #[test]
+    fn refusal_9_stands_after_7_and_before_8() {
+        for room in [0, 6, 8, 9, 10, 50] {
+            for owner in [0, 2, 3] {
+                assert_eq!(answer_with_room(owner, "0.x", room), 7, "room {room}");
+                assert_eq!(answer_with_room(owner, "0.2", room), NOT_OWNER, "room {room}");
+                assert_eq!(answer_with_room(owner, "?", room), NOT_OWNER, "room {room}");
+            }
+            let fits = if room < 9 { LOG_FULL } else { ACCEPTED };
+            assert_eq!(answer_with_room(1, "0.2", room), fits, "room {room}");
+            assert_eq!(answer_with_room(1, "0.x", room), 7, "room {room}");
+        }
+    }
+
+    #[test]
+    fn a_line_refused_with_9_is_kept_for_correction() {
+        let mut run = Run::new(100);
+        assert_eq!(run.enter(3, ENTRY), ACCEPTED);
+        assert_eq!(run.enter(0, "_refine_ls_R_factor_gt 0.2"), NOT_OWNER);
+        assert_eq!(run.key(0, ENTER), NOT_OWNER);
+        assert_eq!(run.typed(0), b"_refine_ls_R_factor_gt 0.2");
+        for _ in 0.."gt 0.2".len() {
+            assert_eq!(run.key(0, ERASE), ACCEPTED);
+        }
+        assert_eq!(run.enter(0, "obs 0.2"), ACCEPTED);
+        assert_eq!((who(&run.desk, 4), who(&run.desk, 5)), (told(3, 1, 1), told(0, 2, 1)));
     }
 
     #[test]

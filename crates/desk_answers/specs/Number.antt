@@ -1,14 +1,15 @@
--- The numbers of the answers of a key call and of the two questions (document 01, "Keys and their refusals"), and of the file's writer (document 02, No. 1).
+-- The numbers of the answers of a key call and of the two questions (document 01, "Keys and their refusals"; document 02, No. 8), and of the file's writer
+-- (document 02, No. 1).
 -- Assumes nothing.
 use Prim.Native.Nat.{ℕ}
 use Rattle.desk_answers.specs.declared.Answer.{Answer}
-use Rattle.desk_answers.specs.declared.Answer.the-variants.{Accepted, NoBench, Unsound, NoKey, LineFull, BadForm, UnknownName, WrongKind, NoRoom}
+use Rattle.desk_answers.specs.declared.Answer.the-variants.{Accepted, NoBench, Unsound, NoKey, LineFull, BadForm, UnknownName, WrongKind, Owned, NoRoom}
 use Rattle.desk_answers.specs.declared.Asked.{Asked}
 use Rattle.desk_answers.specs.declared.Asked.the-variants as asked
 use Rattle.desk_answers.specs.declared.FileAnswer.{FileAnswer}
 use Rattle.desk_answers.specs.declared.FileAnswer.the-variants as file
 
--- the numbers of "Keys and their refusals"
+-- the numbers of "Keys and their refusals"; document 02, No. 8: "9, item owned by another bench, after 7 and before 8"
 abbrev pub answerNumber : Answer → ℕ
 answerNumber Accepted = 0
 answerNumber NoBench = 1
@@ -18,6 +19,7 @@ answerNumber LineFull = 4
 answerNumber BadForm = 5
 answerNumber UnknownName = 6
 answerNumber WrongKind = 7
+answerNumber Owned = 9
 answerNumber NoRoom = 8
 
 -- the numbers of "Two questions": "2 if unsound, else 6 if not 1 to 10; else 0"

@@ -1,4 +1,4 @@
-// The answers of a key call and of the two questions, and their numbers (document 01, "Keys and their refusals"), and those of the file's writer (document 02, No. 1).
+// The answers of a key call and of the two questions, and their numbers (document 01, "Keys and their refusals"; document 02, No. 8), and those of the file's writer (document 02, No. 1).
 ghost use mathlib.Core.Path.{_≡_};
 ghost use Rattle.desk_answers.specs.Number.{answerNumber, askedNumber, fileNumber};
 
@@ -12,6 +12,7 @@ pub enum Answer {
     BadForm,
     UnknownName,
     WrongKind,
+    Owned,
     NoRoom,
 }
 
@@ -28,6 +29,7 @@ pub fn answer_number(a: Answer) -> u8
         Answer::BadForm => 5,
         Answer::UnknownName => 6,
         Answer::WrongKind => 7,
+        Answer::Owned => 9,
         Answer::NoRoom => 8,
     }
 }

@@ -1,11 +1,11 @@
 -- What the steps of a key leave in lent memory, by cases.
 -- Assumes nothing.
-use mathlib.Core.Path.{_≡_, ap, _∙_}
+use mathlib.Core.Path.{_≡_, sym, ap, _∙_}
 use mathlib.Core.List.{List}
 use Prim.Native.Nat.{ℕ, _+_, _*_, _-_, _≤_, _<_}
 use native.Mathlib.Omega.{arith}
 use borrow.Author.Tests.{lt-ltb, le-ltb, le-leb, lt-leb}
-use lib.ListN.{getD, set}
+use lib.ListN.{getD, take, drop, set}
 use lib.Seq.{getD-set-other}
 use Rattle.line_items.specs.Typed.{lineMost}
 use Rattle.line_items.specs.Items.{itemCount}
@@ -15,9 +15,9 @@ use Rattle.desk_state.specs.Sheets.{itemAt}
 use Rattle.desk_state.specs.declared.line.Line.{Line}
 use Rattle.desk_state.specs.declared.sheet.Item.{Item}
 use Rattle.desk_state.specs.declared.sheet.Sheet.{Sheet}
-use Rattle.desk_keys.specs.Key.{edited, appendKey}
-use Rattle.desk_memory.specs.Memory.{usedAt, Sized, textsOf, numbersOf, deskOf, usedOf}
-use Rattle.desk_memory.proofs.Desks.{line-at, sheet-of, item-at, count-of}
+use Rattle.desk_keys.specs.Key.{edited, openTo, appendKey}
+use Rattle.desk_memory.specs.Memory.{itemNumbers, sheetsAt, usedAt, textsLength, Sized, slot, itemFrom, textsOf, numbersOf, deskOf, usedOf}
+use Rattle.desk_memory.proofs.Desks.{line-at, sheet-of, sheet-lent, item-at, count-of}
 use Rattle.desk_keys.specs.Lent.{leaves, Few, Lent}
 use Rattle.desk_keys.proofs.Stores.{appended-in, erased-in, same-line}
 
@@ -68,6 +68,14 @@ few-entries t n log k l item one most =
     let c = ap (λ (s : Sheet). s .count) (sheet-of t n) ∙ count-of (textsOf t 0) (numbersOf n 0) in
     let i = ap (λ (s : Sheet). itemAt s item .times) (sheet-of t n) ∙ ap (λ (x : Item). x .times) (item-at (textsOf t 0) (numbersOf n 0) (item - 1) (omega arith)) in
     record { count = omega (arith, r .few, c); times = omega (arith, r .named item one most, i) }
+
+-- whether an item is open to a bench, asked of the sheet's block of numbers as it is lent
+pub open-lent : (t n : List ℕ) (item bench : ℕ) → item - 1 < itemCount
+    → openTo (itemAt (deskOf t n .sheet) item) bench
+    ≡ openTo (itemFrom (slot lineMost (take (textsLength - sheetsAt) (drop sheetsAt t)) (item - 1)) (slot itemNumbers (take (usedAt - benchCount) (drop benchCount n)) (item - 1))) bench
+open-lent t n item bench h =
+    ap (λ (s : Sheet). openTo (itemAt s item) bench) (sym (sheet-lent t n))
+    ∙ ap (λ (i : Item). openTo i bench) (item-at (take (textsLength - sheetsAt) (drop sheetsAt t)) (take (usedAt - benchCount) (drop benchCount n)) (item - 1) h)
 
 -- memory with that used number
 pub leaves-desk : (a : ℕ) (t n log : List ℕ) {u : ℕ} → usedOf n ≡ u → leaves a t n log ≡ record { answer = a; desk = deskOf t n; used = u; log = log }

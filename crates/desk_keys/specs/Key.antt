@@ -1,7 +1,8 @@
--- What a key call does, for every desk, log, used number, bench number and byte (document 01, "Keys and their refusals").
+-- What a key call does, for every desk, log, used number, bench number and byte (document 01, "Keys and their refusals";
+-- document 02, No. 8).
 -- Assumes nothing.
 use Prim.Native.Nat.{ℕ, _+_, _-_}
-use mathlib.Core.Bool.{cond, _&&_}
+use mathlib.Core.Bool.{Bool, cond, _&&_, _||_}
 use mathlib.Core.List.{List}
 use lib.Dec.{ltb, eqb}
 use lib.ListN.{length, drop, set}
@@ -16,6 +17,7 @@ use Rattle.desk_state.specs.Desks.{benchCount, lineAt, withLine}
 use Rattle.desk_soundness.specs.Sound.{soundDesk}
 use Rattle.desk_soundness.specs.SoundLog.{soundLog}
 use Rattle.desk_state.specs.declared.line.Line.{Line}
+use Rattle.desk_state.specs.declared.sheet.Item.{Item}
 use Rattle.desk_state.specs.declared.sheet.Sheet.{Sheet}
 use Rattle.desk_state.specs.declared.desk.Desk.{Desk}
 
@@ -54,12 +56,22 @@ stored d used log bench item v =
     })
     (refused 8 d used log)
 
+-- document 02, No. 8: "The bench whose entry first fills an item owns it, also if that value was unassigned; nobody else may write it": a bench may write an
+-- item that is empty, and one that holds its number. An unassigned value is a value of one byte, so an item that holds it is not empty. That the bench which an
+-- item holds, the last to write it, is the first is `one-owner` (theorem_sequences/proofs/Owners.antt).
+unfoldable pub openTo : Item → ℕ → Bool
+openTo i bench = eqb (i .len) 0 || eqb (i .bench) bench
+
+-- "Refusals: 9, item owned by another bench, after 7 and before 8"
+unfoldable pub storedIfOpen : Desk → ℕ → List ℕ → ℕ → ℕ → List ℕ → After
+storedIfOpen d used log bench item v = cond (openTo (itemAt (d .sheet) item) bench) (stored d used log bench item v) (refused 9 d used log)
+
 -- Enter by what the line t is; "A refused Enter keeps the line for correction"
 abbrev pub enteredAs : Class → Desk → ℕ → List ℕ → ℕ → List ℕ → After
 enteredAs class.BadForm d used log bench t = refused 5 d used log
 enteredAs class.UnknownName d used log bench t = refused 6 d used log
 enteredAs class.WrongKind d used log bench t = refused 7 d used log
-enteredAs (class.Entry item start) d used log bench t = stored d used log bench item (drop start t)
+enteredAs (class.Entry item start) d used log bench t = storedIfOpen d used log bench item (drop start t)
 
 -- the bench's Enter, with what is typed on its line
 abbrev pub enter : Desk → ℕ → List ℕ → ℕ → After

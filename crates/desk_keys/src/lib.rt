@@ -8,8 +8,8 @@ ghost use Rattle.line_items.specs.Items.{itemCount};
 ghost use Rattle.desk_answers.specs.Number.{answerNumber};
 ghost use Rattle.desk_state.specs.Lines.{typed, emptyLine, erased};
 ghost use Rattle.desk_state.specs.Desks.{benchCount, lineAt, withLine};
-ghost use Rattle.desk_memory.specs.Memory.{sheetNumbers, sheetsAt, Sized, numbersOf, deskOf, usedOf};
-ghost use Rattle.desk_keys.specs.Key.{edited, entered, stored, enter, appendKey, keyStep};
+ghost use Rattle.desk_memory.specs.Memory.{itemNumbers, sheetNumbers, sheetsAt, Sized, slot, itemFrom, numbersOf, deskOf, usedOf};
+ghost use Rattle.desk_keys.specs.Key.{edited, entered, stored, openTo, storedIfOpen, enter, appendKey, keyStep};
 ghost use Rattle.desk_keys.specs.Lent.{leaves, KeyLent, entryDesk, Few, EntryNumbers, Lent};
 use desk_answers::Answer;
 use desk_log::Written;
@@ -20,6 +20,7 @@ use desk_memory::ITEM_NUMBERS;
 use desk_memory::LEN_AT;
 use desk_memory::TIMES_AT;
 use desk_memory::USED_AT;
+use desk_memory::number_at;
 use desk_state::desk::BENCH_COUNT;
 use line_items::LINE_MOST;
 use line_reader::line::Class;
@@ -144,6 +145,34 @@ fn store(
     Answer::Accepted
 }
 
+// Whether a bench may write the item at a place of a sheet's block, whatever its value: the item is empty, or the bench's own.
+fn is_open(numbers: &[usize], k: usize, bench: usize) -> bool
+    ensures { λ r. ⌜ ((value : List ℕ) → r ≡ openTo (itemFrom value (slot itemNumbers (now (numbers .entry)) k)) bench) ⌝ }
+{
+    if number_at(numbers, k, LEN_AT) < 1 {
+        return true;
+    }
+    number_at(numbers, k, BENCH_AT) == bench
+}
+
+// The value is stored, as `store` says, if no other bench owns the item.
+fn store_if_open(
+    texts: &mut [u8],
+    numbers: &mut [usize],
+    log: &mut [u8],
+    bench: usize,
+    item: usize,
+    start: usize,
+) -> Answer
+    requires { ⌜ (1 ≤ item) × (item ≤ itemCount) × (start ≤ getD (now numbers) bench 0) × Lent (now texts) (now numbers) (now log) bench ⌝ }
+    ensures { λ r. ⌜ leaves (answerNumber r) (now (texts .exit)) (now (numbers .exit)) (now (log .exit)) ≡ storedIfOpen (deskOf (now (texts .entry)) (now (numbers .entry))) (usedOf (now (numbers .entry))) (now (log .entry)) bench item (drop start (typed (lineAt (deskOf (now (texts .entry)) (now (numbers .entry))) bench))) ⌝ }
+{
+    if !is_open(&numbers[BENCH_COUNT..USED_AT], item - 1, bench) {
+        return Answer::Owned;
+    }
+    store(texts, numbers, log, bench, item, start)
+}
+
 // Enter, with what is typed on the bench's line.
 fn enter_line(texts: &mut [u8], numbers: &mut [usize], log: &mut [u8], bench: usize) -> Answer
     requires { ⌜ Lent (now texts) (now numbers) (now log) bench ⌝ }
@@ -156,7 +185,7 @@ fn enter_line(texts: &mut [u8], numbers: &mut [usize], log: &mut [u8], bench: us
         Class::BadForm => Answer::BadForm,
         Class::UnknownName => Answer::UnknownName,
         Class::WrongKind => Answer::WrongKind,
-        Class::Entry(item, start) => store(texts, numbers, log, bench, item, start),
+        Class::Entry(item, start) => store_if_open(texts, numbers, log, bench, item, start),
     }
 }
 

@@ -1,10 +1,12 @@
--- The examples that document 01 marks with [P], as one table ("Measured examples"), with those of document 02's requests, and one of document 01's
--- "Errors a good programmer makes here".
+-- The examples that document 01 marks with [P], as one table ("Measured examples"), with those of document 02's requests, one of document 01's
+-- "Errors a good programmer makes here", and two sequences in which an item has an owner (document 02, No. 8).
 -- `examples-hold`, in proofs/Hold.antt, is the one statement about it.
 -- Assumes nothing.
 use Prim.Native.Nat.{ℕ, _-_}
 use Prim.Native.String.{String}
+use mathlib.Core.Bool.{cond}
 use mathlib.Core.List.{List, [], _∷_, _++_}
+use lib.Dec.{eqb}
 use lib.ListN.{getD, set, take, replicate}
 use Rattle.text.specs.Quote.{bytes}
 use Rattle.formula_sum.specs.Sum.{sumOf}
@@ -15,10 +17,11 @@ use Rattle.desk_state.specs.declared.sheet.Item.{Item}
 use Rattle.rows.specs.Rows.{rowOf, noRows}
 use Rattle.rows_sheet.specs.Sheet.{rowsOf}
 use Rattle.rows.specs.declared.Row.{Row}
+use Rattle.rows.specs.declared.Rows.{Rows}
 use Rattle.rows_levels.specs.Bounds.{gradedOf, gradedNumber, gradedLevel}
 use Rattle.rows_levels.specs.declared.Graded.{Graded}
-use Rattle.theorem_sequences.specs.Calls.{Call, key, typing, State}
-use Rattle.theorem_sequences.specs.Sequences.{stateAfter}
+use Rattle.theorem_sequences.specs.Calls.{Call, key, ask, typing, Reply, keyed, reported, told, State}
+use Rattle.theorem_sequences.specs.Sequences.{deskAnswers, stateAfter}
 
 -- a value typed for an item
 pub record Typed : Type 0 where
@@ -35,6 +38,8 @@ pub data Asked : Type 0 where
   graded : ℕ → String → Asked
   -- the log after a sequence of calls, from a fresh desk
   played : List Call → Asked
+  -- the answers of the Enters in a sequence of calls, from a fresh desk and a log of so many bytes
+  enters : ℕ → List Call → Asked
 
 -- a sheet that holds these values
 unfoldable pub sheetWith : List Typed → List Item
@@ -54,12 +59,26 @@ usedBytes s = take (s .used) (s .log)
 abbrev pub gradedNumbers : Graded → List ℕ
 gradedNumbers g = gradedNumber g ∷ gradedLevel g ∷ []
 
--- what the desk's definitions answer: the sum, the level and reason of a row, the wall screen's answer and level, the used bytes of a log of 64
+abbrev pub keyAnswer : Reply Rows → List ℕ
+keyAnswer (keyed n) = n ∷ []
+keyAnswer (reported n rows) = []
+keyAnswer (told w) = []
+
+abbrev pub enterAnswer : Call → Reply Rows → List ℕ
+enterAnswer (key bench byte) r = cond (eqb byte 10) (keyAnswer r) []
+enterAnswer (ask q) r = []
+
+abbrev pub enterAnswers : List (Call × Reply Rows) → List ℕ
+enterAnswers [] = []
+enterAnswers (p ∷ ps) = enterAnswer (p .0) (p .1) ++ enterAnswers ps
+
+-- what the desk's definitions answer: the sum, the level and reason of a row, the wall screen's answer and level, the used bytes of a log of 64, the answers of Enters
 unfoldable pub answerOf : Asked → List ℕ
 answerOf (sum formula) = summed (sumOf (bytes formula))
 answerOf (row n values) = rowNumbers (getD (rowsOf (record { items = sheetWith values; count = 1 }) .rows) (n - 1) (rowOf 9 9))
 answerOf (graded n value) = gradedNumbers (gradedOf n (bytes value))
 answerOf (played cs) = usedBytes (stateAfter rowsOf noRows (replicate 64 0) cs)
+answerOf (enters len cs) = enterAnswers (deskAnswers rowsOf noRows (replicate len 0) cs)
 
 pub record Example : Type 0 where
   pub asked : Asked
@@ -75,9 +94,12 @@ example asked answer = record { asked = asked; answer = answer }
 abbrev weighed : String → List Typed
 weighed weight = typed 1 "'C10 H20'" ∷ typed 2 weight ∷ []
 
--- a text typed at bench 0, and Enter
+-- a text typed at a bench, and Enter; at bench 0
+abbrev enteringAt : ℕ → String → List Call
+enteringAt bench text = typing bench (bytes text) ++ (key bench 10 ∷ [])
+
 abbrev entering : String → List Call
-entering text = typing 0 (bytes text) ++ (key 0 10 ∷ [])
+entering text = enteringAt 0 text
 
 -- the table: a level is 0 none, 2 C, 3 B, 4 A, reason 0 judged, 1 missing, 2 not judgeable
 unfoldable pub examples : List Example
@@ -116,4 +138,11 @@ examples =
     -- "Taking the bench from the first key after a refused Enter of another": bench 0's Enter is refused, bench 1 is the first to type after it, and the
     -- entry that bench 0 then corrects is bench 0's
     example (played (entering "_refine_ls_R_factor_gt" ++ (key 1 56 ∷ entering " 0.16")))
-    (10 ∷ 0 ∷ 1 ∷ 0 ∷ 0 ∷ 4 ∷ 48 ∷ 46 ∷ 49 ∷ 54 ∷ []) ∷ []
+    (10 ∷ 0 ∷ 1 ∷ 0 ∷ 0 ∷ 4 ∷ 48 ∷ 46 ∷ 49 ∷ 54 ∷ []) ∷
+    -- document 02, No. 8: bench 0's entry fills item 4 "also if that value was unassigned", and the log of 7 bytes; of bench 1 a value of a wrong kind gets 7,
+    -- and one of the right kind 9, where 8 would apply too; the owner, bench 0, gets 8
+    example (enters 7 (entering "_refine_ls_R_factor_gt ?" ++ (enteringAt 1 "_refine_ls_R_factor_gt x" ++ (key 1 8 ∷ enteringAt 1 "1" ++ entering "_refine_ls_R_factor_gt 2"))))
+    (0 ∷ 7 ∷ 9 ∷ 8 ∷ []) ∷
+    -- the owner may write its item again: both records are bench 0's
+    example (played (entering "_refine_ls_R_factor_gt ?" ++ (enteringAt 1 "_refine_ls_R_factor_gt 1" ++ entering "_refine_ls_R_factor_gt 2")))
+    (7 ∷ 0 ∷ 1 ∷ 0 ∷ 0 ∷ 4 ∷ 63 ∷ 7 ∷ 0 ∷ 1 ∷ 0 ∷ 0 ∷ 4 ∷ 50 ∷ []) ∷ []

@@ -19,7 +19,7 @@ use Rattle.desk_log.specs.Record.{recordLength, recordOf, withRecord}
 use Rattle.desk_state.specs.Lines.{typed}
 use Rattle.desk_state.specs.Desks.{lineAt}
 use Rattle.desk_state.specs.declared.desk.Desk.{Desk}
-use Rattle.desk_keys.specs.Key.{enteredAs, enter, stored}
+use Rattle.desk_keys.specs.Key.{storedIfOpen, enteredAs, enter}
 use Rattle.theorem_limits.specs.Before.{oldMost, oldClass, oldRecord}
 
 -- a line that the old limit allows is what it was: an entry of the same item and value, or the same refusal
@@ -38,9 +38,9 @@ entry-as-before t item start e =
     let short = leb-true (length t) oldMost (and-both (leb (length t) oldMost) (all isTyped t) (taken .0) .0) in
     line-as-before t short ∙ e
 
--- Enter stores it for the same item, with the same value
+-- Enter stores it for the same item, with the same value, if no other bench owns the item (document 02, No. 8)
 pub enter-as-before : (d : Desk) (used : ℕ) (log : List ℕ) (bench item start : ℕ)
-    → (let t = typed (lineAt d bench) in oldClass t ≡ Entry item start → enter d used log bench ≡ stored d used log bench item (drop start t))
+    → (let t = typed (lineAt d bench) in oldClass t ≡ Entry item start → enter d used log bench ≡ storedIfOpen d used log bench item (drop start t))
 enter-as-before d used log bench item start e =
     let t = typed (lineAt d bench) in
     ap (λ (c : Class). enteredAs c d used log bench t) (entry-as-before t item start e)

@@ -17,7 +17,9 @@ use Rattle.desk_questions.specs.Report.{Report, reportLent, reportedOf}
 use Rattle.desk_questions.specs.Who.{Who, whoLent, whoOf}
 use Rattle.theorem_sequences.specs.Calls.{Call, Reply, keyed, reported, told, State, stateOf, freshState, left, step, answered, final}
 use Rattle.theorem_sequences.specs.Logged.{recordsNaming}
-use Rattle.theorem_sequences.proofs.Desk.{desk-sequences, report-is}
+use Rattle.theorem_sequences.specs.Sequences.{workAfter}
+use Rattle.theorem_sequences.specs.Owning.{OneOwner}
+use Rattle.theorem_sequences.proofs.Desk.{desk-sequences, desk-one-owner, report-is}
 use Rattle.theorem_memory.specs.Runs.{Memory, stateIn, freshMemory, Lends, a-key, a-report, a-who, Run, done, call, MemorySequence}
 
 abbrev pub IsDesk : Memory → Type 0
@@ -74,4 +76,6 @@ memory-demand-3 log {cs} run =
       state = state;
       sequences = all;
       logged = λ k some known. subst⁻¹ (λ (s : State). itemAt (s .desk .sheet) k .times ≡ recordsNaming k (take (s .used) (s .log))) state (all .logged k some known);
+      one-owner = λ k some known.
+          subst⁻¹ (λ (s : State). OneOwner (workAfter rowsOf noRows log cs .entries) k (itemAt (s .desk .sheet) k)) state (desk-one-owner log cs k some known);
     }

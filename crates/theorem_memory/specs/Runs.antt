@@ -19,7 +19,8 @@ use Rattle.desk_session.specs.Lent.{held}
 use Rattle.theorem_sequences.specs.Calls.{Call, key, ask, report, who, Reply, keyed, reported, told, State}
 use Rattle.theorem_sequences.specs.Gather.{gatherAnswered}
 use Rattle.theorem_sequences.specs.Logged.{recordsNaming}
-use Rattle.theorem_sequences.specs.Sequences.{Sequences, deskAnswers, stateAfter}
+use Rattle.theorem_sequences.specs.Owning.{OneOwner}
+use Rattle.theorem_sequences.specs.Sequences.{Sequences, deskAnswers, stateAfter, workAfter}
 
 -- what is lent to a call
 pub record Memory : Type 0 where
@@ -55,6 +56,8 @@ pub record MemorySequence (log : List ℕ) (cs : List Call) (ps : List (Call × 
   pub sequences : Sequences rowsOf noRows log cs
   -- document 02, No. 7: "on any desk grown from a fresh one, its records in the used log", of the bytes that are lent
   pub logged : (k : ℕ) → 1 ≤ k → k ≤ itemCount → itemAt (stateIn m .desk .sheet) k .times ≡ recordsNaming k (take (stateIn m .used) (m .log))
+  -- document 02, No. 8: each item that is lent is nobody's and empty, or holds its one owner
+  pub one-owner : (k : ℕ) → 1 ≤ k → k ≤ itemCount → OneOwner (workAfter rowsOf noRows log cs .entries) k (itemAt (stateIn m .desk .sheet) k)
 
 -- demand 3 in bytes: calls run from zeros and a log, and the same calls gathered, from zeros and an equal log; every call gets the answer that it got before, and
 -- all bytes of desk and log are equal

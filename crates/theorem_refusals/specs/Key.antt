@@ -1,5 +1,5 @@
--- The table of a key call, row by row in document 01's words ("Keys and their refusals"). That it is what a key call answers is `key-table`, of a
--- desk in lent memory `lent-key-table` (proofs/KeyAnswers.antt).
+-- The table of a key call, row by row in the words of document 01 ("Keys and their refusals") and of document 02, No. 8. That it is what a key call answers
+-- is `key-table`, of a desk in lent memory `lent-key-table` (proofs/KeyAnswers.antt).
 -- Assumes nothing.
 use Prim.Native.Nat.{ℕ, _-_, _≤_, _<_}
 use mathlib.Core.Path.{_≡_}
@@ -8,9 +8,11 @@ use lib.ListN.{length}
 use Rattle.line_items.specs.Typed.{lineMost}
 use Rattle.desk_log.specs.Record.{recordLength}
 use Rattle.desk_state.specs.Lines.{typed}
+use Rattle.desk_state.specs.Sheets.{itemAt}
 use Rattle.desk_state.specs.Desks.{benchCount, lineAt}
 use Rattle.desk_memory.specs.Memory.{Sized, deskOf, usedOf}
 use Rattle.desk_soundness.specs.Wording.{Sound, SoundWith}
+use Rattle.desk_state.specs.declared.sheet.Item.{Item}
 use Rattle.desk_state.specs.declared.desk.Desk.{Desk}
 use Rattle.theorem_refusals.specs.Table.{Refusal, _when_}
 use Rattle.theorem_refusals.specs.Line.{OfItem, BadForm, UnknownName, WrongKind}
@@ -26,9 +28,10 @@ pub data IsKey (byte : ℕ) : Type 0 where
   empties : byte ≡ 24 → IsKey byte
   enter : byte ≡ 10 → IsKey byte
 
--- The table: number, "given exactly when". `Sound` says that the desk is sound; what is typed on the bench's line, how many bytes it has, and how many bytes of
--- the log are unused are arguments too, since document 01 reads the table twice: of a desk, and of what a sequence of calls has typed and entered.
-module _ (Sound : Type 0) (line : List ℕ) (size unused bench byte : ℕ) where
+-- The table: number, "given exactly when". `Sound` says that the desk is sound; what is typed on the bench's line, how many bytes it has, which items another
+-- bench owns, and how many bytes of the log are unused are arguments too, since document 01 reads the table twice: of a desk, and of what a sequence of calls
+-- has typed and entered.
+module _ (Sound : Type 0) (line : List ℕ) (size : ℕ) (OfAnother : ℕ → Type 0) (unused bench byte : ℕ) where
   abbrev Enter : Type 0 → Type 0
   Enter c = (byte ≡ 10) × c
 
@@ -48,13 +51,20 @@ module _ (Sound : Type 0) (line : List ℕ) (size unused bench byte : ℕ) where
       6 when Enter (UnknownName line) ∷
       -- "Enter: the value fails its item's kind"
       7 when Enter (WrongKind line) ∷
+      -- document 02, No. 8: "9, item owned by another bench, after 7 and before 8"
+      9 when Enter (OfItem line (λ item value. OfAnother item)) ∷
       -- "Enter: the record is longer than the unused part of the log"
       8 when Enter (OfItem line (λ item value. unused < recordLength value)) ∷ []
+
+-- an item of a desk is another bench's: it is filled, and holds another bench
+abbrev pub HeldByAnother : ℕ → Item → Type 0
+HeldByAnother bench i = (1 ≤ i .len) × (i .bench ≡ bench → ⊥)
 
 -- the table of a key call on a desk
 abbrev pub deskTable : Desk → ℕ → List ℕ → ℕ → ℕ → List Refusal
 deskTable d used log bench byte =
-    keyTable (Sound d × SoundWith d (length log) used) (typed (lineAt d bench)) (lineAt d bench .len) (length log - used) bench byte
+    keyTable (Sound d × SoundWith d (length log) used) (typed (lineAt d bench)) (lineAt d bench .len)
+    (λ item. HeldByAnother bench (itemAt (d .sheet) item)) (length log - used) bench byte
 
 -- memory of another length than a desk's is no desk, and so not a sound one
 abbrev pub SoundLent : List ℕ → List ℕ → Type 0
@@ -64,4 +74,4 @@ SoundLent t n = Sized t n × Sound (deskOf t n)
 abbrev pub lentTable : List ℕ → List ℕ → List ℕ → ℕ → ℕ → List Refusal
 lentTable t n log bench byte =
     keyTable (SoundLent t n × SoundWith (deskOf t n) (length log) (usedOf n)) (typed (lineAt (deskOf t n) bench)) (lineAt (deskOf t n) bench .len)
-    (length log - usedOf n) bench byte
+    (λ item. HeldByAnother bench (itemAt (deskOf t n .sheet) item)) (length log - usedOf n) bench byte

@@ -23,7 +23,9 @@ use Rattle.desk_soundness.specs.SoundLog.{logMost}
 use Rattle.desk_state.specs.declared.sheet.Item.{Item}
 use Rattle.theorem_sequences.specs.Calls.{key, typing}
 use Rattle.theorem_sequences.specs.Work.{Entry, recordsOf, lastOf}
+use Rattle.theorem_sequences.proofs.Choices.{cond-keeps}
 use Rattle.theorem_sequences.proofs.LineLaws.{typed-lineOf}
+use Rattle.theorem_sequences.proofs.OwnerLaws.{OneBench}
 use Rattle.file_cif.specs.File.{itemLine}
 use Rattle.theorem_round_trip.specs.RoundTrip.{recordRoom, roomFor, filledCount}
 use Rattle.theorem_round_trip.proofs.Plays.{map-append, workOf, entryOf, Plays, plays-none, plays-then, line-plays}
@@ -59,27 +61,31 @@ item-room bench k i es = go (eqb (i .len) 0) refl
     go true e = rw e (omega arith)
     go false e = rw e (length-append (recordsOf es) _ ∙ ap (λ (n : ℕ). length (recordsOf es) + n) (record-length bench k (valueIn i)))
 
+-- they are all of the bench that types
+item-alone : (bench k : ℕ) (i : Item) (es : List Entry) → OneBench bench es → OneBench bench (withItem bench k i es)
+item-alone bench k i es alone = cond-keeps (OneBench bench) (eqb (i .len) 0) es (entryOf bench k (valueIn i) ∷ es) (λ e. alone) (λ e. (refl, alone))
+
 module _ (len bench : ℕ) (there : bench < benchCount) (small : len ≤ logMost) (n : ℕ) where
-  item-plays : (i : Item) (j : ℕ) (es : List Entry) → j < itemCount → soundItem n j i ≡ true
+  item-plays : (i : Item) (j : ℕ) (es : List Entry) → OneBench bench es → j < itemCount → soundItem n j i ≡ true
       → length (recordsOf es) + recordRoom i ≤ len
       → Plays len (workOf bench [] es) (typing bench (itemLine (suc j) i)) (workOf bench [] (withItem bench (suc j) i es))
   unfolding itemLine
-  item-plays i j es known h room = go (eqb (i .len) 0) refl
+  item-plays i j es alone known h room = go (eqb (i .len) 0) refl
     where
       go : (t : Bool) → eqb (i .len) 0 ≡ t → Plays len (workOf bench [] es) (typing bench (itemLine (suc j) i)) (workOf bench [] (withItem bench (suc j) i es))
       go true e = rw e (plays-none len (workOf bench [] es))
-      go false e = rw e (line-plays len bench there small (suc j) (valueIn i) es (omega arith) known (filled-fits n j i e h) (rw e at room))
+      go false e = rw e (line-plays len bench there small (suc j) (valueIn i) es alone (omega arith) known (filled-fits n j i e h) (rw e at room))
 
-  pub items-play : (is : List Item) (j : ℕ) (es : List Entry) → j + length is ≤ itemCount → every (soundItem n) j is ≡ true → length (recordsOf es) + roomFor is ≤ len
+  pub items-play : (is : List Item) (j : ℕ) (es : List Entry) → OneBench bench es → j + length is ≤ itemCount → every (soundItem n) j is ≡ true → length (recordsOf es) + roomFor is ≤ len
       → Plays len (workOf bench [] es) (typing bench (linesFrom itemLine (suc j) is)) (workOf bench [] (withItems bench (suc j) is es))
   unfolding every linesFrom
-  items-play [] j es known h room = plays-none len (workOf bench [] es)
-  items-play (i ∷ is) j es known h room =
+  items-play [] j es alone known h room = plays-none len (workOf bench [] es)
+  items-play (i ∷ is) j es alone known h room =
       let k = and-both (soundItem n j i) (every (soundItem n) (suc j) is) h in
       let fs = withItem bench (suc j) i es in
       let m = item-room bench (suc j) i es in
-      let first = item-plays i j es (omega arith) (k .0) (omega arith) in
-      let rest = items-play is (suc j) fs (omega arith) (k .1) (omega arith) in
+      let first = item-plays i j es alone (omega arith) (k .0) (omega arith) in
+      let rest = items-play is (suc j) fs (item-alone bench (suc j) i es alone) (omega arith) (k .1) (omega arith) in
       rw (map-append (key bench) (itemLine (suc j) i) (linesFrom itemLine (suc (suc j)) is))
       (plays-then len (typing bench (itemLine (suc j) i)) (typing bench (linesFrom itemLine (suc (suc j)) is)) (workOf bench [] es) (workOf bench [] fs)
       (workOf bench [] (withItems bench (suc (suc j)) is fs)) first rest)

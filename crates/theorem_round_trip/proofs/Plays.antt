@@ -29,6 +29,7 @@ use Rattle.rows.specs.declared.Rows.{Rows}
 use Rattle.theorem_sequences.specs.Calls.{Call, key, Reply, keyed, answered, final, typing}
 use Rattle.theorem_sequences.specs.Work.{Entry, Work, typedBy, recordsOf, tableAnswer, textAfter, withEntryOf, entriesAfter, workStep}
 use Rattle.theorem_sequences.proofs.Choices.{and-true-true}
+use Rattle.theorem_sequences.proofs.OwnerLaws.{OneBench, one-bench-may}
 use Rattle.theorem_sequences.proofs.Gathering.{answered-append, final-append}
 use Rattle.file_cif.specs.File.{ended, itemText}
 use Rattle.theorem_round_trip.proofs.Fitting.{fitting}
@@ -84,12 +85,11 @@ module _ (len : ℕ) where
     typed-is p es = getD-set-same (replicate benchCount []) bench p [] there
 
     -- a key that the table accepts
-    key-plays : (p q : List ℕ) (es fs : List Entry) (byte : ℕ) → tableAnswer len (length (recordsOf es)) p bench byte ≡ 0
+    key-plays : (p q : List ℕ) (es fs : List Entry) (byte : ℕ) → tableAnswer len es p bench byte ≡ 0
         → textAfter 0 byte p ≡ q → entriesAfter 0 bench byte p es ≡ fs → Plays (workOf bench p es) (key bench byte ∷ []) (workOf bench q fs)
     key-plays p q es fs byte a t e =
-        let u = length (recordsOf es) in
         let at = typed-is p es in
-        let a′ : tableAnswer len u (typedBy (workOf bench p es) bench) bench byte ≡ 0 = ap (λ (x : List ℕ). tableAnswer len u x bench byte) at ∙ a in
+        let a′ : tableAnswer len es (typedBy (workOf bench p es) bench) bench byte ≡ 0 = ap (λ (x : List ℕ). tableAnswer len es x bench byte) at ∙ a in
         plays-one (key bench byte) (workOf bench p es) (workOf bench q fs) (ap keyed a′)
         (ap₂ (λ (l : List (List ℕ)) (fs : List Entry). record { typed = l; entries = fs })
         (ap₂ (λ (y : ℕ) (x : List ℕ). set (set (replicate benchCount []) bench p) bench (textAfter y byte x)) a′ at
@@ -119,32 +119,32 @@ module _ (len : ℕ) where
         let rest = text-plays bs (p ++ (b ∷ [])) es (k .1) (omega arith) in
         rw (append-assoc p (b ∷ []) bs) at (plays-then (key bench b ∷ []) (typing bench bs) (workOf bench p es) (workOf bench (p ++ (b ∷ [])) es) (workOf bench ((p ++ (b ∷ [])) ++ bs) es) first rest)
 
-    -- Enter on the line of an entry, with room in the log
-    enter-plays : (p : List ℕ) (k s : ℕ) (es : List Entry) → classOf p ≡ class.Entry k s → length (recordsOf es) + recordLength (drop s p) ≤ len
+    -- Enter on the line of an entry, with room in the log; no other bench has an entry, so none owns the item
+    enter-plays : (p : List ℕ) (k s : ℕ) (es : List Entry) → OneBench bench es → classOf p ≡ class.Entry k s → length (recordsOf es) + recordLength (drop s p) ≤ len
         → Plays (workOf bench p es) (key bench 10 ∷ []) (workOf bench [] (record { bench = bench; item = k; value = drop s p; line = p } ∷ es))
     unfolding tableAnswer between
-    enter-plays p k s es c room =
+    enter-plays p k s es alone c room =
         let u = length (recordsOf es) in
         key-plays p [] es (record { bench = bench; item = k; value = drop s p; line = p } ∷ es) 10
-        (rw (lt-ltb bench benchCount there, le-leb len logMost small, c, le-leb (recordLength (drop s p)) (len - u) (omega arith)))
+        (rw (lt-ltb bench benchCount there, le-leb len logMost small, c, one-bench-may es k bench alone, le-leb (recordLength (drop s p)) (len - u) (omega arith)))
         refl
         (ap (λ (x : Class). withEntryOf x bench p es) c)
 
     -- a line that is an entry, and its Enter
-    typed-plays : (p v : List ℕ) (k s : ℕ) (es : List Entry) → all isTyped p ≡ true → length p ≤ lineMost → classOf p ≡ class.Entry k s → drop s p ≡ v
+    typed-plays : (p v : List ℕ) (k s : ℕ) (es : List Entry) → OneBench bench es → all isTyped p ≡ true → length p ≤ lineMost → classOf p ≡ class.Entry k s → drop s p ≡ v
         → length (recordsOf es) + recordLength v ≤ len
         → Plays (workOf bench [] es) (typing bench (ended p)) (workOf bench [] (record { bench = bench; item = k; value = v; line = p } ∷ es))
-    typed-plays p v k s es h short c e room =
-        let enter = rw e at (enter-plays p k s es c (rw e room)) in
+    typed-plays p v k s es alone h short c e room =
+        let enter = rw e at (enter-plays p k s es alone c (rw e room)) in
         rw (map-append (key bench) p (10 ∷ []))
         (plays-then (typing bench p) (key bench 10 ∷ []) (workOf bench [] es) (workOf bench p es) (workOf bench [] (record { bench = bench; item = k; value = v; line = p } ∷ es))
         (text-plays p [] es h (omega arith)) enter)
 
     -- the line of an item whose value fits
-    pub line-plays : (k : ℕ) (v : List ℕ) (es : List Entry) → 1 ≤ k → k ≤ itemCount → fits k v ≡ true → length (recordsOf es) + recordLength v ≤ len
+    pub line-plays : (k : ℕ) (v : List ℕ) (es : List Entry) → OneBench bench es → 1 ≤ k → k ≤ itemCount → fits k v ≡ true → length (recordsOf es) + recordLength v ≤ len
         → Plays (workOf bench [] es) (typing bench (ended (itemText k v))) (workOf bench [] (entryOf bench k v ∷ es))
     unfolding all between
-    line-plays k v es some known f room =
+    line-plays k v es alone some known f room =
         let name = itemRow k .name in
         let t : List ℕ = name ++ (32 ∷ v) in
         let g = fitting k v f in
@@ -152,4 +152,4 @@ module _ (len : ℕ) where
         let at : drop (length name + 1) t ≡ v = drop-append-add name (32 ∷ v) 1 in
         let typed : all isTyped t ≡ true = all-append isTyped name (32 ∷ v) (name-typed k some known) (and-true-true (isTyped 32) (all isTyped v) refl (g .typed)) in
         let long = length-append name (32 ∷ v) in
-        rw (name-of k some known) (typed-plays t v k (length name + 1) es typed (omega (arith, g .short)) c at room)
+        rw (name-of k some known) (typed-plays t v k (length name + 1) es alone typed (omega (arith, g .short)) c at room)

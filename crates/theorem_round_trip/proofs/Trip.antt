@@ -46,7 +46,7 @@ module _ (d : Desk) (bench : ℕ) (log : List ℕ) (all-items : length (d .sheet
   keys = typing bench (linesFrom itemLine 1 (d .sheet .items))
 
   plays : Plays (length log) noWork keys (workOf bench [] (withItems bench 1 (d .sheet .items) []))
-  plays = rw (fresh-work bench there) (items-play (length log) bench there small (d .sheet .count) (d .sheet .items) 0 [] (omega arith) (sound-items d sound) (omega arith))
+  plays = rw (fresh-work bench there) (items-play (length log) bench there small (d .sheet .count) (d .sheet .items) 0 [] tt (omega arith) (sound-items d sound) (omega arith))
 
   lines-accepted : replies log keys ≡ replicate (length keys) (keyed 0)
   lines-accepted = ap (map (λ p. p .1)) (desk-sequences log keys .answers) ∙ plays .accepted

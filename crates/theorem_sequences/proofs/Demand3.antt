@@ -45,11 +45,12 @@ fresh-good log = record {
   sound = refl;
   room = omega arith;
   fitting = tt;
+  rightful = tt;
 }
 
 module _ {Rows : Type 0} (rowsOf : Sheet → Rows) (noRows : Rows) (log : List ℕ) where
   -- the desk after any sequence, by the work
-  follows : (cs : List Call) → Followed (step rowsOf noRows) (workStep rowsOf (length log)) (workState log) (Good log) noWork cs
+  pub follows : (cs : List Call) → Followed (step rowsOf noRows) (workStep rowsOf (length log)) (workState log) (Good log) noWork cs
   follows cs = followed (step rowsOf noRows) (workStep rowsOf (length log)) (workState log) (Good log) (desk-follows rowsOf noRows log) cs noWork (fresh-good log)
 
   -- the answer of a call after it

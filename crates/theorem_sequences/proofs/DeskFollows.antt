@@ -4,7 +4,7 @@ use mathlib.Core.Path.{_≡_, refl, sym, ap, ap₂, _∙_}
 use mathlib.Core.Bool.{Bool, true, false, cond, _&&_, and-true}
 use mathlib.Core.List.{List, [], _∷_, _++_, map, append-assoc}
 use Prim.Native.Nat.{ℕ, zero, suc, _+_, _-_, _*_, _≤_, _<_}
-use native.Mathlib.Nat.{add-zero, add-suc, suc-add}
+use native.Mathlib.Nat.{add-zero, add-suc, suc-add, zero-add}
 use native.Mathlib.Numerals.{add-one}
 use native.Mathlib.Omega.{arith}
 use borrow.Author.Tests.{ltb-true, ltb-false, leb-true, le-leb, ne-eqb, eq-eqb, eqb-true}
@@ -12,7 +12,7 @@ use lib.Dec.{ltb, leb, eqb}
 use lib.ListN.{length, getD, take, drop, set, length-append, length-drop, length-map, List·getD-eq-default}
 use lib.Seq.{take-at, drop-append-add, drop-drop}
 use Rattle.text.specs.Run.{between}
-use Rattle.text.proofs.Bools.{and-both, not-holds}
+use Rattle.text.proofs.Bools.{and-both}
 use Rattle.line_items.specs.Items.{itemCount, isItem}
 use Rattle.line_items.specs.Typed.{lineMost, isTyped}
 use Rattle.line_reader.specs.Line.{classOf}
@@ -24,25 +24,27 @@ use Rattle.desk_log.proofs.Records.{record-length}
 use Rattle.desk_state.specs.Lines.{typed, lineOf, emptyLine, appended, erased}
 use Rattle.desk_state.specs.Sheets.{filled, noItem, itemAt}
 use Rattle.desk_state.specs.Desks.{benchCount, noLine, lineAt}
-use Rattle.desk_soundness.specs.Sound.{soundItem, soundEmpty, soundSheet, soundLines, soundDesk}
+use Rattle.desk_soundness.specs.Sound.{soundItem, soundSheet, soundLines, soundDesk}
 use Rattle.desk_soundness.specs.SoundLog.{logMost, soundLog}
 use Rattle.desk_state.specs.declared.line.Line.{Line}
 use Rattle.desk_state.specs.declared.sheet.Item.{Item}
 use Rattle.desk_state.specs.declared.sheet.Sheet.{Sheet}
 use Rattle.desk_state.specs.declared.desk.Desk.{Desk}
 use Rattle.desk_soundness.proofs.Everys.{every-each}
-use Rattle.desk_keys.specs.Key.{After, refused, edited, entered, stored, enteredAs, keyStep, keyOf}
+use Rattle.desk_keys.specs.Key.{After, refused, edited, entered, stored, openTo, storedIfOpen, enteredAs, keyStep, keyOf}
 use Rattle.desk_questions.specs.Who.{Who, nobody, toldOf, whoOf}
 use Rattle.theorem_sequences.specs.Calls.{report, who, Call, key, ask, keyed, reported, told, State, left, reportOf, step}
 use Rattle.theorem_refusals.specs.KeyNumber.{enterNumber, byteNumber}
-use Rattle.theorem_sequences.specs.Work.{Entry, Work, typedBy, recordsOf, timesOf, lastOf, itemsFrom, sheetOf, tableAnswer, accepts, editedText, withEntryOf, entriesAfter, keyAnswer, keyWork, lastTold, whoLast, workStep}
+use Rattle.theorem_sequences.specs.Work.{Entry, Work, typedBy, recordsOf, timesOf, lastOf, itemsFrom, sheetOf, mayWrite, tableAnswer, accepts, editedText, withEntryOf, entriesAfter, keyAnswer, keyWork, lastTold, whoLast, workStep}
 use Rattle.theorem_sequences.specs.Shaped.{Shaped}
 use Rattle.theorem_sequences.proofs.Choices.{cond-sim, cond-true, cond-keeps}
 use Rattle.theorem_sequences.proofs.Lists.{map-set, getD-map}
 use Rattle.theorem_sequences.proofs.LineLaws.{sound-canonical, typed-lineOf, appended-lineOf, erased-lineOf, shorter}
+use Rattle.theorem_sequences.proofs.ItemLaws.{filled-some}
 use Rattle.theorem_sequences.proofs.Kept.{Keeps, key-keeps, line-sound}
 use Rattle.theorem_sequences.proofs.WorkLaws.{refused-work}
 use Rattle.theorem_sequences.proofs.Times.{held-times, six, Fitting}
+use Rattle.theorem_sequences.proofs.OwnerLaws.{Rightful, open-to, key-rightful}
 use Rattle.theorem_sequences.proofs.Simulation.{Follows}
 
 -- ---- the desk, the used number and the log of a work
@@ -66,6 +68,7 @@ pub record Good (log : List ℕ) (w : Work) : Type 0 where
   pub sound : soundDesk (deskOf w) ≡ true
   pub room : length (recordsOf (w .entries)) ≤ length log
   pub fitting : Fitting (w .entries)
+  pub rightful : Rightful (w .entries)
 
 pub log-length : (log : List ℕ) (es : List Entry) → length (recordsOf es) ≤ length log → length (logOf log es) ≡ length log
 log-length log es h = simp (length-append, length-drop) (omega arith)
@@ -112,6 +115,17 @@ sheet-more e es some known =
     let here : new (timesOf es (e .item) + 1) ≡ lastOf (e ∷ es) (1 + (e .item - 1))
     = rw (at, eq-eqb (e .item) (e .item) refl, add-one (length es), add-one (timesOf es (e .item))) in
     ap (λ m. set (sheetOf es .items) (e .item - 1) (new (m + 1))) held ∙ ap (λ x. set (sheetOf es .items) (e .item - 1) x) here ∙ items-set itemCount 1 (e .item - 1) (lastOf es) (lastOf (e ∷ es)) other
+
+-- which is a sound item
+pub item-sound : (log : List ℕ) (w : Work) → Good log w → (item : ℕ) → 1 ≤ item → item ≤ itemCount
+    → (itemAt (sheetOf (w .entries)) item ≡ lastOf (w .entries) item) × (soundItem (length (w .entries)) (item - 1) (lastOf (w .entries) item) ≡ true)
+unfolding soundDesk soundSheet
+item-sound log w g item some known =
+    let s = sheetOf (w .entries) in
+    let at = item-at (w .entries) item some known in
+    let within : item - 1 < length (s .items) = omega (arith, g .shape .items) in
+    let sound = every-each (soundItem (s .count)) (s .items) 0 (item - 1) noItem (and-both (soundLines (deskOf w)) (soundSheet s) (g .sound) .1) within in
+    (at, rw (zero-add (item - 1), at) at sound)
 
 -- ---- equal parts make equal wholes
 
@@ -170,6 +184,9 @@ module _ (log : List ℕ) (w : Work) (bench byte : ℕ) where
   abbrev D : Desk
   D = deskOf w
 
+  abbrev may : ℕ → Bool
+  may item = mayWrite (w .entries) item bench
+
   -- everything that a key leaves, by the work and the answer
   abbrev afterOf : ℕ → After
   afterOf a = afterWork log a (keyWork a bench byte w)
@@ -184,7 +201,7 @@ module _ (log : List ℕ) (w : Work) (bench byte : ℕ) where
 
   module _ (room : U ≤ length log) (enter-key : eqb byte 10 ≡ true) where
     stored-follows : (item start : ℕ) → classOf t ≡ class.Entry item start
-        → stored D U L bench item (drop start t) ≡ afterOf (enterNumber (class.Entry item start) t (length log - U))
+        → stored D U L bench item (drop start t) ≡ afterOf (cond (leb (recordLength (drop start t)) (length log - U)) 0 8)
     unfolding stored
     stored-follows item start e =
         let v = drop start t in
@@ -206,13 +223,31 @@ module _ (log : List ℕ) (w : Work) (bench byte : ℕ) where
         (log-more (recordsOf es) (recordOf bench item v) log n m)))
         (λ p. refused-follows 8 refl)
 
-    enter-follows : (c : Class) → classOf t ≡ c → enteredAs c D U L bench t ≡ afterOf (enterNumber c t (length log - U))
-    enter-follows class.BadForm e = refused-follows 5 refl
-    enter-follows class.UnknownName e = refused-follows 6 refl
-    enter-follows class.WrongKind e = refused-follows 7 refl
-    enter-follows (class.Entry item start) e = stored-follows item start e
+    -- the item is not another bench's, by desk and by entries
+    open-follows : ((item : ℕ) → 1 ≤ item → item ≤ itemCount → openTo (itemAt (D .sheet) item) bench ≡ may item) → (item start : ℕ) → classOf t ≡ class.Entry item start
+        → storedIfOpen D U L bench item (drop start t) ≡ afterOf (enterNumber (class.Entry item start) t may (length log - U))
+    unfolding storedIfOpen
+    open-follows same item start e =
+        let h = entry-is t item start e in
+        let next = stored D U L bench item (drop start t) in
+        ap (λ (b : Bool). cond b next (refused 9 D U L)) (same item (h .some) (h .known))
+        ∙ cond-sim (λ (x : After). x) afterOf (may item) next (refused 9 D U L) (cond (leb (recordLength (drop start t)) (length log - U)) 0 8) 9
+        (λ p. stored-follows item start e) (λ p. refused-follows 9 refl)
+
+    enter-follows : ((item : ℕ) → 1 ≤ item → item ≤ itemCount → openTo (itemAt (D .sheet) item) bench ≡ may item) → (c : Class) → classOf t ≡ c
+        → enteredAs c D U L bench t ≡ afterOf (enterNumber c t may (length log - U))
+    enter-follows same class.BadForm e = refused-follows 5 refl
+    enter-follows same class.UnknownName e = refused-follows 6 refl
+    enter-follows same class.WrongKind e = refused-follows 7 refl
+    enter-follows same (class.Entry item start) e = open-follows same item start e
 
   module _ (g : Good log w) where
+    -- each item of the desk is the last entry's, and sound
+    item-open : (item : ℕ) → 1 ≤ item → item ≤ itemCount → openTo (itemAt (D .sheet) item) bench ≡ may item
+    item-open item some known =
+        let x = item-sound log w g item some known in
+        ap (λ (i : Item). openTo i bench) (x .0) ∙ open-to (w .entries) (length (w .entries)) (item - 1) item bench (g .rightful) (x .1)
+
     module _ (b : bench < benchCount) where
       four : bench < length (w .typed)
       four = omega (arith, g .shape .lines, length-map (w .typed) lineOf)
@@ -226,7 +261,7 @@ module _ (log : List ℕ) (w : Work) (bench byte : ℕ) where
           let e : typed (lineAt D bench) ≡ t = ap typed line-is ∙ typed-lineOf t in
           omega (arith, c .short, ap length e)
 
-      step-follows : keyStep D U L bench byte ≡ afterOf (byteNumber t (length t) (length log - U) byte)
+      step-follows : keyStep D U L bench byte ≡ afterOf (byteNumber t (length t) may (length log - U) byte)
       unfolding keyStep
       step-follows =
           let same : After → After = λ x. x in
@@ -244,7 +279,7 @@ module _ (log : List ℕ) (w : Work) (bench byte : ℕ) where
           (λ z.
           ap (λ (l : Line). enteredAs (classOf (typed l)) D U L bench (typed l)) line-is
           ∙ ap (λ (x : List ℕ). enteredAs (classOf x) D U L bench x) (typed-lineOf t)
-          ∙ enter-follows (g .room) z (classOf t) refl)
+          ∙ enter-follows (g .room) z item-open (classOf t) refl)
           (λ z. refused-follows 3 refl))))
 
     -- the desk, which tests the soundness of everything, answers by the table, which tests the log's length
@@ -281,19 +316,10 @@ module _ (log : List ℕ) (w : Work) (bench byte : ℕ) where
           sound = k .sound;
           room = omega (arith, length-append r (drop (length r) log), n);
           fitting = fitting-more (keyAnswer (length log) w bench byte) bench byte t (w .entries) typed-short (g .fitting);
+          rightful = key-rightful (length log) w bench byte (g .rightful);
         }
 
 -- ---- questions
-
--- a sound item that an entry filled is not empty
-filled-some : (n k bench number times : ℕ) (v : List ℕ) → soundItem n k (filled bench (suc number) times v) ≡ true → eqb (length v) 0 ≡ false
-unfolding soundItem soundEmpty
-filled-some n k bench number times v h =
-    not-holds (eqb (length v) 0) (λ e.
-    let q = rw e at h in
-    let z = and-both (eqb (suc number) 0) _ (and-both (eqb bench 0) _ q .1) .0 in
-    let y = eqb-true (suc number) 0 z in
-    omega arith)
 
 told-last : (es : List Entry) (n k item : ℕ) → soundItem n k (lastOf es item) ≡ true → toldOf (lastOf es item) ≡ lastTold es item
 unfolding toldOf
@@ -306,7 +332,7 @@ told-last (e ∷ es) n k item h = go (told-last es n k item) (eqb item (e .item)
     go ih false x s = rw x (ih (rw x at s))
 
 who-follows : (log : List ℕ) (w : Work) → Good log w → (item : ℕ) → whoOf (deskOf w) item ≡ whoLast (w .entries) item
-unfolding whoOf soundDesk soundSheet
+unfolding whoOf
 who-follows log w g item =
     let s = sheetOf (w .entries) in
     let same : Who → Who = λ x. x in
@@ -316,10 +342,8 @@ who-follows log w g item =
     let h = and-both (leb 1 item) (leb item itemCount) p in
     let some = leb-true 1 item (h .0) in
     let known = leb-true item itemCount (h .1) in
-    let at = item-at (w .entries) item some known in
-    let within : item - 1 < length (s .items) = omega (arith, g .shape .items) in
-    let sound = every-each (soundItem (s .count)) (s .items) 0 (item - 1) noItem (and-both (soundLines (deskOf w)) (soundSheet s) (g .sound) .1) within in
-    ap toldOf at ∙ told-last (w .entries) (s .count) (0 + (item - 1)) item (rw at at sound))
+    let x = item-sound log w g item some known in
+    ap toldOf (x .0) ∙ told-last (w .entries) (s .count) (item - 1) item (x .1))
     (λ p. refl)
 
 -- ---- all calls

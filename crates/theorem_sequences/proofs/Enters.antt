@@ -6,12 +6,12 @@ use mathlib.Core.List.{List, [], _∷_, map, cons≢nil}
 use Prim.Native.Nat.{ℕ}
 use borrow.Author.Tests.{eqb-true}
 use lib.Dec.{eqb}
-use lib.ListN.{length, drop}
+use lib.ListN.{drop}
 use Rattle.text.specs.Run.{between}
 use Rattle.line_reader.specs.declared.line.Class.the-variants as class
 use Rattle.desk_state.specs.declared.sheet.Sheet.{Sheet}
 use Rattle.theorem_sequences.specs.Calls.{Call, key, ask, report, who, answered, final}
-use Rattle.theorem_sequences.specs.Work.{Entry, Work, typedBy, recordsOf, accepts, withEntryOf, keyAnswer, keyWork, workStep}
+use Rattle.theorem_sequences.specs.Work.{Entry, Work, typedBy, accepts, withEntryOf, keyAnswer, keyWork, workStep}
 use Rattle.theorem_sequences.specs.Sequences.{Entered, enteredFirst, enteredBy}
 use Rattle.theorem_sequences.proofs.EntryWords.{entry-worded, enter-accepts, accepted-only}
 
@@ -20,7 +20,7 @@ pub enter-entered : (len : ℕ) (w : Work) (bench : ℕ) → keyAnswer len w ben
 unfolding between
 enter-entered len w bench h =
     let t = typedBy w bench in
-    let c = enter-accepts len (length (recordsOf (w .entries))) t bench h in
+    let c = enter-accepts len (w .entries) t bench h in
     let x = entry-worded t (c .item) (c .start) (c .class-is) in
     let new : Entry = record { bench = bench; item = c .item; value = drop (c .start) t; line = t } in
     record {
@@ -52,7 +52,7 @@ module _ (len : ℕ) (w : Work) (bench byte : ℕ) where
           let t = typedBy w bench in
           let e = eqb-true byte 10 p in
           let a = accepted-only (keyAnswer len w bench byte) q in
-          let c = enter-accepts len (length (recordsOf (w .entries))) t bench (rw e at a) in
+          let c = enter-accepts len (w .entries) t bench (rw e at a) in
           rw (q, p, c .class-is)
 
   key-adds-none : cond (eqb byte 10 && accepts (keyAnswer len w bench byte)) (bench ∷ []) [] ≡ []

@@ -1,7 +1,7 @@
 -- An accepted Enter's line in document 01's words: a name of the item, spaces, and the value.
 -- Assumes nothing.
 use mathlib.Core.Path.{_≡_, refl}
-use mathlib.Core.Bool.{true, cond, _&&_}
+use mathlib.Core.Bool.{Bool, true, cond, _&&_}
 use mathlib.Core.List.{List}
 use Prim.Native.Nat.{ℕ, _-_}
 use native.Mathlib.Omega.{arith}
@@ -23,10 +23,11 @@ use Rattle.line_reader.specs.declared.line.Class.{Class}
 use Rattle.line_reader.specs.declared.line.Class.the-variants as class
 use Rattle.line_items.proofs.Names.{name-found}
 use Rattle.line_reader.proofs.Wording.{line-is}
+use Rattle.desk_log.specs.Record.{recordLength}
 use Rattle.desk_state.specs.Desks.{benchCount}
 use Rattle.desk_soundness.specs.SoundLog.{logMost}
 use Rattle.theorem_refusals.specs.KeyNumber.{enterNumber}
-use Rattle.theorem_sequences.specs.Work.{tableAnswer, accepts}
+use Rattle.theorem_sequences.specs.Work.{Entry, recordsOf, mayWrite, tableAnswer, accepts}
 
 -- the line t, with its name and its value, for item k
 pub record Worded (t : List ℕ) (k v : ℕ) : Type 0 where
@@ -54,27 +55,32 @@ module _ (t : List ℕ) (k v : ℕ) where
       let not-it : class.BadForm ≡ class.Entry k v → ⊥ = λ q. let z : _≡_ {A = ℕ} 0 1 = cc in omega arith in
       split-worded (splitOf t) refl (cond-first (leb (length t) lineMost && all isTyped t) (splitClass t (splitOf t)) class.BadForm (class.Entry k v) not-it e .1)
 
--- an Enter that the table accepts has the line of an entry
-pub record Accepts (t : List ℕ) : Type 0 where
+-- an Enter that the table accepts has the line of an entry, whose item the bench may write
+pub record Accepts (t : List ℕ) (may : ℕ → Bool) : Type 0 where
   pub item : ℕ
   pub start : ℕ
   pub class-is : classOf t ≡ class.Entry item start
+  pub allowed : may item ≡ true
 
-class-accepts : (t : List ℕ) (free : ℕ) (c : Class) → classOf t ≡ c → enterNumber c t free ≡ 0 → Accepts t
-class-accepts t free class.BadForm e h = absurd (omega arith)
-class-accepts t free class.UnknownName e h = absurd (omega arith)
-class-accepts t free class.WrongKind e h = absurd (omega arith)
-class-accepts t free (class.Entry item start) e h = record { item = item; start = start; class-is = e }
+class-accepts : (t : List ℕ) (may : ℕ → Bool) (free : ℕ) (c : Class) → classOf t ≡ c → enterNumber c t may free ≡ 0 → Accepts t may
+class-accepts t may free class.BadForm e h = absurd (omega arith)
+class-accepts t may free class.UnknownName e h = absurd (omega arith)
+class-accepts t may free class.WrongKind e h = absurd (omega arith)
+class-accepts t may free (class.Entry item start) e h =
+    let not-it : _≡_ {A = ℕ} 9 0 → ⊥ = λ q. omega arith in
+    record { item = item; start = start; class-is = e; allowed = cond-first (may item) (cond (leb (recordLength (drop start t)) free) 0 8) 9 0 not-it h .0 }
 
-pub enter-accepts : (len used : ℕ) (t : List ℕ) (bench : ℕ) → tableAnswer len used t bench 10 ≡ 0 → Accepts t
+pub enter-accepts : (len : ℕ) (es : List Entry) (t : List ℕ) (bench : ℕ) → tableAnswer len es t bench 10 ≡ 0 → Accepts t (λ item. mayWrite es item bench)
 unfolding tableAnswer between
-enter-accepts len used t bench h =
-    let a = enterNumber (classOf t) t (len - used) in
+enter-accepts len es t bench h =
+    let may : ℕ → Bool = λ item. mayWrite es item bench in
+    let free = len - length (recordsOf es) in
+    let a = enterNumber (classOf t) t may free in
     let no-bench : _≡_ {A = ℕ} 1 0 → ⊥ = λ q. omega arith in
     let not-sound : _≡_ {A = ℕ} 2 0 → ⊥ = λ q. omega arith in
     let h1 = cond-first (ltb bench benchCount) (cond (leb len logMost) a 2) 1 0 no-bench h .1 in
     let h2 = cond-first (leb len logMost) a 2 0 not-sound h1 .1 in
-    class-accepts t (len - used) (classOf t) refl h2
+    class-accepts t may free (classOf t) refl h2
 
 -- the answer with number 0
 pub accepted-only : (a : ℕ) → accepts a ≡ true → a ≡ 0

@@ -1,15 +1,15 @@
 -- Sound items: a count that grows keeps them sound, and an entry's item is sound.
 -- Assumes nothing.
 use mathlib.Core.Path.{_≡_, ap, _∙_}
-use mathlib.Core.Bool.{true, _&&_}
+use mathlib.Core.Bool.{true, false, _&&_}
 use mathlib.Core.Logic.{⊎-elim}
 use mathlib.Core.List.{List}
-use Prim.Native.Nat.{ℕ, _+_, _-_, _≤_, _<_}
+use Prim.Native.Nat.{ℕ, suc, _+_, _-_, _≤_, _<_}
 use native.Mathlib.Omega.{arith}
-use borrow.Author.Tests.{leb-true, le-leb, lt-ltb, ne-eqb}
+use borrow.Author.Tests.{leb-true, le-leb, lt-ltb, ne-eqb, eqb-true}
 use lib.Dec.{ltb, leb, eqb}
 use lib.ListN.{length, drop}
-use Rattle.text.proofs.Bools.{and-both, or-either}
+use Rattle.text.proofs.Bools.{and-both, not-holds, or-either}
 use Rattle.line_quotes.specs.Quoted.{isQuotedBy, isQuoted}
 use Rattle.line_values.specs.Value.{isBare, isValue}
 use Rattle.line_items.specs.Items.{itemRow}
@@ -68,3 +68,13 @@ filled-sound bench n m k v b one most some long short h =
       value,
       padded-zeros v,
     )
+
+-- a sound item that an entry filled is not empty
+pub filled-some : (n k bench number times : ℕ) (v : List ℕ) → soundItem n k (filled bench (suc number) times v) ≡ true → eqb (length v) 0 ≡ false
+unfolding soundItem soundEmpty
+filled-some n k bench number times v h =
+    not-holds (eqb (length v) 0) (λ e.
+    let q = rw e at h in
+    let z = and-both (eqb (suc number) 0) _ (and-both (eqb bench 0) _ q .1) .0 in
+    let y = eqb-true (suc number) 0 z in
+    omega arith)

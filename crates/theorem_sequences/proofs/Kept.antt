@@ -31,7 +31,7 @@ use Rattle.desk_state.specs.declared.sheet.Item.{Item}
 use Rattle.desk_state.specs.declared.desk.Desk.{Desk}
 use Rattle.desk_soundness.proofs.Everys.{every-each}
 use Rattle.desk_soundness.proofs.Wording.{sound-is, times-most}
-use Rattle.desk_keys.specs.Key.{After, refused, edited, withEntry, entered, stored, enteredAs, appendKey, keyStep, keyOf}
+use Rattle.desk_keys.specs.Key.{After, refused, edited, withEntry, entered, stored, openTo, storedIfOpen, enteredAs, appendKey, keyStep, keyOf}
 use Rattle.theorem_sequences.specs.Shaped.{Shaped}
 use Rattle.theorem_sequences.proofs.Choices.{cond-keeps, and-true-true}
 use Rattle.theorem_sequences.proofs.Lists.{every-set, every-more}
@@ -171,13 +171,18 @@ module _ (d : Desk) (used : ℕ) (log : List ℕ) (shape : Shaped d) (sound : so
           })
           (λ q. refused-keeps 8)
 
+    open-keeps : (item : ℕ) (v : List ℕ) → Keeps d used log (stored d used log bench item v) → Keeps d used log (storedIfOpen d used log bench item v)
+    unfolding storedIfOpen
+    open-keeps item v h = cond-keeps (Keeps d used log) (openTo (itemAt (d .sheet) item) bench) _ _ (λ p. h) (λ p. refused-keeps 9)
+
     enter-keeps : used ≤ length log → (c : Class) (t : List ℕ) → classOf t ≡ c → Keeps d used log (enteredAs c d used log bench t)
     enter-keeps within class.BadForm t e = refused-keeps 5
     enter-keeps within class.UnknownName t e = refused-keeps 6
     enter-keeps within class.WrongKind t e = refused-keeps 7
     enter-keeps within (class.Entry item start) t e =
         let h = entry-is t item start e in
-        stored-keeps item (drop start t) (h .some) (h .known) (value-some (drop start t) (h .value)) (omega (arith, h .room)) (entry-fits t item start h) within
+        open-keeps item (drop start t)
+        (stored-keeps item (drop start t) (h .some) (h .known) (value-some (drop start t) (h .value)) (omega (arith, h .room)) (entry-fits t item start h) within)
 
     step-keeps : used ≤ length log → (byte : ℕ) → Keeps d used log (keyStep d used log bench byte)
     unfolding keyStep

@@ -11,8 +11,9 @@ pub mod OneRegrouping
 pub mod OwnKeys
 pub mod WorkLaws
 pub mod Times
-pub mod DeskFollows
 pub mod EntryWords
+pub mod OwnerLaws
+pub mod DeskFollows
 pub mod Enters
 pub mod WorkAnswers
 pub mod Demand3

@@ -13,7 +13,7 @@ use Rattle.desk_state.specs.Desks.{benchCount}
 use Rattle.desk_state.specs.declared.sheet.Sheet.{Sheet}
 use Rattle.theorem_sequences.specs.Calls.{Call, key, ask, report, who, Reply, keyed, answered, final}
 use Rattle.theorem_sequences.specs.Gather.{own, consIf}
-use Rattle.theorem_sequences.specs.Work.{Work, noWork, typedBy, recordsOf, tableAnswer, textAfter, keyAnswer, keyWork, workStep}
+use Rattle.theorem_sequences.specs.Work.{Entry, Work, noWork, typedBy, tableAnswer, textAfter, keyAnswer, keyWork, workStep}
 use Rattle.theorem_sequences.specs.Sequences.{textOf}
 
 -- at the start no bench has typed anything
@@ -23,9 +23,9 @@ none-typed (suc n) zero = refl
 none-typed (suc n) (suc b) = none-typed n b
 
 -- a bench that is not there is refused
-no-bench : (len used : ℕ) (t : List ℕ) (b j : ℕ) → ltb b benchCount ≡ false → tableAnswer len used t b j ≡ 1
+no-bench : (len : ℕ) (es : List Entry) (t : List ℕ) (b j : ℕ) → ltb b benchCount ≡ false → tableAnswer len es t b j ≡ 1
 unfolding tableAnswer
-no-bench len used t b j e = rw e
+no-bench len es t b j e = rw e
 
 -- a key changes its own bench's text by its answer, and no other's
 own-text : (len : ℕ) (w : Work) (b j : ℕ) → length (w .typed) ≡ benchCount
@@ -35,7 +35,7 @@ own-text len w b j n = go (ltb b benchCount) refl
     go : (t : Bool) → ltb b benchCount ≡ t → typedBy (keyWork (keyAnswer len w b j) b j w) b ≡ textAfter (keyAnswer len w b j) j (typedBy w b)
     go true t = getD-set-same (w .typed) b (textAfter (keyAnswer len w b j) j (typedBy w b)) [] (omega (arith, ltb-true b benchCount t))
     go false t =
-        let a = no-bench len (length (recordsOf (w .entries))) (typedBy w b) b j t in
+        let a = no-bench len (w .entries) (typedBy w b) b j t in
         rw a (ap (λ (l : List (List ℕ)). getD l b []) (set-getD (w .typed) b []))
 
 other-text : (a j x b : ℕ) (w : Work) → (a ≡ b → ⊥) → typedBy (keyWork x a j w) b ≡ typedBy w b

@@ -13,9 +13,11 @@ use Rattle.desk_soundness.specs.SoundLog.{logMost}
 use Rattle.desk_soundness.proofs.Wording.{sound-is}
 use Rattle.theorem_refusals.specs.Table.{Answers}
 use Rattle.theorem_refusals.proofs.KeyAnswers.{Fits, line-ready, number-answers}
-use Rattle.theorem_sequences.specs.Work.{Work, typedBy, recordsOf, tableAnswer, keyAnswer}
+use Rattle.theorem_sequences.specs.Work.{Work, typedBy, recordsOf, mayWrite, tableAnswer, keyAnswer}
+use Rattle.theorem_sequences.specs.Owning.{OwnedByAnother}
 use Rattle.theorem_sequences.specs.WorkTable.{workTable}
 use Rattle.theorem_sequences.proofs.LineLaws.{typed-lineOf}
+use Rattle.theorem_sequences.proofs.OwnerLaws.{may-so}
 use Rattle.theorem_sequences.proofs.DeskFollows.{deskOf, Good}
 
 -- the line on which a bench has typed
@@ -42,5 +44,5 @@ module _ (log : List ℕ) (w : Work) (g : Good log w) (bench byte : ℕ) where
   pub work-table : Answers (workTable (length log) w bench byte) (keyAnswer (length log) w bench byte)
   unfolding tableAnswer
   work-table =
-      number-answers (length log ≤ logMost) t (length t) (length log - length (recordsOf (w .entries))) bench byte (leb (length log) logMost)
-      (λ e. leb-true (length log) logMost e, λ h. le-leb (length log) logMost h) (λ h. ready)
+      number-answers (length log ≤ logMost) t (length t) (OwnedByAnother (w .entries) bench) (length log - length (recordsOf (w .entries))) bench byte (leb (length log) logMost)
+      (λ e. leb-true (length log) logMost e, λ h. le-leb (length log) logMost h) (λ item. mayWrite (w .entries) item bench) (may-so (w .entries) bench) (λ h. ready)

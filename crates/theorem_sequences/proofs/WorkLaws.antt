@@ -5,12 +5,12 @@ use mathlib.Core.Bool.{Bool, true, false, cond}
 use mathlib.Core.List.{List, []}
 use Prim.Native.Nat.{ℕ}
 use lib.Dec.{eqb}
-use lib.ListN.{length, getD, set}
+use lib.ListN.{getD, set}
 use lib.Seq.{getD-set-other, set-comm, set-getD}
 use Rattle.line_reader.specs.Line.{classOf}
 use Rattle.desk_state.specs.declared.sheet.Sheet.{Sheet}
 use Rattle.theorem_sequences.specs.Calls.{Question, report, who, key, ask, keyed}
-use Rattle.theorem_sequences.specs.Work.{Entry, Work, typedBy, recordsOf, tableAnswer, accepts, editedText, textAfter, withEntryOf, entriesAfter, keyAnswer, keyWork, workStep}
+use Rattle.theorem_sequences.specs.Work.{Entry, Work, typedBy, tableAnswer, accepts, editedText, textAfter, withEntryOf, entriesAfter, keyAnswer, keyWork, workStep}
 use Rattle.theorem_sequences.proofs.Choices.{cond-false}
 use Rattle.theorem_sequences.proofs.Gathering.{Swap, Laws}
 
@@ -36,9 +36,10 @@ pub refused-work : (x : ℕ) (a j : ℕ) (w : Work) → accepts x ≡ false → 
 refused-work x a j w e =
     work-eq (ap (set (w .typed) a) (refused-text x j (typedBy w a) e) ∙ set-getD (w .typed) a []) (refused-entries x _ j (typedBy w a) (w .entries) e)
 
-plain-answer : (len u v a j : ℕ) (t : List ℕ) → eqb j 10 ≡ false → tableAnswer len u t a j ≡ tableAnswer len v t a j
+-- a key other than Enter reads neither the room of the log nor who owns an item
+plain-answer : (len : ℕ) (es fs : List Entry) (a j : ℕ) (t : List ℕ) → eqb j 10 ≡ false → tableAnswer len es t a j ≡ tableAnswer len fs t a j
 unfolding tableAnswer
-plain-answer len u v a j t e = rw e
+plain-answer len es fs a j t e = rw e
 
 module _ {Rows : Type 0} (rowsOf : Sheet → Rows) (len : ℕ) where
   swaps : (b i a j : ℕ) → (a ≡ b → ⊥) → eqb j 10 ≡ false → (w : Work) → Swap (workStep rowsOf len) (key b i) (key a j) w
@@ -47,26 +48,24 @@ module _ {Rows : Type 0} (rowsOf : Sheet → Rows) (len : ℕ) where
       let lb = getD t b [] in
       let la = getD t a [] in
       let es = w .entries in
-      let u = length (recordsOf es) in
-      let xb = tableAnswer len u lb b i in
-      let xa = tableAnswer len u la a j in
+      let xb = tableAnswer len es lb b i in
+      let xa = tableAnswer len es la a j in
       let tb = textAfter xb i lb in
       let ta = textAfter xa j la in
       let fs = entriesAfter xb b i lb es in
-      let v = length (recordsOf fs) in
       let apart : b ≡ a → ⊥ = λ x. n (sym x) in
       let b-line = getD-set-other t a b ta [] apart in
       let a-line = getD-set-other t b a tb [] n in
       let same = plain-entries xa a j la es e in
-      let a-answer = plain-answer len v u a j la e in
-      let b-text = ap₂ (λ l gs. textAfter (tableAnswer len (length (recordsOf gs)) l b i) i l) b-line same in
-      let a-text = ap (λ l. textAfter (tableAnswer len v l a j) j l) a-line ∙ ap (λ x. textAfter x j la) a-answer in
+      let a-answer = plain-answer len fs es a j la e in
+      let b-text = ap₂ (λ l gs. textAfter (tableAnswer len gs l b i) i l) b-line same in
+      let a-text = ap (λ l. textAfter (tableAnswer len fs l a j) j l) a-line ∙ ap (λ x. textAfter x j la) a-answer in
       record {
-        first = ap₂ (λ l gs. keyed (tableAnswer len (length (recordsOf gs)) l b i)) b-line same;
-        second = ap (λ l. keyed (tableAnswer len v l a j)) a-line ∙ ap keyed a-answer;
+        first = ap₂ (λ l gs. keyed (tableAnswer len gs l b i)) b-line same;
+        second = ap (λ l. keyed (tableAnswer len fs l a j)) a-line ∙ ap keyed a-answer;
         state = work-eq
             (ap (λ x. set (set t b tb) a x) a-text ∙ set-comm t b a tb ta apart ∙ ap (λ x. set (set t a ta) b x) (sym b-text))
-            (plain-entries (tableAnswer len v (getD (set t b tb) a []) a j) a j (getD (set t b tb) a []) fs e ∙ sym (ap₂ (λ l gs. entriesAfter (tableAnswer len (length (recordsOf gs)) l b i) b i l gs) b-line same));
+            (plain-entries (tableAnswer len fs (getD (set t b tb) a []) a j) a j (getD (set t b tb) a []) fs e ∙ sym (ap₂ (λ l gs. entriesAfter (tableAnswer len gs l b i) b i l gs) b-line same));
       }
 
   pub work-laws : Laws (workStep rowsOf len) (λ w. Unit {0})

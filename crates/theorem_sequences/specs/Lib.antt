@@ -1,6 +1,7 @@
 pub mod Calls
 pub mod Gather
 pub mod Work
+pub mod Owning
 pub mod WorkTable
 pub mod Logged
 pub mod Shaped

@@ -15,7 +15,9 @@
 -- - keys of benches that run together: `gathered-answers` and `gathered-state`, by which a bench's answers do not depend on the keys between its own, and
 --   `own-keys`, by which what a bench has typed, and with `entry` the line of each of its entries, is of its own keys and no others;
 -- - an entry under another bench's number, as of the first to type after a refused Enter: `entry`, `used-log` for its record, and `who-next` for the
---   child who asks whose entry it is; specs/Owner.antt says the three in one sentence.
+--   child who asks whose entry it is; specs/Owner.antt says the three in one sentence;
+-- - an item overwritten by a bench that does not own it, or an owner who is refused (document 02, No. 8): `table`, by which 9 is given exactly when the entries
+--   so far give the item to another bench; specs/Owning.antt says whose an item is.
 -- Assumes nothing.
 use Prim.Native.Nat.{ℕ, _≤_}
 use mathlib.Core.Path.{_≡_}

@@ -51,6 +51,15 @@ abbrev pub timesOf : List Entry → ℕ → ℕ
 timesOf [] item = 0
 timesOf (e ∷ es) item = cond (eqb item (e .item)) (suc (timesOf es item)) (timesOf es item)
 
+-- document 02, No. 8: "The bench whose entry first fills an item owns it"; of an item that no entry names, the bench that asks
+abbrev pub ownerOf : List Entry → ℕ → ℕ → ℕ
+ownerOf [] item bench = bench
+ownerOf (e ∷ es) item bench = ownerOf es item (cond (eqb item (e .item)) (e .bench) bench)
+
+-- "nobody else may write it". In the document's words it is specs/Owning.antt, by `may-so` (proofs/OwnerLaws.antt)
+abbrev pub mayWrite : List Entry → ℕ → ℕ → Bool
+mayWrite es item bench = eqb (ownerOf es item bench) bench
+
 -- "value, bench and number of the last one that names it, or is empty"; an entry is "numbered by how many there are up to it"; and how many named it
 abbrev pub lastOf : List Entry → ℕ → Item
 lastOf [] item = emptyItem
@@ -67,11 +76,11 @@ sheetOf es = record { items = itemsFrom (lastOf es) 1 itemCount; count = length 
 
 -- ---- a key
 
--- the number of "Keys and their refusals" by tests, for the log's length, the used number, what the bench has typed, bench and byte. Of what makes a desk sound
+-- the number of "Keys and their refusals" by tests, for the log's length, the entries so far, what the bench has typed, bench and byte. Of what makes a desk sound
 -- only the log's length is tested: the rest holds after every sequence (`sound` and `log-sound` of specs/Sequences.antt), and the desk, which tests all of it,
 -- gives the same answers. That it is the table's is `table` there.
-unfoldable pub tableAnswer : ℕ → ℕ → List ℕ → ℕ → ℕ → ℕ
-tableAnswer len used t bench byte = keyNumber (leb len logMost) t (length t) (len - used) bench byte
+unfoldable pub tableAnswer : ℕ → List Entry → List ℕ → ℕ → ℕ → ℕ
+tableAnswer len es t bench byte = keyNumber (leb len logMost) t (length t) (λ item. mayWrite es item bench) (len - length (recordsOf es)) bench byte
 
 -- "with 0"
 abbrev pub accepts : ℕ → Bool
@@ -98,7 +107,7 @@ entriesAfter a bench byte t es = cond (accepts a) (cond (eqb byte 10) (withEntry
 
 -- the answer of a key, in a log of len bytes
 abbrev pub keyAnswer : ℕ → Work → ℕ → ℕ → ℕ
-keyAnswer len w bench byte = tableAnswer len (length (recordsOf (w .entries))) (typedBy w bench) bench byte
+keyAnswer len w bench byte = tableAnswer len (w .entries) (typedBy w bench) bench byte
 
 -- the work after a key that got that answer
 abbrev pub keyWork : ℕ → ℕ → ℕ → Work → Work

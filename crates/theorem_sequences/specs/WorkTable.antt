@@ -1,5 +1,5 @@
 -- The table of a key call in a sequence (document 01, "Sequences of calls"): "A key's answer is taken from the table above, with typed for the line, the entries so
--- far for sheet and count, and their records for the used log".
+-- far for sheet and count, and their records for the used log"; document 02, No. 8: the owners too are those of the entries so far.
 -- Assumes nothing.
 use Prim.Native.Nat.{ℕ, _-_, _≤_}
 use mathlib.Core.Path.{_≡_}
@@ -10,10 +10,12 @@ use Rattle.theorem_refusals.specs.Table.{Refusal, Answers}
 use Rattle.theorem_refusals.specs.Key.{keyTable}
 use Rattle.theorem_sequences.specs.Calls.{Reply, keyed}
 use Rattle.theorem_sequences.specs.Work.{Work, typedBy, recordsOf}
+use Rattle.theorem_sequences.specs.Owning.{OwnedByAnother}
 
 -- in a log of len bytes; of what makes a desk sound only the log's length is in question
 abbrev pub workTable : ℕ → Work → ℕ → ℕ → List Refusal
-workTable len w bench byte = keyTable (len ≤ logMost) (typedBy w bench) (length (typedBy w bench)) (len - length (recordsOf (w .entries))) bench byte
+workTable len w bench byte = keyTable (len ≤ logMost) (typedBy w bench) (length (typedBy w bench)) (OwnedByAnother (w .entries) bench)
+    (len - length (recordsOf (w .entries))) bench byte
 
 -- a key's answer is the number that the table gives
 pub record FromTable {Rows : Type 0} (rs : List Refusal) (r : Reply Rows) : Type 0 where

@@ -7,7 +7,7 @@ use crate::boundary::{
 };
 use crate::program::{Answer, Call};
 use crate::tally::Question;
-use reference::desk::{EMPTY, ENTER, ERASE, NOT_SOUND, NO_BENCH, NO_SUCH_ITEM};
+use reference::desk::{EMPTY, ENTER, ERASE, NOT_OWNER, NOT_SOUND, NO_BENCH, NO_SUCH_ITEM};
 use reference::line::ACCEPTED;
 use std::fmt::Display;
 
@@ -101,8 +101,10 @@ impl Comparison<'_> {
         match (*call, answer) {
             (Call::Key { bench, byte }, Answer::Key(answer)) => {
                 self.tally.note(Question::Key, (*answer).into());
-                if *answer == ACCEPTED {
-                    self.note_accepted(after, bench as usize, byte, line);
+                match *answer {
+                    ACCEPTED => self.note_accepted(after, bench as usize, byte, line),
+                    NOT_OWNER => self.note_not_owner(after, bench as usize),
+                    _ => {}
                 }
             }
             (_, Answer::Report(Reported { answer, rows })) => {

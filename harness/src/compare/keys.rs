@@ -7,7 +7,9 @@ use crate::program::Call;
 use crate::random::Random;
 use crate::session::{Session, OTHER_BENCHES};
 use crate::tally::Question;
-use reference::desk::{Line, BENCHES, EMPTY, ENTER, ERASE, LINE_FULL, LOG_LIMIT, RECORD_HEAD};
+use reference::desk::{
+    Item, Line, BENCHES, EMPTY, ENTER, ERASE, LINE_FULL, LOG_LIMIT, RECORD_HEAD,
+};
 use reference::line::{ACCEPTED, LIMIT, NOT_A_LINE};
 use reference::names::ITEMS;
 use std::fmt::Display;
@@ -127,18 +129,19 @@ impl Comparison<'_> {
         self.tally.note(Question::TypedLength, place);
     }
 
-    /// Enter with each room about what the record takes, after some records and at the log's limit.
+    /// Enter with each room about what the record takes, after some records and at the log's limit; on an
+    /// empty item, and on one that the bench owns, or another.
     fn room(&mut self, name: &'static str) {
         self.begin(name);
         let longest = format!("{} '{}'", ITEMS[0].0, "x".repeat(longest_value(1) - 2));
         let lines = [
-            "_refine_ls_R_factor_gt 0.16",
-            "_chemical_formula_weight   1",
-            "_publ_requested_category 'FO'",
-            "_chemical_formula_sum 'C18 H19 N7 O8 S'",
-            &longest,
+            (4, "_refine_ls_R_factor_gt 0.16"),
+            (2, "_chemical_formula_weight   1"),
+            (3, "_publ_requested_category 'FO'"),
+            (1, "_chemical_formula_sum 'C18 H19 N7 O8 S'"),
+            (1, &longest),
         ];
-        for line in lines {
+        for (item, line) in lines {
             let value = line.trim_start_matches(|sign| sign != ' ').trim_start();
             let record = RECORD_HEAD + value.len();
             for used in [0, 7, 260, LOG_LIMIT - record - 1, LOG_LIMIT - record, LOG_LIMIT - 6] {
@@ -151,6 +154,11 @@ impl Comparison<'_> {
                     state.desk.lines[bench] = Line::holding(line.as_bytes());
                     let place = format_args!("{name}, {line}, {room} bytes");
                     self.key(&state, bench as u64, ENTER, &place);
+                    for owner in (0..BENCHES as u64).filter(|_| state.desk.count > 0) {
+                        let first = [&b"?"[..], b"."][used % 2];
+                        state.desk.items[item - 1] = Item::holding(first, 1, owner, 1);
+                        self.key(&state, bench as u64, ENTER, &place);
+                    }
                 }
             }
         }

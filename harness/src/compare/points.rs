@@ -80,7 +80,7 @@ fn is_number_item(item: usize) -> bool {
 }
 
 /// The value of an item in memory, empty where its length is none.
-fn value(memory: &Memory, item: usize) -> &[u8] {
+pub(super) fn value(memory: &Memory, item: usize) -> &[u8] {
     let slot = &memory.texts[(DESK_ITEMS_SLOT + item - 1) * DESK_LINE..][..DESK_LINE];
     let length = memory.numbers[DESK_ITEMS_AT + DESK_ITEM_NUMBERS * (item - 1)];
     slot.get(..length).unwrap_or(&[])

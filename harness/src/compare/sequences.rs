@@ -6,7 +6,8 @@ use crate::boundary::Memory;
 use crate::program::{Answer, Call};
 use crate::random::Random;
 use crate::sequences::{
-    desk_sessions, few_calls, log_lengths, measured_examples, rewritten, Sequence, Sequences,
+    contended, desk_sessions, few_calls, log_lengths, measured_examples, rewritten, Sequence,
+    Sequences,
 };
 use crate::tally::Question;
 use reference::desk::{ENTER, LOG_LIMIT};
@@ -26,6 +27,7 @@ impl Comparison<'_> {
         self.sequences("measured examples typed", measured_examples());
         self.sequences("lengths of the log", log_lengths());
         self.sequences("items rewritten", rewritten());
+        self.sequences("items contended", contended());
     }
 
     pub(super) fn listed_sequences(&mut self) {

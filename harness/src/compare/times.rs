@@ -1,5 +1,6 @@
-//! How often an item was typed: document 02, request No. 7.
+//! How often an item was typed, and by whom it may be: document 02, requests No. 7 and 8.
 
+use super::points::value;
 use super::Comparison;
 use crate::boundary::{
     Memory, DESK_COUNT_AT, DESK_ITEMS, DESK_ITEMS_AT, DESK_ITEM_NUMBERS, DESK_LINE, DESK_USED_AT,
@@ -7,7 +8,7 @@ use crate::boundary::{
 use crate::program::{Answer, Call};
 use crate::records::named;
 use crate::tally::Question;
-use reference::desk::{ENTER, LOG_FULL};
+use reference::desk::{ENTER, LOG_FULL, NOT_OWNER, RECORD_HEAD};
 use reference::line::{split, ACCEPTED, WRONG_KIND};
 use reference::names::item;
 use std::fmt::Display;
@@ -15,6 +16,13 @@ use std::fmt::Display;
 /// The numbers of each item: length, entry number, bench and how many entries named it.
 fn of_items(numbers: &[usize]) -> &[[usize; DESK_ITEM_NUMBERS]] {
     &numbers[DESK_ITEMS_AT..].as_chunks().0[..DESK_ITEMS]
+}
+
+/// The item and the value of a line whose Enter was refused for neither its form nor its name.
+fn refused_line(memory: &Memory, bench: usize) -> (usize, &[u8]) {
+    let line = &memory.texts[DESK_LINE * bench..][..memory.numbers[bench]];
+    let (name, value) = split(line).expect("the line has its form");
+    (item(name).expect("the line names an item"), value)
 }
 
 impl Comparison<'_> {
@@ -45,8 +53,7 @@ impl Comparison<'_> {
         same
     }
 
-    /// Counts an Enter of a sequence by the item that its line names, and what that held before: these
-    /// numbers.
+    /// Counts an Enter of a sequence by what the item that its line names held before: these numbers.
     pub(super) fn note_entered(
         &mut self,
         before: &[usize],
@@ -59,23 +66,42 @@ impl Comparison<'_> {
                 let count = memory.numbers[DESK_COUNT_AT];
                 let entered = of_items(&memory.numbers).iter().position(|held| held[1] == count);
                 let Some(entered) = entered else { return };
-                let place = match of_items(before)[entered] {
-                    [0, ..] => 0,
-                    [_, _, of, _] if of as u64 == bench => 1,
-                    _ => 2,
-                };
-                self.tally.note(Question::Entered, place);
+                let filled = of_items(before)[entered][0] > 0;
+                self.tally.note(Question::Entered, filled.into());
             }
-            WRONG_KIND | LOG_FULL => {
-                let length = memory.numbers[bench as usize];
-                let line = &memory.texts[DESK_LINE * bench as usize..][..length];
-                let named = split(line).and_then(|(name, _)| item(name));
-                if named.is_some_and(|named| of_items(before)[named - 1][0] > 0) {
-                    self.tally.note(Question::NotCounted, usize::from(answer == LOG_FULL));
-                }
+            WRONG_KIND | LOG_FULL | NOT_OWNER => {
+                let (named, _) = refused_line(memory, bench as usize);
+                let place = match (of_items(before)[named - 1], answer) {
+                    ([0, ..], _) => return,
+                    ([_, _, of, _], WRONG_KIND) if of as u64 == bench => 0,
+                    (_, LOG_FULL) => 1,
+                    (_, WRONG_KIND) => 2,
+                    _ => 3,
+                };
+                self.tally.note(Question::FilledRefused, place);
             }
             _ => {}
         }
+    }
+
+    /// Counts an Enter that another's item refused, by the room that its record would have had, and by
+    /// what stands there.
+    pub(super) fn note_not_owner(&mut self, memory: &Memory, bench: usize) {
+        let (named, typed) = refused_line(memory, bench);
+        let room = memory.log.len() - memory.numbers[DESK_USED_AT];
+        let place = match room as isize - (RECORD_HEAD + typed.len()) as isize {
+            1.. => 0,
+            0 => 1,
+            -1 => 2,
+            _ => 3,
+        };
+        self.tally.note(Question::NotOwnerRoom, place);
+        let place = match value(memory, named) {
+            b"?" => 1,
+            b"." => 2,
+            _ => 0,
+        };
+        self.tally.note(Question::NotOwnerValue, place);
     }
 
     /// Counts how often an item was typed, by Who.

@@ -6,15 +6,14 @@ use crate::by_reference::Reference;
 use crate::memory::held;
 use crate::old_build::taken_over;
 use crate::program::Program;
-use reference::desk::{Desk, Item, ENTER, LOG_FULL, NOT_SOUND};
+use reference::desk::{Desk, Item, ENTER, LOG_FULL, NOT_OWNER, NOT_SOUND};
 use reference::line::{split, ACCEPTED, WRONG_KIND};
 use reference::names::{item, ITEMS};
 
-pub const FAULTS: [(&str, Wrong); 15] = [
+pub const FAULTS: [(&str, Wrong); 14] = [
     ("an item is never counted beyond 1", Wrong::Key(never_beyond_1)),
     ("an entry is counted for the item after its own", Wrong::Key(for_the_next)),
     ("entries are counted for all items together", Wrong::Key(together)),
-    ("an entry by another bench counts from 1 again", Wrong::Key(again_by_another)),
     ("a fresh desk keeps how often", Wrong::Fresh(kept)),
     ("a refused Enter is counted", Wrong::Key(refused_counted)),
     ("a key takes 0 in a filled item", Wrong::Key(|m, bench, byte| key(m, bench, byte, zero))),
@@ -82,21 +81,6 @@ fn together(memory: &mut Memory, bench: u64, byte: u8) -> u8 {
     entered(memory, bench, byte, |items, at| items[at].times = items[at].entry)
 }
 
-fn again_by_another(memory: &mut Memory, bench: u64, byte: u8) -> u8 {
-    let before = held(memory);
-    let answer = Reference.key(memory, bench, byte);
-    if let (ENTER, ACCEPTED, Some((before, _))) = (byte, answer, before) {
-        change(memory, |desk| {
-            for (new, old) in desk.items.iter_mut().zip(before.items) {
-                if new.bench != old.bench {
-                    new.times = 1;
-                }
-            }
-        });
-    }
-    answer
-}
-
 fn kept(memory: &mut Memory) -> u8 {
     let times = held(memory).map(|(desk, _)| desk.items.map(|item| item.times));
     let answer = Reference.fresh(memory);
@@ -109,7 +93,7 @@ fn kept(memory: &mut Memory) -> u8 {
 
 fn refused_counted(memory: &mut Memory, bench: u64, byte: u8) -> u8 {
     let answer = Reference.key(memory, bench, byte);
-    if byte == ENTER && [WRONG_KIND, LOG_FULL].contains(&answer) {
+    if byte == ENTER && [WRONG_KIND, LOG_FULL, NOT_OWNER].contains(&answer) {
         change(memory, |desk| {
             let line = desk.lines[bench as usize];
             let named = split(&line.bytes[..line.len as usize]).and_then(|(name, _)| item(name));

@@ -54,8 +54,8 @@ add-end c = let s = c .before .before .before .before in omega (arith, short s, 
 part-classify-end : tie.Need-part-classify-end
 part-classify-end c = let s = c .before .before .before .before .before in omega (arith, short s, s .pre .ready .bench-in, s .pre .sized .texts)
 
-store-requires : tie.Need-store-requires
-store-requires c κs =
+store-if-open-requires : tie.Need-store-if-open-requires
+store-if-open-requires c κs =
     let p = c .before .before .before .before in
     let k = p .before .before in
     let s = k .before .before .before .before .before .before .before in
@@ -76,7 +76,7 @@ returns-4 : tie.Need-returns-4
 returns-4 c =
     let t = c .before .before .before .before .before .before in
     let p = t .before .before .before .before .before in
-    t .store .ensures ∙ by-class (p .before .before) (p .class .given .1)
+    t .store-if-open .ensures ∙ by-class (p .before .before) (p .class .given .1)
 
 pub enter-line-spec : {M : Type 1} → statement M
 enter-line-spec =
@@ -94,7 +94,7 @@ enter-line-spec =
     (λ c. search needs)
     (λ c. search needs)
     (λ c. search needs)
-    store-requires
+    store-if-open-requires
     (λ c. search needs)
     returns
     (λ c. search needs)
