@@ -127,9 +127,10 @@ part() {
 library_builds() {
     local build seed
     local -A number=([1]=400 [2]=2000 [3]=60)
-    mkdir -p "$work/examples" "$work/lists"
+    mkdir -p "$work/examples/more" "$work/lists"
     "$harness" example-frames "$work/examples" && "$harness" frames "$work/lists" || fail "frames" "not written"
     tried "library, four ways: measured examples" "$work/library" test_caller crates/test_caller/src/main.rt "$(used_by test_caller)" "$work/examples/stdin" "$work/examples/stdout"
+    tried "library, four ways: the other measured examples" "$work/again" test_caller crates/test_caller/src/main.rt "$(used_by test_caller)" "$work/examples/more/stdin" "$work/examples/more/stdout"
     for build in "${builds[@]}"; do
         prints "library, ${build#* }: fixed lists" "$work/lists/stdout" "$work/lists/stdin" "$work/library/${build% *}"
     done

@@ -27,6 +27,7 @@ use crate::sequences::{
 };
 use crate::sheet_lists;
 use crate::sheets::Sheets;
+use reference::desk::Desk;
 use reference::program::{keys, LOG};
 use std::fs;
 use std::path::Path;
@@ -88,10 +89,10 @@ impl Frames {
         self.stdout.extend([Reference.classify(text), graded.answer, graded.level]);
     }
 
-    /// The measured examples of document 01.
-    fn examples(&mut self) {
-        for desk in sheet_lists::measured_examples() {
-            self.calls(CALLS, in_memory(&desk), &[Call::Report], b"", 0);
+    /// Measured examples of document 01.
+    fn examples(&mut self, sheets: &[Desk]) {
+        for sheet in sheets {
+            self.calls(CALLS, in_memory(sheet), &[Call::Report], b"", 0);
         }
     }
 
@@ -129,29 +130,33 @@ fn told(answer: &Answer) -> Vec<u8> {
     [vec![answer.number()], rest].concat()
 }
 
-/// The measured examples, with the typed line whose record document 01 gives; few enough for the
-/// interpreter.
+/// The measured examples, with the typed line whose record document 01 gives: in two halves, each few
+/// enough for the interpreter, the second in the folder `more`.
 pub fn write_examples(folder: &Path) -> Result<(), String> {
+    let sheets = sheet_lists::measured_examples();
+    let (first, second) = sheets.split_at(sheets.len() / 2);
     let mut frames = Frames::default();
-    frames.examples();
+    frames.examples(first);
     let calls = b"_refine_ls_R_factor_gt 0.16\n".map(|byte| Call::Key { bench: 0, byte });
-    for length in [10, 9] {
-        frames.sequence(&Sequence { calls: calls.into(), log: vec![0xee; length] });
-    }
-    frames.wall(b"0.200001", ROWS[0]);
-    frames.wall(b"-0.06", ROWS[2]);
-    frames.wall(b"-.06(3)", ROWS[2]);
-    frames.wall(b"1.", ROWS[1]);
-    frames.wall(b"-.", ROWS[0]);
-    frames.wall(b"_refine_ls_R_factor_gt 0.16", NO_ROW);
-    frames.write(folder)
+    frames.sequence(&Sequence { calls: calls.into(), log: vec![0xee; 10] });
+    frames.write(folder)?;
+    let mut more = Frames::default();
+    more.examples(second);
+    more.sequence(&Sequence { calls: calls.into(), log: vec![0xee; 9] });
+    more.wall(b"0.200001", ROWS[0]);
+    more.wall(b"-0.06", ROWS[2]);
+    more.wall(b"-.06(3)", ROWS[2]);
+    more.wall(b"1.", ROWS[1]);
+    more.wall(b"-.", ROWS[0]);
+    more.wall(b"_refine_ls_R_factor_gt 0.16", NO_ROW);
+    more.write(&folder.join("more"))
 }
 
 /// The measured examples, as they are and typed, the sessions of desk with their files, and sequences
 /// about the length of the log, the order of few calls, and items typed again and by another bench.
 pub fn write_lists(folder: &Path) -> Result<(), String> {
     let mut frames = Frames::default();
-    frames.examples();
+    frames.examples(&sheet_lists::measured_examples());
     let lists = measured_examples().chain(log_lengths()).chain(desk_sessions());
     let lists = lists.chain(few_calls().step_by(9)).chain(rewritten().step_by(8));
     lists.chain(contended().step_by(10)).for_each(|sequence| frames.sequence(&sequence));
