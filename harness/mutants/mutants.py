@@ -10,6 +10,7 @@ import os
 import pathlib
 import subprocess
 import sys
+from concurrent.futures import ThreadPoolExecutor
 
 sys.dont_write_bytecode = True
 import make
@@ -59,6 +60,14 @@ def run(numbers, count, seconds):
     return told
 
 
+def run_all(numbers, count, seconds):
+    """The same of many, as many at once as there are processors."""
+    at_once = os.cpu_count() or 1
+    with ThreadPoolExecutor(at_once) as pool:
+        parts = list(pool.map(lambda at: run(numbers[at::at_once], count, seconds), range(at_once)))
+    return {number: how for part in parts for number, how in part.items()}
+
+
 def wrong(names, found, reasons):
     """What is not as it must be."""
     out = [f"no reason in survivors.txt: {name}" for name, reason in reasons.items() if not reason]
@@ -88,7 +97,7 @@ def main():
     survivors = [number for number, name in enumerate(names, 1) if name in reasons]
     found = run([0], SHORT, SECONDS[SHORT])
     faults = [] if found[0] is None else [f"the reference itself differs: {found[0]}"]
-    found |= run(expected, count, SECONDS[count]) | run(survivors, count if count == LONG else 0, SECONDS[count])
+    found |= run_all(expected, count, SECONDS[count]) | run_all(survivors, count if count == LONG else 0, SECONDS[count])
     faults += wrong(names, found, reasons)
     if not can_fail(names, found, reasons):
         faults.append("a wrong list is not told")
