@@ -7,18 +7,7 @@ cd "$(dirname "$0")/.." || exit 2
 
 harness=$PWD/build/cargo/release/harness
 [ -x "$harness" ] || { echo "$harness is missing: build it first" >&2; exit 2; }
-# Debian's modules are for Debian's own Python, which need not be the first one.
-python=/usr/bin/python3
-work=$(mktemp -d) || exit 2
-trap 'rm -rf "$work"' EXIT
-
-has_gemmi() {
-    "$python" -c 'import gemmi' 2>/dev/null
-}
-
-if ! has_gemmi; then
-    { apt-get update && apt-get install -y python3-gemmi; } >"$work/install" 2>&1 || tail -n 1 "$work/install"
-fi
+. harness/gemmi.sh
 if [ ! -x "$python" ]; then
     echo "skipped: readers of CIF (no $python)"
     echo "0 passed, 0 failed"
