@@ -96,8 +96,8 @@ desk_builds() {
         summary "$name: ${runs[${build% *}]} generated inputs" "$harness" desk-runs "$of" 31 "${runs[${build% *}]}"
     done
     [ -n "$long" ] || return
-    # The interpreter takes at most 10 million steps, about 500 keys.
-    for input in $(find harness/desk-sessions -name '*.in' -size -2 | sort); do
+    # The interpreter takes at most 10 million steps, some 115 keys.
+    for input in $(find harness/desk-sessions -name '*.in' -size -257c | sort); do
         name=$(basename "$input" .in)
         tried "desk, four ways: $name" "$work/again" desk crates/desk/src/main.rt "$crates" "$input" "${input%.in}.out"
     done
