@@ -83,11 +83,12 @@ builds=('1 -O0' '2 -O3' '3 checked')
 
 # The program desk.
 desk_builds() {
-    local first=harness/desk-sessions/document_01 input name build of crates
+    # The interpreter takes at most 10 million steps, too few for a session of 57 keys.
+    local first=harness/desk-sessions/odd_last_enter input name build of crates
     local -A runs=([1]=60 [2]=300 [3]=12)
     [ -z "$long" ] || runs=([1]=1000 [2]=5000 [3]=100)
     crates="$(used_by desk)"
-    tried "desk, four ways: document_01" "$work/desk" desk crates/desk/src/main.rt "$crates" $first.in $first.out
+    tried "desk, four ways: odd_last_enter" "$work/desk" desk crates/desk/src/main.rt "$crates" $first.in $first.out
     for build in "${builds[@]}"; do
         of=$work/desk/${build% *} name="desk, ${build#* }"
         for input in harness/desk-sessions/*.in; do
@@ -96,8 +97,7 @@ desk_builds() {
         summary "$name: ${runs[${build% *}]} generated inputs" "$harness" desk-runs "$of" 31 "${runs[${build% *}]}"
     done
     [ -n "$long" ] || return
-    # The interpreter takes at most 10 million steps, some 115 keys.
-    for input in $(find harness/desk-sessions -name '*.in' -size -257c | sort); do
+    for input in $(find harness/desk-sessions -name '*.in' -size -57c | sort); do
         name=$(basename "$input" .in)
         tried "desk, four ways: $name" "$work/again" desk crates/desk/src/main.rt "$crates" "$input" "${input%.in}.out"
     done
@@ -125,12 +125,13 @@ part() {
 
 # The calls of the library, through the program test_caller: the measured examples four ways, then the fixed lists and generated sequences by the compiled builds.
 library_builds() {
-    local build seed
+    local build seed part
     local -A number=([1]=400 [2]=2000 [3]=60)
-    mkdir -p "$work/examples/more" "$work/lists"
+    mkdir -p "$work/examples" "$work/lists"
     "$harness" example-frames "$work/examples" && "$harness" frames "$work/lists" || fail "frames" "not written"
-    tried "library, four ways: measured examples" "$work/library" test_caller crates/test_caller/src/main.rt "$(used_by test_caller)" "$work/examples/stdin" "$work/examples/stdout"
-    tried "library, four ways: the other measured examples" "$work/again" test_caller crates/test_caller/src/main.rt "$(used_by test_caller)" "$work/examples/more/stdin" "$work/examples/more/stdout"
+    for part in "$work"/examples/*; do
+        tried "library, four ways: measured examples, part ${part##*/}" "$work/library" test_caller crates/test_caller/src/main.rt "$(used_by test_caller)" "$part/stdin" "$part/stdout"
+    done
     for build in "${builds[@]}"; do
         prints "library, ${build#* }: fixed lists" "$work/lists/stdout" "$work/lists/stdin" "$work/library/${build% *}"
     done

@@ -6,6 +6,9 @@ set -u
 need "$camp"
 sessions=harness/desk-sessions
 first=$sessions/document_01
+# How many items there are: all are in this file, after its first line.
+items=$(($(wc -l <$sessions/all_items.cif) - 1))
+no_sheet="no such sheet: 0 is the camp's, of benches 0 and 1, and 1 the visitors', of benches 2 and 3"
 
 # typed BENCH: the lines of standard input as one bench types them.
 typed() {
@@ -27,17 +30,17 @@ fails() {
 }
 
 commands() {
-    local name help="see 'camp help'" long
+    local name word help="see 'camp help'" long
     long=$(printf 'a%.0s' {1..300})
     runs "camp: version" 0 "camp $(sed -n 's/^#define CAMP_VERSION "\(.*\)"$/\1/p' client/camp/version.h)"$'\n' '' "$camp" --version
     runs "camp: --help is help" 0 "$("$camp" help)"$'\n' '' "$camp" --help
-    for name in cif help refusals symmetry who; do
+    for name in cif help history hydrogen record refusals report run symmetry who; do
         runs "camp help: $name is listed" 0 $'1\n' '' bash -c '"$1" help | grep -c "^  $2  *[a-z]"' - "$camp" "$name"
         runs "camp help: $name" 0 $'usage: camp '"$name"$'\n' '' bash -c '"$1" help "$2" | head -n 1 | cut -d " " -f 1-3' - "$camp" "$name"
         runs "camp help: $name has an example" 0 $'Example:\n' '' bash -c '"$1" help "$2" | grep -x Example:' - "$camp" "$name"
         runs "camp: $name --help" 0 "$("$camp" help "$name")"$'\n' '' "$camp" "$name" --help
     done
-    runs "camp help: nothing else is listed" 0 $'5\n' '' bash -c '"$1" help | sed -n "/The commands:/,/^.camp help/p" | grep -c "^  "' - "$camp"
+    runs "camp help: nothing else is listed" 0 $'10\n' '' bash -c '"$1" help | sed -n "/The commands:/,/^.camp help/p" | grep -c "^  "' - "$camp"
     misuse "no command" "a command is missing; $help"
     misuse "no such command" "'xyz' is not a command; $help" xyz
     misuse "a command in capitals" "'CIF' is not a command; $help" CIF
@@ -58,14 +61,49 @@ commands() {
     misuse "symmetry of two" "symmetry: 'b' is one argument too many; see 'camp help symmetry'" symmetry a b
     misuse "symmetry: an option" "symmetry: '--all' is not an option; see 'camp help symmetry'" symmetry --all
     misuse "symmetry: an empty name" "symmetry: '' is not the name of a file; see 'camp help symmetry'" symmetry ''
-    misuse "who without SESSION" "who: SESSION, the file of keys, is missing; see 'camp help who'" who
+    misuse "who without LOG" "who: LOG, or --session and SESSION, is missing; see 'camp help who'" who
     misuse "who of three" "who: 'c' is one argument too many; see 'camp help who'" who a 4 c
+    misuse "who of a session and three" "who: 'c' is one argument too many; see 'camp help who'" who --session a 4 c
+    misuse "who: --session alone" "who: '--session' lacks what belongs to it; see 'camp help who'" who 4 --session
+    misuse "who: --json twice" "who: '--json' stands twice; see 'camp help who'" who --json a --json
+    misuse "record without SESSION" "record: SESSION, the file of keys, is missing; see 'camp help record'" record
+    misuse "record without LOG" "record: LOG, the file for the log, is missing; see 'camp help record'" record $first.in
+    misuse "record of three" "record: 'c' is one argument too many; see 'camp help record'" record $first.in b c
+    misuse "record: an option" "record: '--force' is not an option; see 'camp help record'" record $first.in --force
+    misuse "record: an empty name" "record: '' is not the name of a file; see 'camp help record'" record $first.in ''
+    misuse "cif: --log alone" "cif: '--log' lacks what belongs to it; see 'camp help cif'" cif x --log
+    misuse "cif: a log with an empty name" "cif: '' is not the name of a file; see 'camp help cif'" cif x --log ''
+    misuse "hydrogen without LOG" "hydrogen: LOG, or --session and SESSION, is missing; see 'camp help hydrogen'" hydrogen
+    misuse "hydrogen of two" "hydrogen: 'b' is one argument too many; see 'camp help hydrogen'" hydrogen a b
+    misuse "hydrogen of a session and a log" "hydrogen: 'b' is one argument too many; see 'camp help hydrogen'" hydrogen --session a b
+    misuse "hydrogen: an option" "hydrogen: '--all' is not an option; see 'camp help hydrogen'" hydrogen --all
+    misuse "hydrogen: an empty name" "hydrogen: '' is not the name of a file; see 'camp help hydrogen'" hydrogen ''
+    misuse "history without LOG" "history: LOG, the file of a log, is missing; see 'camp help history'" history
+    misuse "report without LOG" "report: LOG, or --session and SESSION, is missing; see 'camp help report'" report --powder
+    misuse "report of a session and a log" "report: 'b' is one argument too many; see 'camp help report'" report --session a b
+    misuse "report: --powder twice" "report: '--powder' stands twice; see 'camp help report'" report --powder a --powder
+    for name in report history; do
+        misuse "$name: a file that is none" "$name: '' is not the name of a file; see 'camp help $name'" $name ''
+        misuse "$name of two" "$name: 'b' is one argument too many; see 'camp help $name'" $name a b
+        misuse "$name: an option" "$name: '--all' is not an option; see 'camp help $name'" $name --all
+        misuse "$name: --json twice" "$name: '--json' stands twice; see 'camp help $name'" $name --json a --json
+        misuse "$name: no sheet's number" "$name: 'x' is not the number of a sheet; see 'camp help $name'" $name --sheet x a
+    done
     misuse "who: an option" "who: '--all' is not an option; see 'camp help who'" who --all
     misuse "who: an empty name" "who: '' is not the name of a file; see 'camp help who'" who ''
-    for name in '' 0 11 -4 +4 4.0 ' 4' 4x 18446744073709551620 _refine_ls_R_factor '_refine_ls_R_factor_gt ' '_refine_ls_R_factor_gt ?' '_refine_ls_R_factor_gt ? ' refine_ls_R_factor_gt _ "_$long"; do
-        misuse "who: item '$name'" "who: '$name' is neither the number nor the name of an item; see 'camp help who'" who $first.in "$name"
+    for name in '' 0 $((items + 1)) -4 +4 4.0 ' 4' 4x 18446744073709551620 _refine_ls_R_factor '_refine_ls_R_factor_gt ' '_refine_ls_R_factor_gt ?' '_refine_ls_R_factor_gt ? ' refine_ls_R_factor_gt _ "_$long"; do
+        misuse "who: item '$name'" "who: '$name' is neither the number nor the name of an item; see 'camp help who'" who --session $first.in "$name"
     done
-    misuse "who: keys that are no name" "who: '_a\\x18_refine_ls_R_factor_gt' is neither the number nor the name of an item; see 'camp help who'" who $first.in $'_a\x18_refine_ls_R_factor_gt'
+    misuse "who: keys that are no name" "who: '_a\\x18_refine_ls_R_factor_gt' is neither the number nor the name of an item; see 'camp help who'" who --session $first.in $'_a\x18_refine_ls_R_factor_gt'
+    for name in cif who; do
+        misuse "$name: --sheet alone" "$name: '--sheet' lacks what belongs to it; see 'camp help $name'" $name $first.in --sheet
+        misuse "$name: --sheet twice" "$name: '--sheet' stands twice; see 'camp help $name'" $name --sheet 0 $first.in --sheet 0
+        for word in x '' -1 +1 1.0 ' 1' 1x; do
+            misuse "$name: sheet '$word'" "$name: '$word' is not the number of a sheet; see 'camp help $name'" $name --sheet "$word" $first.in
+        done
+    done
+    misuse "refusals: --sheet" "refusals: '0' is one argument too many; see 'camp help refusals'" refusals --sheet 0
+    misuse "who: --sheet after --" "who: '--sheet' is not an option; see 'camp help who'" who -- --sheet 0
     misuse "a long command" "'$long' is not a command; $help" "$long"
 }
 
@@ -85,10 +123,19 @@ examples() {
     example cif bash -c '"$1" cif camp-1 sheet.cif <session && cat sheet.cif' - "$camp"
     echo '_refine_ls_wR_factor_gt 0.16' | typed 1 >"$work/example/session"
     example refusals "$camp" refusals session
-    { echo '_refine_ls_R_factor_gt 0.16' | typed 0; echo '_refine_ls_wR_factor_obs 0.2' | typed 1; echo '_refine_ls_R_factor_gt 0.045' | typed 0; } >"$work/example/session"
-    example who "$camp" who session
+    { echo '_refine_ls_R_factor_gt 0.16' | typed 0; echo '_refine_ls_wR_factor_obs 0.2' | typed 1; echo '_refine_ls_R_factor_gt 0.03' | typed 2; echo '_refine_ls_R_factor_gt 0.045' | typed 0; } >"$work/example/session"
+    "$camp" record "$work/example/session" "$work/example/stick.log"
+    example who "$camp" who stick.log
+    example history "$camp" history stick.log
+    cp crates/desk/stdin "$work/example/session"
+    example record bash -c '"$1" record session stick.log && "$1" history stick.log' - "$camp"
+    example report "$camp" report --sheet 0 stick.log
     printf '%s\n' x,y,z -x,y+1/2,-z -x,-y,-z >"$work/example/operators"
     example symmetry "$camp" symmetry operators
+    { echo "_chemical_formula_sum 'C10 H20'" | typed 0; echo '_chemical_formula_weight 142.286' | typed 1; } >"$work/example/session"
+    example hydrogen "$camp" hydrogen --session session
+    cp crates/desk/stdin "$work/example/session"
+    example run timeout 10 "$camp" run --plain --log camp.log --pairs session </dev/null
 }
 
 # refusals_of NAME FILE: what camp refusals prints of a session, by the reference's answers; NAME as messages name it.
@@ -177,13 +224,13 @@ bench 3 has not entered `a`
 END_OF_LINES
 )"$'\n' '' "$camp" refusals - < <(printf '4\n3a/\n\0\0')
     runs "camp refusals: items of others" 1 "$(sed "s/^/$about/" <<'END_OF_LINES'
-pair 84, bench 3: 9, this value belongs to another bench (Enter after `_refine_ls_R_factor_gt 0.3`)
-pair 85, bench 3: 9, this value belongs to another bench (Enter after `_refine_ls_R_factor_gt 0.3`)
+pair 84, bench 1: 9, this value belongs to another bench (Enter after `_refine_ls_R_factor_gt 0.3`)
+pair 85, bench 1: 9, this value belongs to another bench (Enter after `_refine_ls_R_factor_gt 0.3`)
 pair 159, bench 0: 7, not a number, or no category, as this item wants (Enter after `_refine_ls_wR_factor_obs 1234567890`)
 pair 161, bench 0: 9, this value belongs to another bench (Enter after `_refine_ls_wR_factor_obs 123456789`)
-pair 193, bench 1: 9, this value belongs to another bench (Enter after `_chemical_formula_sum 'C10 H20'`)
+pair 193, bench 3: 9, this value belongs to another bench (Enter after `_chemical_formula_sum 'C10 H20'`)
 bench 0 has not entered `_refine_ls_wR_factor_obs 123456789`
-bench 1 has not entered `_chemical_formula_sum 'C10 H20'`
+bench 3 has not entered `_chemical_formula_sum 'C10 H20'`
 5 of 225 keys refused
 END_OF_LINES
 )"$'\n' '' "$camp" refusals - <$sessions/items_of_others.in
@@ -227,48 +274,59 @@ pairs() {
 
 # who_of FILE: what camp who prints of a session that leaves some item filled, by the reference's dump.
 who_of() {
-    local item number bench entry times value names
-    mapfile -t names < <(tail -n +2 $sessions/all_ten_items.cif | cut -d ' ' -f 1)
+    local item sheet number bench entry times value names
+    mapfile -t names < <(tail -n +2 $sessions/all_items.cif | cut -d ' ' -f 1)
     { echo "new 4096 0"; pairs "$1" | sed 's/^/k /'; echo dump; } | "$harness" reference-trace | tail -n 1 |
-        sed 's/.* items=\([^ ]*\) .*/\1/' | tr ';' '\n' | while IFS=: read -r _ number bench entry times value; do
+        sed 's/.* items=\([^ ]*\) .*/\1/' | tr ';' '\n' | while IFS=: read -r sheet number bench entry times value; do
         [ -n "$number" ] || continue
-        item="item $number ${names[number - 1]}: bench $bench, entry $entry, typed $times time"
+        item="sheet $sheet, item $number ${names[number - 1]}: bench $bench, entry $entry, typed $times time"
         [ "$times" = 1 ] || item+=s
         printf "%s: %b\n" "$item" "$(sed 's/../\\x&/g' <<<"$value")"
     done
 }
 
-# who_agrees NAME FILE: what camp who prints, of all items and of each, and its exit, are those by the reference.
+# who_agrees NAME FILE: what camp who prints, of all items, of each, and of each sheet, and its exit, are those by the reference.
 who_agrees() {
-    local item status
+    local item sheet status
     who_of "$2" >"$work/told"
-    "$camp" who "$2" >"$work/out" 2>&1
+    "$camp" who --session "$2" >"$work/out" 2>&1
     status=$?
     if [ ! -s "$work/told" ]; then
         [ $status -eq 1 ] && [ "$(cat "$work/out")" = "camp: $2: every item is empty" ] && ok "$1" || fail "$1" "exit $status, $(head -n 1 "$work/out")"
         return
     fi
-    for item in {1..10}; do
-        "$camp" who "$2" $item >>"$work/each" 2>&1
-        [ $? -eq "$(grep -c "^item $item " "$work/told" | tr 01 10)" ] || echo "item $item: another exit" >>"$work/each"
+    for item in $(seq $items); do
+        "$camp" who --session "$2" $item >>"$work/each" 2>&1
+        [ $? -eq "$(grep -c ", item $item " "$work/told" | tr 012 100)" ] || echo "item $item: another exit" >>"$work/each"
     done
-    { grep -v ' is empty$' "$work/each" | cmp -s - "$work/told"; } || status=3
+    { grep -v ' is empty$' "$work/each" | sort -s -k 1,2 | cmp -s - "$work/told"; } || status=3
+    for sheet in 0 1; do
+        "$camp" who --sheet $sheet --session "$2" 2>&1 | grep -v "^camp: .*: sheet $sheet: every item is empty\$"
+    done >"$work/each"
+    cmp -s "$work/each" "$work/told" || status=4
     rm "$work/each"
     if [ $status -ne 0 ]; then fail "$1" "exit $status"; else same "$1" "$work/told" "$work/out"; fi
 }
 
 who() {
-    local input seed name line='item 4 _refine_ls_R_factor_gt: bench 0, entry 1, typed 1 time: 0.16'
+    local input seed name line='sheet 0, item 4 _refine_ls_R_factor_gt: bench 0, entry 1, typed 1 time: 0.16'
     for name in 4 04 0000000000000000000000004 _refine_ls_R_factor_gt _REFINE_LS_R_FACTOR_GT; do
-        runs "camp who: item $name" 0 "$line"$'\n' '' "$camp" who $first.in $name
+        runs "camp who: item $name" 0 "$line"$'\n' '' "$camp" who --session $first.in $name
     done
-    runs "camp who: the session by standard input" 0 "$line"$'\nitem 7 _refine_ls_wR_factor_obs: bench 1, entry 2, typed 1 time: 0.2\n' '' "$camp" who - <$first.in
-    runs "camp who: an empty item" 1 "camp: $first.in: item 5 is empty"$'\n' '' "$camp" who $first.in _refine_ls_R_factor_obs
-    runs "camp who: nothing typed" 1 $'camp: standard input: every item is empty\n' '' "$camp" who - </dev/null
-    runs "camp who: an empty item of nothing typed" 1 $'camp: standard input: item 10 is empty\n' '' "$camp" who - 10 </dev/null
-    runs "camp who: the owner of an unassigned value" 0 $'item 1 _chemical_formula_sum: bench 2, entry 5, typed 2 times: \'C10 H22\'\n' '' "$camp" who $sessions/items_of_others.in 1
-    runs "camp who: a refused Enter is not counted" 0 $'item 2 _chemical_formula_weight: bench 3, entry 2, typed 2 times: 45.\n' '' \
-        "$camp" who - < <(printf '%s\n' '_chemical_formula_weight 45.' '_chemical_formula_weight 45.' '_chemical_formula_weight 4 5' | typed 3)
+    runs "camp who: the session by standard input" 0 "$line"$'\nsheet 0, item 7 _refine_ls_wR_factor_obs: bench 1, entry 2, typed 1 time: 0.2\n' '' "$camp" who --session - <$first.in
+    runs "camp who: an empty item" 1 "camp: $first.in: item 5 is empty"$'\n' '' "$camp" who --session $first.in _refine_ls_R_factor_obs
+    runs "camp who: nothing typed" 1 $'camp: standard input: every item is empty\n' '' "$camp" who --session - </dev/null
+    runs "camp who: an empty item of nothing typed" 1 $'camp: standard input: item 10 is empty\n' '' "$camp" who --session - 10 </dev/null
+    runs "camp who: the owner of an unassigned value" 0 $'sheet 1, item 1 _chemical_formula_sum: bench 2, entry 2, typed 2 times: \'C10 H22\'\n' '' "$camp" who --session $sessions/items_of_others.in 1
+    runs "camp who: a refused Enter is not counted" 0 $'sheet 1, item 2 _chemical_formula_weight: bench 3, entry 2, typed 2 times: 45.\n' '' \
+        "$camp" who --session - < <(printf '%s\n' '_chemical_formula_weight 45.' '_chemical_formula_weight 45.' '_chemical_formula_weight 4 5' | typed 3)
+    runs "camp who: an item of both sheets" 0 "$line"$'\nsheet 1, item 4 _refine_ls_R_factor_gt: bench 2, entry 5, typed 3 times: 0.2\n' '' "$camp" who --session $sessions/two_camps.in 4
+    runs "camp who: an item of one sheet" 0 "$line"$'\n' '' "$camp" who --session $sessions/two_camps.in 4 --sheet 0
+    runs "camp who: an item that is empty on one sheet" 1 "camp: $first.in: sheet 1: item 4 is empty"$'\n' '' "$camp" who --sheet 1 --session $first.in 4
+    runs "camp who: an empty sheet" 1 "camp: $sessions/visitors_alone.in: sheet 0: every item is empty"$'\n' '' "$camp" who --sheet 0 --session $sessions/visitors_alone.in
+    for name in 2 3 256 4294967296 18446744073709551615 99999999999999999999; do
+        fails "who: sheet $name" "sheet $([ ${#name} -lt 20 ] && echo $name || echo 18446744073709551615): 12, $no_sheet" "$camp" who --sheet $name --session $first.in
+    done
     for input in $sessions/*.in; do
         who_agrees "camp who: $(basename "$input" .in)" "$input"
     done
@@ -277,13 +335,148 @@ who() {
         who_agrees "camp who: generated input $seed" "$work/generated"
     done
     # The guide's example.
-    { echo '_refine_ls_R_factor_gt 0.16' | typed 0; echo '_refine_ls_wR_factor_obs 0.2' | typed 1; echo '_refine_ls_R_factor_gt 0.045' | typed 0; } >"$work/session"
-    awk '/^    item / { print substr($0, 5) }' docs/guide/session.md >"$work/want"
-    "$camp" who "$work/session" >"$work/out"
+    { echo '_refine_ls_R_factor_gt 0.16' | typed 0; echo '_refine_ls_wR_factor_obs 0.2' | typed 1; echo '_refine_ls_R_factor_gt 0.03' | typed 2; echo '_refine_ls_R_factor_gt 0.045' | typed 0; } >"$work/session"
+    awk '/^    sheet / { print substr($0, 5) }' docs/guide/session.md >"$work/want"
+    "$camp" who --session "$work/session" >"$work/out"
     same "camp who: the guide's example is true" "$work/want" "$work/out"
-    fails "who: no such file" "none: No such file or directory" "$camp" who none
-    fails "who: a folder" "harness: Is a directory" "$camp" who harness 4
-    fails "who: input is closed" "standard input: Bad file descriptor" bash -c 'exec "$1" who - <&-' - "$camp"
+    "$camp" record "$work/session" "$work/stick.log"
+    awk '/^    sheet .*, entry/ { print substr($0, 5) }' docs/guide/files.md >"$work/want"
+    "$camp" history "$work/stick.log" >"$work/out"
+    same "camp history: the guide's example is true" "$work/want" "$work/out"
+    fails "who: no such file" "none: No such file or directory" "$camp" who --session none
+    fails "who: a folder" "harness: Is a directory" "$camp" who 4 --session harness
+    fails "who: input is closed" "standard input: Bad file descriptor" bash -c 'exec "$1" who --session - <&-' - "$camp"
+}
+
+# history_of LOG: what camp history prints of whole records, by walking their lengths.
+history_of() {
+    local names
+    names=$(tail -n +2 $sessions/all_items.cif | cut -d ' ' -f 1 | tr '\n' ' ')
+    od -An -v -t u1 -w1 "$1" | LC_ALL=C awk -v names="$names" '
+        BEGIN { split(names, name, " ") }
+        { byte[NR - 1] = $1 + 0 }
+        END {
+            for (at = 0; at < NR; at += length_of) {
+                length_of = byte[at] + 256 * byte[at + 1]
+                bench = byte[at + 4]
+                sheet = int(bench / 2)
+                printf "sheet %d, entry %d, bench %d: %s ", sheet, ++count[sheet], bench, name[byte[at + 5]]
+                for (b = at + 6; b < at + length_of; b++) printf "%c", byte[b]
+                print ""
+            }
+        }'
+}
+
+# damage_of LOG: what the reference answers to a log, number and byte.
+damage_of() {
+    { echo stick; echo "feed 1 $(od -An -v -tx1 "$1" | tr -d ' \n' | sed 's/^$/-/')"; } | "$harness" reference-trace | tail -n 1
+}
+
+# damaged NAME FILE: each command that reads the log tells its damage, by the reference's answer, with exit 1.
+damaged() {
+    local means=([18]="no record of an entry begins here" [19]="this record overwrites a value of another bench" [20]="the log ends inside this record")
+    local number byte words status message wrong=
+    read -r number byte < <(damage_of "$2")
+    message="camp: $2: byte $byte: $number, ${means[number]-}; what stands before it was read"
+    for words in report history who 'cif x --log' 'report --json' 'history --json' 'who --json'; do
+        "$camp" $words "$2" >"$work/out" 2>"$work/err"
+        status=$?
+        [ $status -eq 1 ] && [ "$(cat "$work/err")" = "$message" ] || wrong="$words: exit $status, $(head -c 200 "$work/err")"
+        case $words in *--json) grep -q "\"damage\":{\"byte\":$byte,\"number\":$number,\"meaning\":\"${means[number]-}\"}}\$" "$work/out" || wrong="$words: $(head -c 200 "$work/out")" ;; esac
+    done
+    if [ -n "$wrong" ]; then fail "$1" "$wrong"; else ok "$1"; fi
+}
+
+# powder_of FILE: a report for powder week, by the other one: rows 13 to 18, 20 and 21 are left out.
+powder_of() {
+    sed -E 's/^(1[3-8]|20|21) (R[0-9]+) .*/\1 \2 - 0/' "$1"
+}
+
+# From sessions to logs and back: what each command tells of a log is what it tells of the session.
+logs() {
+    local input name log at
+    mkdir "$work/logs"
+    for input in $sessions/*.in; do
+        name=$(basename "$input" .in) log=$work/logs/$(basename "$input" .in)
+        runs "camp record: $name" 0 '' '' "$camp" record "$input" "$log"
+        prints "camp report: $name" "${input%.in}.out" /dev/null "$camp" report "$log"
+        prints "camp report: $name by standard input" "${input%.in}.out" "$log" "$camp" report -
+        prints "camp report: $name from the session" "${input%.in}.out" /dev/null "$camp" report --session "$input"
+        powder_of "${input%.in}.out" >"$work/powder"
+        prints "camp report: $name, powder" "$work/powder" /dev/null "$camp" report "$log" --powder
+        prints "camp report: $name from the session, powder" "$work/powder" /dev/null "$camp" report --powder --session "$input"
+        prints "camp cif: $name from its log" "${input%.in}.cif" /dev/null "$camp" cif --log "$log" camp-1
+        "$camp" who --session "$input" 2>&1 | sed "s|$input|$log|" >"$work/want"
+        "$camp" who "$log" >"$work/out" 2>&1
+        same "camp who: $name from its log" "$work/want" "$work/out"
+        history_of "$log" >"$work/want"
+        "$camp" history "$log" >"$work/out" 2>&1
+        if [ -s "$log" ]; then same "camp history: $name" "$work/want" "$work/out"; else runs "camp history: $name" 0 '' '' "$camp" history "$log"; fi
+        if command -v python3 >/dev/null; then
+            for word in report history who; do
+                "$camp" $word --json "$log" | python3 -c 'import json, sys; assert json.load(sys.stdin)["damage"] is None' 2>/dev/null && continue
+                fail "camp $word --json: $name" "not JSON"
+            done
+        fi
+    done
+    log=$work/logs/two_camps
+    runs "camp who: an item of a log" 0 $'sheet 1, item 4 _refine_ls_R_factor_gt: bench 2, entry 5, typed 3 times: 0.2\n' '' "$camp" who --sheet 1 "$log" _refine_ls_R_factor_gt
+    runs "camp who: an empty item of a log" 1 "camp: $log: item 5 is empty"$'\n' '' "$camp" who "$log" 5
+    runs "camp who: JSON of an empty item" 1 $'{"items":[],"damage":null}\n' '' "$camp" who --json "$log" 5
+    runs "camp who: JSON" 0 $'{"items":[{"sheet":1,"item":1,"name":"_chemical_formula_sum","bench":3,"entry":4,"times":1,"value":"\'Br H\'"}],"damage":null}\n' '' "$camp" who --json --sheet 1 "$log" 1
+    runs "camp history: a sheet" 0 "$(grep '^sheet 1' < <(history_of "$log"))"$'\n' '' "$camp" history "$log" --sheet 1
+    runs "camp report: a sheet" 0 "$(sed -n '/^REPORT/h;/^REPORT/!H;${x;p;}' $sessions/two_camps.out)"$'\n' '' "$camp" report --sheet 1 "$log"
+    runs "camp cif: the visitors' sheet of a log" 0 "$(cat $sessions/two_camps.visitors.cif)"$'\n' '' "$camp" cif camp-1 --log "$log" --sheet 1
+    echo '_chemical_formula_sum "a\b"' | typed 0 | "$camp" record - "$work/logs/marks"
+    runs "camp history: JSON of marks" 0 '{"entries":[{"sheet":0,"item":1,"name":"_chemical_formula_sum","bench":0,"entry":1,"times":1,"value":"\"a\\b\""}],"damage":null}'$'\n' '' "$camp" history --json "$work/logs/marks"
+    : >"$work/logs/none"
+    prints "camp report: an empty log" $sessions/empty.out /dev/null "$camp" report "$work/logs/none"
+    runs "camp history: an empty log" 0 '' '' "$camp" history "$work/logs/none"
+    runs "camp history: JSON of an empty log" 0 $'{"entries":[],"damage":null}\n' '' "$camp" history --json "$work/logs/none"
+    runs "camp who: an empty log" 1 "camp: $work/logs/none: every item is empty"$'\n' '' "$camp" who "$work/logs/none"
+    for name in report history who 'cif x --log'; do
+        fails "$name: no such sheet of a log" "sheet 2: 12, $no_sheet" "$camp" $name "$log" --sheet 2
+        fails "$name: no such log" "none: No such file or directory" "$camp" $name none
+        fails "$name: a folder for a log" "harness: Is a directory" "$camp" $name harness
+        fails "$name: a log by closed input" "standard input: Bad file descriptor" bash -c 'exec "$1" $2 - <&-' - "$camp" "$name"
+    done
+    fails "history: JSON of no such log" "none: No such file or directory" "$camp" history --json none
+
+    for at in $(seq 1 $(($(wc -c <"$log") - 1))); do
+        head -c "$at" "$log" >"$work/logs/cut"
+        [ "$(damage_of "$work/logs/cut")" = "0 0" ] || damaged "camp: a log cut after $at bytes" "$work/logs/cut"
+    done
+    for at in 0 1 2 3 4 5 6 9 10 13 40; do
+        { head -c "$at" "$log"; printf '\377'; tail -c +$((at + 2)) "$log"; } >"$work/logs/other"
+        damaged "camp: a log with byte $at damaged" "$work/logs/other"
+    done
+    { cat "$log"; "$camp" record - - < <(echo '_refine_ls_R_factor_gt 0.1' | typed 3); } >"$work/logs/foreign"
+    damaged "camp: a log of before owners" "$work/logs/foreign"
+    runs "camp history: before a foreign record" 1 "$("$camp" history "$log")"$'\n' "camp: $work/logs/foreign: byte $(wc -c <"$log"): 19, this record overwrites a value of another bench; what stands before it was read"$'\n' \
+        "$camp" history "$work/logs/foreign"
+    head -c 100000 /dev/urandom >"$work/logs/random"
+    damaged "camp: random bytes for a log" "$work/logs/random"
+    for at in $(seq 9363); do printf '\007\0\001\0\002\0041'; done >"$work/logs/long"
+    damaged "camp: a log beyond 65536 bytes" "$work/logs/long"
+    runs "camp history: as many entries as 65536 bytes have" 1 $'9362\n' '' bash -o pipefail -c '"$1" history "$2" 2>/dev/null | grep -c "^sheet 1, entry"' - "$camp" "$work/logs/long"
+    runs "camp history: a log without an end" 1 '' $'camp: standard input: byte 0: 18, no record of an entry begins here; what stands before it was read\n' bash -c '"$1" history - </dev/zero' - "$camp"
+}
+
+# The log under its name: whole, or as it was before.
+record_file() {
+    local folder=$work/record
+    mkdir "$folder"
+    "$camp" record $first.in - >"$work/first.log"
+    runs "camp record: LOG" 0 '' '' "$camp" record $first.in "$folder/a.log"
+    holds "camp record: LOG is written" "$folder" a.log "$work/first.log"
+    runs "camp record: by standard input, again" 0 '' '' "$camp" record - "$folder/a.log" <$sessions/two_camps.in
+    holds "camp record: LOG is replaced whole" "$folder" a.log "$work/logs/two_camps"
+    fails "record: SESSION cannot be read" "none: No such file or directory" "$camp" record none "$folder/a.log"
+    fails "record: LOG cannot grow" "$folder/a.log: File too large" bash -o pipefail -c \
+        '{ (trap "" XFSZ; ulimit -f 0; exec "$1" record "$3" "$2") 2>&1 >&3 | cat >&2; } 3>&1' - "$camp" "$folder/a.log" $first.in
+    fails "record: LOG is a folder" "$folder: not an ordinary file" "$camp" record $first.in "$folder"
+    fails "record: no such folder" "$folder/none/a.log: No such file or directory" "$camp" record $first.in "$folder/none/a.log"
+    holds "camp record: a refusal leaves LOG and nothing else" "$folder" a.log "$work/logs/two_camps"
 }
 
 # finds NAME STATUS MESSAGES LINE..: what camp symmetry tells of these lines; each message after 'camp: standard input: '.
@@ -377,10 +570,81 @@ symmetry() {
     fails "symmetry: input is closed" "standard input: Bad file descriptor" bash -c 'exec "$1" symmetry <&-' - "$camp"
 }
 
+# hydrogen_of FORMULA WEIGHT: a session in which bench 0 types both, or one of them.
+hydrogen_of() {
+    { [ -z "$1" ] || echo "_chemical_formula_sum $1"; [ -z "$2" ] || echo "_chemical_formula_weight $2"; } | typed 0 >"$work/session"
+}
+
+# hydrogen_agrees NAME FILE: what camp hydrogen tells of each sheet is the reference's count or refusal, and its line has it.
+hydrogen_agrees() {
+    local sheet answer count want='' told='' state
+    state=$({ echo "new 4096 0"; pairs "$2" | sed 's/^/k /'; echo dump; echo hyd 0; echo hyd 1; } | "$harness" reference-trace | tail -n 3)
+    "$camp" hydrogen --session "$2" >"$work/out" 2>&1
+    for sheet in 0 1; do
+        head -n 1 <<<"$state" | grep -q "[=;]$sheet:[12]:" || continue
+        read -r answer count <<<"$(sed -n $((sheet + 2))p <<<"$state")"
+        want+="$sheet $answer $count "
+        told+=$(sed -n "s/^camp: .*: sheet $sheet: //p" "$work/out" | awk -v sheet=$sheet -v count="$count" '
+            NR == 1 && /^2[23],/ { sub(/,.*/, ""); print sheet, $0, 0 }
+            NR == 1 && /; it fits the weight / { print sheet, 0, count }
+            NR == 1 && /; without H it would fit / { print sheet, 0, 0 }
+            NR == 1 && /; H[0-9]* would fit / { sub(/.*; H/, ""); print sheet, 0, ($1 == "would" ? 1 : $1) }')" "
+    done
+    if [ "$want" = "$told" ]; then ok "$1"; else fail "$1" "told '$told', reference '$want'"; fi
+}
+
+# camp hydrogen: the count that fits and the line to be typed; why there is none; every session.
+hydrogen() {
+    local formula weight status told line name
+    while IFS='|' read -r formula weight status told line; do
+        hydrogen_of "$formula" "$weight"
+        [ -z "$line" ] || line=$'\n'"camp: $work/session: sheet 0: to be typed: _chemical_formula_sum $line"
+        runs "camp hydrogen: $formula, $weight" "$status" "camp: $work/session: sheet 0: $told$line"$'\n' '' "$camp" hydrogen --session "$work/session"
+    done <<'END'
+'C10 H20'|142.286|1|H20 typed; H21 would fit the weight 142.286, and so would H22 and H23|'C10 H21'
+'C10 H22'|142.286|0|H22 typed; it fits the weight 142.286
+C10|142.286(3)|1|no H typed; H21 would fit the weight 142.286(3), and so would H22 and H23|'C10 H21'
+'C10 H20'|120.11|1|H20 typed; without H it would fit the weight 120.11, and so would H|'C10'
+'C10 O'|138|1|no H typed; H would fit the weight 138, and so would H2 and H3|'C10 H O'
+'C H4 O'|32.05|0|H4 typed; it fits the weight 32.05
+'Br H'|90|1|H typed; H10 would fit the weight 90|'Br H10'
+'Br Na'|110|1|no H typed; H6 would fit the weight 110, and so would H7 and H8|'Br H6 Na'
+'Na O'|40|1|no H typed; H would fit the weight 40|'H Na O'
+'Ag Cl'|145|1|no H typed; H would fit the weight 145, and so would H2 and H3|'Ag Cl H'
+H2|30.24|1|H2 typed; H30 would fit the weight 30.24|'H30'
+"C18 H10 N7 O8 S"|493.45|1|H10 typed; H15 would fit the weight 493.45, and so would H16 to H23|'C18 H15 N7 O8 S'
+'C10 H20'|50|1|23, no count of hydrogens, 0 to 9999, fits the weight 50
+'C10 H20'||1|22, the helper cannot start: no weight is typed
+'C10 H20'|?|1|22, the helper cannot start: no weight is typed
+|142.286|1|22, the helper cannot start: no formula is typed
+?|142.286|1|22, the helper cannot start: no formula is typed
+'C10H20'|142.286|1|22, the helper cannot start: row 1: a term of the formula cannot be read
+'H20 C10'|142.286|1|22, the helper cannot start: row 2: the symbols of the formula are not in order, or one stands twice
+'C10 H20 U'|142.286|1|22, the helper cannot start: a symbol of the formula has no weight here
+END
+    : >"$work/nothing"
+    for line in "$work/nothing" "--session $work/nothing"; do
+        runs "camp hydrogen: nothing typed, $line" 1 "camp: $work/nothing: neither a formula nor a weight is typed"$'\n' '' "$camp" hydrogen $line
+    done
+    runs "camp hydrogen: standard input" 1 $'camp: standard input: neither a formula nor a weight is typed\n' '' "$camp" hydrogen - </dev/null
+    hydrogen_of "'C10 H20'" 142.286
+    "$camp" record "$work/session" "$work/log"
+    "$camp" hydrogen --session "$work/session" | sed "s|$work/session|$work/log|" >"$work/want"
+    "$camp" hydrogen "$work/log" >"$work/out" 2>&1
+    same "camp hydrogen: from a log" "$work/want" "$work/out"
+    runs "camp hydrogen: the other sheet" 1 "camp: $work/log: neither a formula nor a weight is typed"$'\n' '' "$camp" hydrogen --sheet 1 "$work/log"
+    fails "hydrogen: no such sheet" "sheet 2: 12, $no_sheet" "$camp" hydrogen "$work/log" --sheet 2
+    printf '\7\0\2\0\0\1C' >>"$work/log"
+    runs "camp hydrogen: a damaged log" 1 "$(cat "$work/want")"$'\n' "camp: $work/log: byte 28: 18, no record of an entry begins here; what stands before it was read"$'\n' "$camp" hydrogen "$work/log"
+    for name in $sessions/*.in; do
+        hydrogen_agrees "camp hydrogen: $(basename "$name" .in)" "$name"
+    done
+}
+
 # Where some of the output is not written, it is told, and the exit is 1.
 outputs() {
     local full="standard output: No space left on device" closed="standard output: Bad file descriptor" words
-    for words in help 'help cif' 'cif --help' --version 'cif camp-1' 'cif camp-1 -' "refusals $first.in" "refusals $work/random" "who $first.in" "who $first.in 5" symmetry "symmetry $work/many"; do
+    for words in help 'help cif' 'cif --help' --version 'cif camp-1' 'cif camp-1 -' "refusals $first.in" "refusals $work/random" "who --session $first.in" "who --session $first.in 5" "record $first.in -" "report $work/logs/two_camps" "history $work/logs/two_camps" "who $work/logs/two_camps" symmetry "symmetry $work/many"; do
         if [ -c /dev/full ]; then
             fails "${words/$work\//}: output cannot be written" "$full" bash -c '"$1" $2 >/dev/full' - "$camp" "$words" <$first.in
         fi
@@ -395,11 +659,21 @@ cif() {
     for input in $sessions/*.in; do
         name=$(basename "$input" .in)
         prints "camp cif: $name" "${input%.in}.cif" "$input" "$camp" cif camp-1
+        prints "camp cif: $name, sheet 0" "${input%.in}.cif" "$input" "$camp" cif --sheet 0 camp-1
+        if [ -e "${input%.in}.visitors.cif" ]; then word=${input%.in}.visitors.cif; else word=$sessions/empty.cif; fi
+        prints "camp cif: $name, sheet 1" "$word" "$input" "$camp" cif camp-1 --sheet 1
     done
-    for name in all_ten_items quoted unassigned; do
-        tail -n +2 $sessions/$name.cif | typed 2 >"$work/typed"
+    for name in all_items quoted unassigned; do
+        tail -n +2 $sessions/$name.cif | typed 1 >"$work/typed"
         prints "camp cif: $name typed back" $sessions/$name.cif "$work/typed" "$camp" cif camp-1
+        tail -n +2 $sessions/$name.cif | typed 2 >"$work/typed"
+        prints "camp cif: $name typed back by the visitors" $sessions/$name.cif "$work/typed" "$camp" cif --sheet 1 camp-1
     done
+    for word in 2 255 18446744073709551615 99999999999999999999; do
+        fails "cif: sheet $word" "sheet $([ ${#word} -lt 20 ] && echo $word || echo 18446744073709551615): 12, $no_sheet" "$camp" cif --sheet $word camp-1 <$first.in
+    done
+    fails "cif: sheet 2 before a bad block name" "sheet 2: 12, $no_sheet" "$camp" cif --sheet 2 camp_1 <$first.in
+    runs "camp cif: block name --sheet" 0 $'data_--sheet\n' '' "$camp" cif --sheet 0 -- --sheet </dev/null
     summary "camp cif: 300 generated inputs" "$harness" cif-runs "$camp" 15 300
     for word in '' "$long" camp_1 'camp 1' camp/1 data_ .; do
         fails "cif: block name $(printf %q "$word")" "block name '$word': 11, not 1 to 32 letters, digits or -" "$camp" cif "$word" <$first.in
@@ -463,7 +737,10 @@ commands
 examples
 refusals
 who
+logs
+record_file
 symmetry
+hydrogen
 outputs
 cif
 cif_file

@@ -14,7 +14,7 @@ need "$desk" "$camp"
 
 # Leaks of every kind count as errors; what valgrind says goes to a file of its own.
 faults=99
-watched=(valgrind -q --error-exitcode=$faults --leak-check=full --show-leak-kinds=all --errors-for-leak-kinds=all --log-file="$work/%p.log")
+watched=(valgrind -q --error-exitcode=$faults --leak-check=full --show-leak-kinds=all --errors-for-leak-kinds=all --log-file="$work/%p.valgrind")
 
 # Valgrind is there, or can be installed, and runs.
 ensure_valgrind() {
@@ -25,15 +25,15 @@ ensure_valgrind() {
 # said NAME: what valgrind said is nothing.
 said() {
     local log
-    for log in "$work"/*.log; do
+    for log in "$work"/*.valgrind; do
         if [ -s "$log" ]; then
             grep -a -m 12 . "$log"
-            rm -f "$work"/*.log
+            rm -f "$work"/*.valgrind
             fail "$1" "valgrind reports a fault"
             return 1
         fi
     done
-    rm -f "$work"/*.log
+    rm -f "$work"/*.valgrind
 }
 
 # clean NAME EXPECTED INPUT COMMAND..: under valgrind, without a fault and with this output.
@@ -54,31 +54,54 @@ refuses() {
     if [ $status -ne "$wanted" ]; then fail "$name" "exit $status, not $wanted"; else ok "$name"; fi
 }
 
-# told NAME WORD FILE COMMAND..: camp, run so, tells of the file by its command WORD what it tells otherwise, with the same exit.
+# told NAME WORDS FILE COMMAND..: camp, run so, tells of the file by its command and options WORDS what it tells otherwise, with the same exit.
 told() {
     local name=$1 word=$2 input=$3 wanted status
     shift 3
-    "$camp" "$word" "$input" >"$work/want"
+    # shellcheck disable=SC2086
+    "$camp" $word "$input" >"$work/want" 2>"$work/want.err"
     wanted=$?
-    "$@" "$word" "$input" >"$work/out" 2>"$work/err"
+    # shellcheck disable=SC2086
+    "$@" $word "$input" >"$work/out" 2>"$work/err"
     status=$?
-    if [ $status -ne $wanted ] || [ -s "$work/err" ]; then
+    if [ $status -ne $wanted ] || ! cmp -s "$work/want.err" "$work/err"; then
         fail "$name" "exit $status, not $wanted, $(head -c 300 "$work/err" | tr '\n' ' ')"
     else
         same "$name" "$work/want" "$work/out"
     fi
 }
 
-# clean_told NAME WORD FILE: the same under valgrind, without a fault.
+# clean_told NAME WORDS FILE: the same under valgrind, without a fault.
 clean_told() {
     told "$1" "$2" "$3" "${watched[@]}" "$camp"
+    said "$1"
+}
+
+# ran NAME INPUT COMMAND..: camp run, run so, prints of the pairs of an input what it prints otherwise, and keeps the same log.
+ran() {
+    local name=$1 input=$2
+    shift 2
+    rm -f "$work/ran.want" "$work/ran"
+    "$camp" run --plain --log "$work/ran.want" --pairs "$input" </dev/null | sed 's/ran\.want/ran/' >"$work/want"
+    "$@" run --plain --log "$work/ran" --pairs "$input" </dev/null >"$work/out" 2>"$work/err"
+    if [ -s "$work/err" ] || ! cmp -s "$work/ran.want" "$work/ran"; then
+        fail "$name" "another log, or $(head -c 300 "$work/err" | tr '\n' ' ')"
+    else
+        same "$name" "$work/want" "$work/out"
+    fi
+}
+
+# clean_ran NAME INPUT: the same under valgrind, without a fault.
+clean_ran() {
+    ran "$1" "$2" "${watched[@]}" "$camp"
     said "$1"
 }
 
 # expect INPUT: what desk, camp cif and the client must print for the input.
 expect() {
     "$harness" desk-answers <"$1" >"$work/want.desk"
-    "$harness" cif-answers camp-1 <"$1" >"$work/want.cif"
+    "$harness" cif-answers 0 camp-1 <"$1" >"$work/want.cif"
+    "$harness" cif-answers 1 camp-1 <"$1" >"$work/want.visitors.cif"
     "$harness" client-answers <"$1" >"$work/want.wall"
 }
 
@@ -87,6 +110,7 @@ every_program() {
     expect "$3"
     "$1" "desk: $2" "$work/want.desk" "$3" "$desk"
     "$1" "camp cif: $2" "$work/want.cif" "$3" "$camp" cif camp-1
+    "$1" "camp cif, sheet 1: $2" "$work/want.visitors.cif" "$3" "$camp" cif --sheet 1 camp-1
     "$1" "wall_screen: $2" "$work/want.wall" "$3" "$client"
 }
 
@@ -99,6 +123,7 @@ inputs() {
     : >"$work/empty"
     printf '\0' >"$work/zero"
     head -c "$random" /dev/urandom >"$work/random"
+    head -c 4000 "$work/random" >"$work/few"
     head -c "$huge" /dev/urandom >"$work/huge"
     typed $((huge / 10)) >"$work/typed"
     head -c "$huge" /dev/zero >"$work/zeros"
@@ -106,6 +131,10 @@ inputs() {
     "$harness" client-values 22 "$lines" >"$work/values"
     "$harness" operator-lines 23 $((lines / 4)) >"$work/operators"
     yes x,y,z | head -n 300 >"$work/many"
+    "$camp" record harness/desk-sessions/two_camps.in "$work/log.log"
+    head -c 40 "$work/log.log" >"$work/cut.log"
+    { cat "$work/log.log"; head -c 300 "$work/random"; } >"$work/other.log"
+    for _ in $(seq 9363); do printf '\007\0\001\0\002\0041'; done >"$work/long.log"
     printf '%s\n' '# a group' x,y,z -x,1/2+y,1/2-z '' -x,-y,-z x,-y-1/2,z+1/2 >"$work/group"
 }
 
@@ -120,7 +149,7 @@ unwatched() {
 # The C clients compiled with gcc's own checks of memory and arithmetic, which see their arrays too.
 sanitized() {
     local checks=(-std=c11 -O1 -g -Iinclude -fsanitize=address,undefined -fno-sanitize-recover=all) libraries=${PROVED_LIBS:-target/staticlib} input
-    if ! gcc "${checks[@]}" client/camp/*.c "$libraries"/libexport_{desk,symmetry}.a -o "$work/camp" 2>/dev/null ||
+    if ! gcc "${checks[@]}" client/camp/*.c "$libraries"/libexport_{desk,symmetry}.a -lncurses -o "$work/camp" 2>/dev/null ||
         ! gcc "${checks[@]}" client/wall_screen.c "$libraries/libexport_wall.a" -o "$work/wall_screen" 2>/dev/null; then
         echo "skipped: the C clients with gcc's checks (its libraries for them are not there)"
         return
@@ -128,12 +157,21 @@ sanitized() {
     for input in harness/desk-sessions/*.in; do
         prints "camp cif with gcc's checks: $(basename "$input" .in)" "${input%.in}.cif" "$input" "$work/camp" cif camp-1
         told "camp refusals with gcc's checks: $(basename "$input" .in)" refusals "$input" "$work/camp"
-        told "camp who with gcc's checks: $(basename "$input" .in)" who "$input" "$work/camp"
+        told "camp who with gcc's checks: $(basename "$input" .in)" 'who --session' "$input" "$work/camp"
+        "$camp" record "$input" "$work/log"
+        told "camp history with gcc's checks: $(basename "$input" .in)" 'history --json' "$work/log" "$work/camp"
+        told "camp report with gcc's checks: $(basename "$input" .in)" 'report --json' "$work/log" "$work/camp"
     done
     expect "$work/random"
     prints "camp cif with gcc's checks: $random random bytes" "$work/want.cif" "$work/random" "$work/camp" cif camp-1
     told "camp refusals with gcc's checks: $random random bytes" refusals "$work/random" "$work/camp"
-    told "camp who with gcc's checks: $random random bytes" who "$work/random" "$work/camp"
+    told "camp who with gcc's checks: $random random bytes" 'who --session' "$work/random" "$work/camp"
+    for input in log cut other long; do
+        told "camp history with gcc's checks: log $input" history "$work/$input.log" "$work/camp"
+        told "camp who with gcc's checks: log $input" 'who --json' "$work/$input.log" "$work/camp"
+    done
+    ran "camp run with gcc's checks: 4000 random bytes" "$work/few" "$work/camp"
+    ran "camp run with gcc's checks: two camps" harness/desk-sessions/two_camps.in "$work/camp"
     for input in random operators many group; do
         told "camp symmetry with gcc's checks: $input" symmetry "$work/$input" "$work/camp"
     done
@@ -160,7 +198,7 @@ END
     gcc -std=c11 -O1 -w -Iinclude "$work/fault.c" "${PROVED_LIBS:-target/staticlib}/libexport_wall.a" -o "$work/fault"
     "${watched[@]}" "$work/fault"
     local status=$?
-    rm -f "$work"/*.log
+    rm -f "$work"/*.valgrind
     if [ $status -eq $faults ]; then ok "valgrind sees a read beyond the lent bytes"; else fail "valgrind sees a read beyond the lent bytes" "exit $status"; fi
 }
 
@@ -185,9 +223,21 @@ programs() {
     done
     clean_told "camp refusals: refused lines" refusals harness/desk-sessions/refused_lines.in
     clean_told "camp refusals: $random random bytes" refusals "$work/random"
-    for input in all_ten_items overwritten log_filled_to_its_end empty; do
-        clean_told "camp who: $input" who harness/desk-sessions/$input.in
+    for input in all_items overwritten two_camps log_filled_to_its_end empty; do
+        clean_told "camp who: $input" 'who --session' harness/desk-sessions/$input.in
     done
+    for input in log cut other long; do
+        clean_told "camp report: log $input" report "$work/$input.log"
+        clean_told "camp who: log $input" 'who --json' "$work/$input.log"
+        clean_told "camp cif: log $input" 'cif x --log' "$work/$input.log"
+    done
+    for input in log cut other; do
+        clean_told "camp history: log $input" history "$work/$input.log"
+    done
+    for input in two_camps refused_lines all_items; do
+        clean_ran "camp run: $input" harness/desk-sessions/$input.in
+    done
+    clean_ran "camp run: 4000 random bytes" "$work/few"
     for input in short operators many group empty; do
         clean_told "camp symmetry: $input" symmetry "$work/$input"
     done
@@ -204,10 +254,22 @@ refusals() {
     refuses "camp cif: input cannot be read" 1 "$camp" cif camp-1 <.
     refuses "camp cif: no such folder" 1 "$camp" cif camp-1 "$work/none/a.cif" <$first
     refuses "camp cif: no argument" 2 "$camp" cif <$first
+    refuses "camp cif: no such sheet" 1 "$camp" cif --sheet 2 camp-1 <$first
+    refuses "camp cif: no number of a sheet" 2 "$camp" cif camp-1 --sheet x <$first
     refuses "camp refusals: no such file" 1 "$camp" refusals "$work/none"
-    refuses "camp who: an item by its name" 0 "$camp" who $first _REFINE_LS_R_FACTOR_GT
-    refuses "camp who: an empty item" 1 "$camp" who $first 10
-    refuses "camp who: no such item" 2 "$camp" who $first _a
+    refuses "camp who: an item by its name" 0 "$camp" who --session $first _REFINE_LS_R_FACTOR_GT
+    refuses "camp who: an empty item" 1 "$camp" who --session $first 10
+    refuses "camp who: no such item" 2 "$camp" who --session $first _a
+    refuses "camp who: a sheet" 0 "$camp" who --sheet 0 --session $first 4
+    refuses "camp who: no such sheet" 1 "$camp" who --sheet 2 --session $first
+    refuses "camp record: LOG" 0 "$camp" record $first "$work/a.log"
+    refuses "camp record: no such folder" 1 "$camp" record $first "$work/none/a.log"
+    refuses "camp report: no such log" 1 "$camp" report "$work/none"
+    refuses "camp history: a log that cannot be read" 1 "$camp" history .
+    refuses "camp run: the log is a folder" 1 "$camp" run --plain --log "$work" --pairs $first </dev/null
+    printf '\n\0\001' >"$work/torn"
+    refuses "camp run: a torn record" 0 "$camp" run --plain --log "$work/torn" --pairs $first </dev/null
+    refuses "camp run: no input" 2 "$camp" run --log "$work/ran" </dev/null
     refuses "camp symmetry: no such file" 1 "$camp" symmetry "$work/none"
     refuses "camp symmetry: a product missing" 1 "$camp" symmetry < <(printf 'x,y,z\n-y,x,z\n')
     refuses "camp symmetry: two arguments" 2 "$camp" symmetry a b
@@ -223,9 +285,10 @@ sanitized
 if ensure_valgrind; then
     fault_is_seen
     (library "$work/library") >"$work/library.out" 2>&1 &
+    watching=$!
     programs
     refusals
-    wait $!
+    wait $watching
     cat "$work/library.out"
     if grep -q '^ok ' "$work/library.out"; then passed=$((passed + 1)); else failed=$((failed + 1)); fi
 else

@@ -15,7 +15,7 @@
 
 enum { STACK = 1 << 20, PAINT = 0xA5 };
 
-/* What fills nine of the ten items. */
+/* What fills all items of sheet 0 but one. */
 static const char *const lines[] = {
     "_chemical_formula_sum 'C18 H19 N7 O8 S'",
     "_chemical_formula_weight 493.5(2)",
@@ -26,6 +26,15 @@ static const char *const lines[] = {
     "_refine_ls_wR_factor_obs 0.2",
     "_refine_ls_shift/su_max -0.06",
     "_reflns_threshold_expression 'I > 2\\s(I)'",
+    "_diffrn_reflns_number 8235",
+    "_reflns_number_total 2105",
+    "_reflns_number_gt 1892",
+    "_diffrn_reflns_av_R_equivalents 0.0310(12)",
+    "_exptl_crystal_size_max 0.32",
+    "_exptl_crystal_size_mid 0.20",
+    "_exptl_crystal_size_min 0.11",
+    "_diffrn_radiation_wavelength 0.71073",
+    "_chemical_formula_moiety '((((C9 H8)2 N)1 O)1 S)1, H3 (N O)6 O'",
 };
 
 static uint8_t texts[DESK_TEXTS];
@@ -34,6 +43,9 @@ static uint8_t log_bytes[4096];
 static uint8_t file_bytes[DESK_FILE];
 /* A list of 192 operators: shifts, which are all looked at in pairs. */
 static int8_t rows[SYMMETRY_MOST * SYMMETRY_ROW];
+/* A desk into which a log is read, and its reader. */
+static uint8_t read_texts[DESK_TEXTS], kept[DESK_KEPT], record[184];
+static size_t read_numbers[DESK_NUMBERS], state[DESK_STATE];
 static volatile unsigned sink;
 
 /* One key of a bench. */
@@ -73,15 +85,28 @@ static void enter(void) {
 }
 
 static void report(void) {
-    sink += desk_report(texts, DESK_TEXTS, numbers, DESK_NUMBERS).rows[0].level;
+    sink += desk_report(texts, DESK_TEXTS, numbers, DESK_NUMBERS, 0, 0).rows[0].level;
 }
 
 static void who(void) {
-    sink += desk_who(texts, DESK_TEXTS, numbers, DESK_NUMBERS, 4).bench;
+    sink += desk_who(texts, DESK_TEXTS, numbers, DESK_NUMBERS, 0, 4).bench;
 }
 
 static void file(void) {
-    sink += desk_file(texts, DESK_TEXTS, numbers, DESK_NUMBERS, (const uint8_t *)"camp-1", 6, file_bytes, sizeof file_bytes).answer;
+    sink += desk_file(texts, DESK_TEXTS, numbers, DESK_NUMBERS, 0, (const uint8_t *)"camp-1", 6, file_bytes, sizeof file_bytes).answer;
+}
+
+static void propose(void) {
+    sink += (unsigned)desk_hydrogens(texts, DESK_TEXTS, numbers, DESK_NUMBERS, 0).count;
+}
+
+static void check_count(void) {
+    sink += desk_hydrogens_right(texts, DESK_TEXTS, numbers, DESK_NUMBERS, 0, 19).answer;
+}
+
+/* A log of one record of the longest line, whose last bytes come as a part. */
+static void feed(void) {
+    sink += desk_feed(read_texts, DESK_TEXTS, read_numbers, DESK_NUMBERS, kept, DESK_KEPT, state, DESK_STATE, record + 100, sizeof record - 100, 1).answer;
 }
 
 static void read_operator(void) {
@@ -148,10 +173,18 @@ int main(void) {
     print("desk_key, a byte appended", append, base);
     print("desk_key, a byte erased", erase, base);
     print("desk_key, Enter accepted", enter, base);
-    if (numbers[0] != 0 || numbers[1] != 0 || numbers[DESK_COUNT_AT] != 10) abort();
+    if (numbers[0] != 0 || numbers[1] != 0 || numbers[DESK_COUNT_AT] != sizeof lines / sizeof *lines + 1) abort();
     print("desk_report", report, base);
     print("desk_who", who, base);
     print("desk_file", file, base);
+    print("desk_hydrogens", propose, base);
+    print("desk_hydrogens_right", check_count, base);
+    if (desk_hydrogens(texts, DESK_TEXTS, numbers, DESK_NUMBERS, 0).answer != 0) abort();
+    memcpy(record, (const uint8_t[]){184, 0, 1, 0, 3, 1}, 6);
+    memset(record + 6, 'C', sizeof record - 6);
+    if (desk_feed(read_texts, DESK_TEXTS, read_numbers, DESK_NUMBERS, kept, DESK_KEPT, state, DESK_STATE, record, 100, 0).answer) abort();
+    print("desk_feed, a record kept in part", feed, base);
+    if (read_numbers[DESK_USED_AT] != sizeof record || state[1] != 1) abort();
     print("symmetry_read", read_operator, base);
     shift();
     print("symmetry_check, 192 operators", check_list, base);

@@ -28,9 +28,11 @@ uint8_t ask(uint8_t *texts, size_t *numbers, uint8_t *log)
 {
     return (uint8_t)(wall_classify(texts, 0) + probe_item(texts, 0) + desk_fresh(texts, DESK_TEXTS, numbers, DESK_NUMBERS) +
                      desk_key(texts, DESK_TEXTS, numbers, DESK_NUMBERS, log, 0, 0, 10) +
-                     desk_report(texts, DESK_TEXTS, numbers, DESK_NUMBERS).rows[11].level +
-                     desk_who(texts, DESK_TEXTS, numbers, DESK_NUMBERS, 1).bench +
-                     desk_file(texts, DESK_TEXTS, numbers, DESK_NUMBERS, log, 0, log, 0).answer +
+                     desk_report(texts, DESK_TEXTS, numbers, DESK_NUMBERS, 0, 1).rows[DESK_ROWS - 1].level +
+                     desk_hydrogens_right(texts, DESK_TEXTS, numbers, DESK_NUMBERS, 0, desk_hydrogens(texts, DESK_TEXTS, numbers, DESK_NUMBERS, 0).count).answer +
+                     desk_who(texts, DESK_TEXTS, numbers, DESK_NUMBERS, 1, 1).bench +
+                     desk_file(texts, DESK_TEXTS, numbers, DESK_NUMBERS, 0, log, 0, log, 0).answer +
+                     desk_feed(texts, DESK_TEXTS, numbers, DESK_NUMBERS, log, DESK_KEPT, numbers, DESK_STATE, texts, 0, 1).answer +
                      symmetry_check(symmetry_read(texts, 0).row, SYMMETRY_ROW).answer);
 }'
     echo "$source" >"$work/headers.c"
@@ -42,7 +44,7 @@ uint8_t ask(uint8_t *texts, size_t *numbers, uint8_t *log)
     if command -v g++ >/dev/null; then
         compiles "headers as C++" g++ -std=c++17 "${warnings[@]}" -Iinclude -Iharness -c "$work/headers.cc" -o "$work/headers++.o"
         nm -u "$work/headers++.o" | awk '{ print $2 }' | grep -E '^(wall|probe|desk|symmetry)_' | sort >"$work/symbols"
-        printf '%s\n' desk_file desk_fresh desk_key desk_report desk_who probe_item symmetry_check symmetry_read wall_classify >"$work/want"
+        printf '%s\n' desk_feed desk_file desk_fresh desk_hydrogens desk_hydrogens_right desk_key desk_report desk_who probe_item symmetry_check symmetry_read wall_classify >"$work/want"
         same "C names from C++" "$work/want" "$work/symbols"
     else
         echo "skipped: headers as C++ (no g++)"
@@ -246,6 +248,12 @@ typed() {
     printf %s "$2" | od -An -v -tu1 -w1 | while read -r byte; do echo "k $1 $byte|0"; done
 }
 
+# entered BENCH LINE: the same, with an Enter that is accepted.
+entered() {
+    typed "$1" "$2"
+    echo "k $1 10|0"
+}
+
 # The measured session of document 01, in a log with room for one record and two bytes.
 session() {
     echo 'new 12 0|ok'
@@ -259,9 +267,9 @@ session() {
     echo 'k 2 127|3'
     echo 'k 3 8|0'
     typed 2 "'"
-    echo "dump|lines=,5f726566696e655f6c735f77525f666163746f725f6f627320302e32,27, counts=1 items=0:4:0:1:1:302e3136 used=10 log=0a0001000004302e3136464d"
+    echo "dump|lines=,5f726566696e655f6c735f77525f666163746f725f6f627320302e32,27, counts=1,0 items=0:4:0:1:1:302e3136 used=10 log=0a0001000004302e3136464d"
     echo 'new 3 250|ok'
-    echo 'dump|lines=,,, counts=0 items= used=0 log=fa0108'
+    echo 'dump|lines=,,, counts=0,0 items= used=0 log=fa0108'
     typed 3 "$(printf '%0200d' 0)"
     echo 'k 3 48|4'
     echo 'new 65537 0|ok'
@@ -280,12 +288,177 @@ questions() {
     echo 'k 0 10|0'
     typed 1 '_refine_ls_wR_factor_obs 0.2'
     echo 'k 1 10|0'
-    echo 'report 0 0|0 2/1 2/1 1/1 2/1 0/1 3/0 0/0 0/0 1/0 2/1 0/0 2/1'
+    echo 'report 0 0|0 2/1 2/1 1/1 2/1 0/1 3/0 0/0 0/0 1/0 2/1 0/0 2/1 2/1 2/1 2/1 2/1 2/1 2/1 2/1 0/1 0/1 0/1 0/1 0/1 0/1'
     echo 'who 0 4|0 0 1 1'
     echo 'who 0 7|0 1 2 1'
     echo 'who 0 1|0 255 0 0'
-    echo 'who 0 11|6 255 0 0'
+    echo 'who 0 19|0 255 0 0'
+    echo 'who 0 20|6 255 0 0'
     echo 'who 0 0|6 255 0 0'
+    echo 'who 1 4|0 255 0 0'
+    echo 'who 1 20|6 255 0 0'
+    echo 'who 2 20|12 255 0 0'
+    echo 'report 1 0|0 2/1 2/1 1/1 2/1 0/1 2/1 0/0 2/1 0/0 2/1 0/0 2/1 2/1 2/1 2/1 2/1 2/1 2/1 2/1 0/1 0/1 0/1 0/1 0/1 0/1'
+    echo 'report 2 0|12 0/0 0/0 0/0 0/0 0/0 0/0 0/0 0/0 0/0 0/0 0/0 0/0 0/0 0/0 0/0 0/0 0/0 0/0 0/0 0/0 0/0 0/0 0/0 0/0 0/0'
+}
+
+# Both camps at one item: sheets, counts, owners and entry numbers of their own, records in one log.
+camps() {
+    local name=5f726566696e655f6c735f525f666163746f725f677420
+    echo 'new 47 0|ok'
+    typed 2 '_refine_ls_R_factor_gt 0.3'
+    typed 0 '_refine_ls_R_factor_gt 0.16'
+    echo 'k 2 10|0'
+    echo 'k 0 10|0'
+    typed 1 '_refine_ls_R_factor_gt 0.2'
+    echo 'k 1 10|9'
+    typed 3 '_refine_ls_wR_factor_ref ?'
+    echo 'k 3 10|0'
+    typed 2 '_refine_ls_R_factor_gt 0.1'
+    echo 'k 2 10|0'
+    echo 'who 0 4|0 0 1 1'
+    echo 'who 1 4|0 2 3 2'
+    echo 'who 1 6|0 3 2 1'
+    echo 'who 0 6|0 255 0 0'
+    echo 'who 256 6|12 255 0 0'
+    echo 'who 18446744073709551615 0|12 255 0 0'
+    echo 'report 0 0|0 2/1 2/1 1/1 2/1 0/1 3/0 0/0 2/1 0/0 2/1 0/0 2/1 2/1 2/1 2/1 2/1 2/1 2/1 2/1 0/1 0/1 0/1 0/1 0/1 0/1'
+    echo 'report 1 0|0 2/1 2/1 1/1 2/1 0/1 0/0 0/0 2/1 0/0 2/1 0/0 2/1 2/1 2/1 2/1 2/1 2/1 2/1 2/1 0/1 0/1 0/1 0/1 0/1 0/1'
+    echo 'report 4294967296 0|12 0/0 0/0 0/0 0/0 0/0 0/0 0/0 0/0 0/0 0/0 0/0 0/0 0/0 0/0 0/0 0/0 0/0 0/0 0/0 0/0 0/0 0/0 0/0 0/0 0/0'
+    echo "cif 1 61 99|0 61 646174615f610a${name}302e310a5f726566696e655f6c735f77525f666163746f725f726566203f0a"
+    echo "cif 0 61 35|0 35 646174615f610a${name}302e31360a"
+    echo 'cif 2 61 99|12 0 -'
+    echo 'cif 2 5f 0|12 0 -'
+    typed 3 '_refine_ls_shift/su_max 1.23456'
+    echo 'k 3 10|8'
+    echo "dump|lines=,${name}302e32,,5f726566696e655f6c735f73686966742f73755f6d617820312e3233343536 counts=1,3 items=0:4:0:1:1:302e3136;1:4:2:3:2:302e31;1:6:3:2:1:3f used=35 log=090001000204302e330a0001000004302e31360700010003063f090001000204302e31f5fc030a11181f262d343b42"
+}
+
+# Items 11 to 18 and both profiles: nothing typed, rows broken, zeros in each writing, no such profile.
+powder() {
+    local first='2/1 2/1 1/1 2/1 0/1 2/1 0/0 2/1 0/0 2/1 0/0 2/1' none='0/0 0/0 0/0 0/0 0/0 0/0 0/0 0/0 0/0 0/0 0/0 0/0'
+    local sizes='2/1 2/1 2/1 2/1'
+    echo 'new 400 0|ok'
+    echo "report 0 0|0 $first 2/1 2/1 2/1 $sizes 0/1 0/1 0/1 0/1 0/1 0/1"
+    echo "report 0 1|0 $first 0/0 0/0 0/0 0/0 0/0 0/0 2/1 0/0 0/0 0/1 0/1 0/1 0/1"
+    entered 0 '_reflns_number_total 7'
+    entered 1 '_reflns_number_gt 7.0(3)'
+    echo "report 0 0|0 $first 2/1 0/0 0/0 $sizes 0/0 0/1 0/1 0/0 0/1 0/1"
+    for zero in 0.0000 -0.0 '0(5)'; do
+        entered 1 "_diffrn_reflns_av_R_equivalents $zero"
+        echo "report 0 0|0 $first 2/1 0/0 0/0 $sizes 0/0 0/0 0/1 0/0 0/1 0/1"
+    done
+    entered 1 '_diffrn_reflns_av_R_equivalents 0.000001'
+    echo "report 0 0|0 $first 2/1 0/0 0/0 $sizes 0/0 2/0 0/1 0/0 0/1 0/1"
+    echo "report 0 1|0 $first 0/0 0/0 0/0 0/0 0/0 0/0 2/1 0/0 0/0 0/1 0/0 0/1 0/1"
+    entered 1 '_diffrn_reflns_av_R_equivalents ?'
+    entered 0 '_reflns_number_total 6.999999'
+    entered 0 '_diffrn_reflns_number 6.999998'
+    entered 1 '_exptl_crystal_size_max 0.1'
+    entered 1 '_exptl_crystal_size_mid .10'
+    entered 1 '_exptl_crystal_size_min 0.100001'
+    entered 0 '_diffrn_radiation_wavelength 0.71073'
+    echo "report 0 0|0 $first 0/0 0/0 0/0 0/0 0/0 0/0 0/0 2/0 0/1 2/0 2/0 2/0 0/1"
+    echo "report 0 1|0 $first 0/0 0/0 0/0 0/0 0/0 0/0 0/0 0/0 0/0 2/0 2/0 2/0 0/1"
+    echo "report 0 2|21 $none $none 0/0"
+    echo "report 1 18446744073709551615|21 $none $none 0/0"
+    echo "report 0 4294967297|21 $none $none 0/0"
+    echo "report 2 2|12 $none $none 0/0"
+    echo "report 0 -1|error: argument 2 '-1': not a number of 0 to 18446744073709551615"
+    echo 'report 0|error: argument 2 missing: PROFILE'
+    echo 'who 0 18|0 0 13 1'
+    echo 'who 0 14|0 1 7 5'
+}
+
+# Row 25: nothing to compare, equal and different totals, texts that cannot be read; under both profiles.
+moieties() {
+    local rest='2/1 0/0 2/1 0/0 2/1 0/0 2/1 2/1 2/1 2/1 2/1 2/1 2/1 2/1 0/1 0/1 0/1 0/1 0/1' text row
+    echo 'new 2000 0|ok'
+    entered 0 "_chemical_formula_sum 'C10 H22 O'"
+    echo "report 0 0|0 0/0 0/0 1/1 2/1 0/1 $rest 0/1"
+    while IFS='|' read -r text row; do
+        entered 1 "_chemical_formula_moiety '$text'"
+        echo "report 0 0|0 0/0 0/0 1/1 2/1 0/1 $rest $row"
+    done <<'END'
+C10 H20, H2 O|0/0
+C10 H22 O|0/0
+O H22 C10|0/0
+(C5 H11)2 O|0/0
+((((C5 H11)1)2)1) O|0/0
+C10 H20|3/0
+C10 H20, O H|3/0
+C11 H21 O|3/0
+C10 H22 O N|3/0
+(((((C10 H22 O)))))|2/2
+(C10 H20, H2 O)|2/2
+C10 H20,H2 O|2/2
+C10 H20 (H2 O)01|2/2
+C10 H20 (H2 O)0|2/2
+(C10 H22 O)100|2/2
+C10 H20, 1(H2 O)|2/2
+C10 H22 O 1+|2/2
+|2/2
+?|2/2
+END
+    entered 1 '_chemical_formula_moiety ?'
+    echo "report 0 0|0 0/0 0/0 1/1 2/1 0/1 $rest 0/1"
+    entered 1 "_chemical_formula_moiety '(H2 O)2'"
+    entered 0 "_chemical_formula_sum 'H4O2'"
+    echo "report 0 0|0 4/0 0/0 1/1 2/1 0/1 $rest 2/2"
+    entered 0 "_chemical_formula_sum 'H4 O2'"
+    echo "report 0 1|0 0/0 0/0 1/1 2/1 0/1 2/1 0/0 2/1 0/0 2/1 0/0 2/1 0/0 0/0 0/0 0/0 0/0 0/0 2/1 0/0 0/0 0/1 0/1 0/1 0/0"
+    echo 'who 0 19|0 1 22 21'
+}
+
+# The hydrogen helper and its check: each answer, counts at the edges of row 4, H put where row 2 wants it.
+hydrogens() {
+    local formula weight smallest
+    echo 'new 2000 0|ok'
+    echo 'hyd 0|22 0'
+    echo 'hyd 2|12 0'
+    echo 'hydcheck 0 22|22 0'
+    echo 'hydcheck 2 22|12 0'
+    entered 0 "_chemical_formula_sum 'C10 H20'"
+    echo 'hyd 0|22 0'
+    entered 1 '_chemical_formula_weight 142.286'
+    echo 'hyd 0|0 21'
+    echo 'hyd 1|22 0'
+    for count in 21 22 23; do echo "hydcheck 0 $count|0 $count"; done
+    for count in 0 20 24 9999 10000 10021 277 4294967318 18446744073709551615; do echo "hydcheck 0 $count|24 0"; done
+    entered 1 '_chemical_formula_weight ?'
+    echo 'hyd 0|22 0'
+    while IFS='|' read -r formula weight smallest; do
+        entered 0 "_chemical_formula_sum '$formula'"
+        entered 1 "_chemical_formula_weight $weight"
+        echo "hyd 0|$smallest"
+        echo "hydcheck 0 ${smallest#0 }|$smallest" | grep -v '|2'
+    done <<'END'
+C10|142.286|0 21
+C10 H22|142.286|0 21
+C10 H20|121.3111|0 0
+C10 H20|121.3112|0 1
+C10 H20|118.9089|0 0
+C10 H20|118.9088|23 0
+C10 H20|-1|23 0
+C10 H20|10301.08|0 9999
+C10 H20|10301.1|23 0
+Br H|80.912|0 1
+Br Na|5000|0 4810
+Na O|100|0 60
+H2|0|23 0
+H2|1.008|0 1
+H2|10179.7819|0 9999
+H2|10179.782|23 0
+H Br|80.912|22 0
+C10H20|142.286|22 0
+C H H|14|22 0
+C H Li|20|22 0
+C H He|20|22 0
+END
+    echo 'hyd|error: argument 1 missing: SHEET'
+    echo 'hydcheck 0|error: argument 2 missing: COUNT'
+    echo "hydcheck 0 -1|error: argument 2 '-1': not a number of 0 to 18446744073709551615"
+    echo "hyd 0 1|error: argument 2 '1': nothing may follow"
 }
 
 # An item typed three times, and Enters that are refused between.
@@ -304,13 +477,13 @@ rewritten() {
     typed 0 '_refine_ls_R_factor_gt 0.123456(1)'
     echo 'k 0 10|8'
     echo 'who 0 4|0 0 2 2'
-    echo "dump|lines=${name}302e313233343536283129,,, counts=2 items=0:4:0:2:2:3f used=17 log=${records}777e858c939aa1a8afb6bdc4cb"
+    echo "dump|lines=${name}302e313233343536283129,,, counts=2,0 items=0:4:0:2:2:3f used=17 log=${records}777e858c939aa1a8afb6bdc4cb"
     echo 'k 0 24|0'
     typed 0 '_refine_ls_R_factor_gt 0.2'
     echo 'k 0 10|0'
     echo 'who 0 4|0 0 3 3'
     echo 'who 0 5|0 255 0 0'
-    echo "dump|lines=,,, counts=3 items=0:4:0:3:3:302e32 used=26 log=${records}090001000004302e32b6bdc4cb"
+    echo "dump|lines=,,, counts=3,0 items=0:4:0:3:3:302e32 used=26 log=${records}090001000004302e32b6bdc4cb"
 }
 
 # An item of another bench: 9 after 7 and before 8, the line kept and corrected, and its owner's next entry.
@@ -324,7 +497,7 @@ owned() {
     echo 'k 1 50|0'
     echo 'k 1 10|9'
     echo 'who 0 4|0 0 1 1'
-    echo 'dump|lines=,5f726566696e655f6c735f525f666163746f725f677420302e32,, counts=1 items=0:4:0:1:1:3f used=7 log=0700010000043f31383f464d545b626970777e858c939aa1a8afb6bdc4cbd2d9e0'
+    echo 'dump|lines=,5f726566696e655f6c735f525f666163746f725f677420302e32,, counts=1,0 items=0:4:0:1:1:3f used=7 log=0700010000043f31383f464d545b626970777e858c939aa1a8afb6bdc4cbd2d9e0'
     echo 'k 1 10|9'
     typed 0 '_refine_ls_R_factor_gt 0.123456(7)'
     echo 'k 0 10|0'
@@ -340,27 +513,27 @@ owned() {
 
 # Before the first fresh desk, several of them, dumps between calls, and wrong commands.
 fresh_desks() {
-    echo 'dump|lines=,,, counts=0 items= used=0 log='
+    echo 'dump|lines=,,, counts=0,0 items= used=0 log='
     echo 'who 0 1|0 255 0 0'
     echo 'k 3 65|0'
-    echo 'dump|lines=,,,41 counts=0 items= used=0 log='
+    echo 'dump|lines=,,,41 counts=0,0 items= used=0 log='
     echo 'new 2 0|ok'
     echo 'k 0 66|0'
-    echo 'dump|lines=42,,, counts=0 items= used=0 log=0007'
+    echo 'dump|lines=42,,, counts=0,0 items= used=0 log=0007'
     echo 'report 0|error: argument 2 missing: PROFILE'
     echo "new 3 x|error: argument 2 'x': not a number of 0 to 18446744073709551615"
     echo "who 0 -1|error: argument 2 '-1': not a number of 0 to 18446744073709551615"
     echo 'k 0 8|0'
-    echo 'dump|lines=,,, counts=0 items= used=0 log=0007'
-    echo 'dump|lines=,,, counts=0 items= used=0 log=0007'
+    echo 'dump|lines=,,, counts=0,0 items= used=0 log=0007'
+    echo 'dump|lines=,,, counts=0,0 items= used=0 log=0007'
     echo 'k 1 67|0'
     echo 'new 65537 0|ok'
     echo 'k 0 66|2'
     echo 'k 4 66|1'
-    echo 'report 1 7|0 2/1 2/1 1/1 2/1 0/1 2/1 0/0 2/1 0/0 2/1 0/0 2/1'
+    echo 'report 1 0|0 2/1 2/1 1/1 2/1 0/1 2/1 0/0 2/1 0/0 2/1 0/0 2/1 2/1 2/1 2/1 2/1 2/1 2/1 2/1 0/1 0/1 0/1 0/1 0/1 0/1'
     echo 'who 0 18446744073709551615|6 255 0 0'
     echo 'new 0 0|ok'
-    echo 'dump|lines=,,, counts=0 items= used=0 log='
+    echo 'dump|lines=,,, counts=0,0 items= used=0 log='
 }
 
 # A file of each length and refusal, on a fresh desk, on a filled one, and where the log alone is not sound.
@@ -383,7 +556,8 @@ files() {
     echo "cif 0 63616d702d31 99|0 39 ${head}5f726566696e655f6c735f77525f666163746f725f6f6273203f0a"
     echo 'k 0 10|0'
     echo "cif 0 63616d702d31 67|0 67 $head$items"
-    echo "cif 7 63616d702d31 9999|0 67 $head$items"
+    echo "cif 1 63616d702d31 9999|0 12 $head"
+    echo 'cif 7 63616d702d31 9999|12 0 -'
     echo 'cif 0 63616d702d31 66|10 0 -'
     echo 'cif 0 63616d705f31 67|11 0 -'
     echo 'new 65537 0|ok'
@@ -400,20 +574,80 @@ files() {
     echo "cif 0 61 9 9|error: argument 4 '9': nothing may follow"
 }
 
+# The log of two camps, in parts, each answer of the reader, and what it gives; parts after the end.
+sticks() {
+    local first=0a0001000004302e3136 second=090001000204302e33 third=070001000104
+    echo 'stickdump|counts=0,0 items='
+    echo "feed 0 $first|0 0"
+    echo 'stick|ok'
+    echo 'stickdump|counts=0,0 items='
+    echo "feed 0 -|0 0"
+    echo "feed 0 ${first:0:4}|0 0"
+    echo "feed 0 ${first:4:14}|0 0"
+    echo 'stickdump|counts=0,0 items='
+    echo "feed 0 ${first:18}${second}|0 0"
+    echo 'stickdump|counts=1,1 items=0:4:0:1:1:302e3136;1:4:2:1:1:302e33'
+    echo "feed 0 0700010000043f|0 0"
+    echo "feed 1 -|0 0"
+    echo "feed 1 $second|0 0"
+    echo "feed 0 ff|0 0"
+    echo 'stickdump|counts=2,1 items=0:4:0:2:2:3f;1:4:2:1:1:302e33'
+    echo 'stick|ok'
+    echo "feed 255 $first${second}${third}|20 19"
+    echo "feed 0 31|20 19"
+    echo 'stickdump|counts=1,1 items=0:4:0:1:1:302e3136;1:4:2:1:1:302e33'
+    echo 'stick|ok'
+    echo "feed 0 $first${third}31$second|19 10"
+    echo "feed 1 -|19 10"
+    echo 'stickdump|counts=1,0 items=0:4:0:1:1:302e3136'
+    echo 'stick|ok'
+    echo "feed 0 $first${first:0:10}|0 0"
+    echo "feed 0 00302e3136|18 10"
+    echo "feed 1 $first|18 10"
+    echo 'stick|ok'
+    echo 'feed 0 0600010000|0 0'
+    echo 'feed 0 04|18 0'
+    echo 'stick|ok'
+    echo 'feed 0 cf00010000|0 0'
+    echo 'feed 1 -|20 0'
+    echo 'stick|ok'
+    echo 'feed 0 ce0001000001|0 0'
+    echo "feed 0 $(printf '78%.0s' $(seq 199))|0 0"
+    echo 'feed 1 78|18 0'
+    echo 'stick|ok'
+    echo 'dump|lines=,,, counts=0,0 items= used=0 log='
+    echo 'feed|error: argument 1 missing: LAST'
+    echo 'feed 1|error: argument 2 missing: HEX'
+    echo "feed 256 -|error: argument 1 '256': not a number of 0 to 255"
+    echo "feed 0 7|error: argument 2 '7': an odd number of hexadecimal digits"
+    echo "stick 1|error: argument 1 '1': nothing may follow"
+    echo "stickdump 1|error: argument 1 '1': nothing may follow"
+}
+
 trace_keys() {
     trace_table "reference's trace: keys" reference-trace < <(session)
     trace_table "reference's trace: questions" reference-trace < <(questions)
     trace_table "reference's trace: an item rewritten" reference-trace < <(rewritten)
     trace_table "reference's trace: an item of another bench" reference-trace < <(owned)
+    trace_table "reference's trace: two camps" reference-trace < <(camps)
+    trace_table "reference's trace: both profiles" reference-trace < <(powder)
+    trace_table "reference's trace: moieties" reference-trace < <(moieties)
+    trace_table "reference's trace: hydrogens" reference-trace < <(hydrogens)
     trace_table "reference's trace: fresh desks" reference-trace < <(fresh_desks)
     trace_table "reference's trace: files" reference-trace < <(files)
+    trace_table "reference's trace: logs" reference-trace < <(sticks)
     trace_table "reference's trace: symmetry" reference-trace < <(symmetry)
     trace_table "trace: keys" < <(session)
     trace_table "trace: questions" < <(questions)
     trace_table "trace: an item rewritten" < <(rewritten)
     trace_table "trace: an item of another bench" < <(owned)
+    trace_table "trace: two camps" < <(camps)
+    trace_table "trace: both profiles" < <(powder)
+    trace_table "trace: moieties" < <(moieties)
+    trace_table "trace: hydrogens" < <(hydrogens)
     trace_table "trace: fresh desks" < <(fresh_desks)
     trace_table "trace: files" < <(files)
+    trace_table "trace: logs" < <(sticks)
     trace_table "trace: symmetry" < <(symmetry)
 }
 
@@ -494,6 +728,7 @@ comparison() {
 
 headers
 linking "The desk" export_desk
+linking "A log from the stick" export_desk
 linking "Symmetry operators" export_symmetry
 layout
 runs "client: sample" 0 "$(cat client/sample.out)"$'\n' '' "$client" <client/sample.txt

@@ -5,11 +5,11 @@ cd "$(dirname "${BASH_SOURCE[0]}")/.." || exit 2
 PATH=$PATH:/opt/rattle/bin
 export CARGO_TARGET_DIR=$PWD/build/cargo
 
-# The C compiler is installed if it is missing; the toolchain and cargo have to be there.
+# The C compiler and the terminal library are installed if they are missing; the toolchain and cargo have to be there.
 ensure_programs() {
     command -v rt >/dev/null || { echo "$tool: the Rattle toolchain is not under /opt/rattle" >&2; return 1; }
-    command -v cargo >/dev/null || { echo "$tool: cargo is missing (README.md, \"Two commands\")" >&2; return 1; }
-    command -v gcc >/dev/null || { apt-get update && apt-get install -y gcc libc6-dev; } >&2
+    command -v cargo >/dev/null || { echo "$tool: cargo is missing (README.md, \"Three commands\")" >&2; return 1; }
+    command -v gcc >/dev/null && [ -e /usr/include/ncurses.h ] || { apt-get update && apt-get install -y gcc libc6-dev libncurses-dev; } >&2
 }
 ensure_programs || exit 2
 
@@ -108,11 +108,13 @@ library() {
     echo "${PROVED_LIBS:-target/staticlib}/lib$1.a"
 }
 
-# compile SOURCES PROGRAM NAME..: a C client of proved libraries; the sources may be a pattern.
+# compile SOURCES PROGRAM NAME..: a C client of proved libraries; the sources may be a pattern, and a name -lNAME is a library of the system.
 compile() {
     local sources=$1 program=$2 name used=()
     shift 2
-    for name; do used+=("$(library "$name")"); done
+    for name; do
+        case $name in -l*) used+=("$name") ;; *) used+=("$(library "$name")") ;; esac
+    done
     mkdir -p "$(dirname "$program")"
     gcc -std=c11 -O2 -Wall -Wextra -Werror -pedantic -Iinclude $sources "${used[@]}" -o "$program"
 }
@@ -126,7 +128,7 @@ build_client() {
 build_camp() {
     build_archive export_desk export_symmetry || return 1
     ! stale target/bin/camp client/camp include "$(library export_desk)" "$(library export_symmetry)" ||
-        compile 'client/camp/*.c' target/bin/camp export_desk export_symmetry
+        compile 'client/camp/*.c' target/bin/camp export_desk export_symmetry -lncurses
 }
 
 # The program desk, proved, in target/bin. One that is unchanged is not built again, so its time is set.

@@ -8,11 +8,16 @@
 
 /* Each with its name and what it does. */
 #define COMMANDS(COMMAND)                                                    \
-    COMMAND(cif, "write the sheet that a session leaves as a CIF file")      \
+    COMMAND(cif, "write a sheet of a session or a log as a CIF file")        \
     COMMAND(help, "tell what a command does, with an example")               \
+    COMMAND(history, "tell each entry of a log")                             \
+    COMMAND(hydrogen, "tell how many hydrogens fit the weight")              \
+    COMMAND(record, "write the log of a session to a file")                  \
     COMMAND(refusals, "tell each key of a session that is refused, and why") \
+    COMMAND(report, "print the reports of a log, as desk does")              \
+    COMMAND(run, "run the desk: keypads, a log that lasts, a screen")        \
     COMMAND(symmetry, "tell whether symmetry operators are a group")         \
-    COMMAND(who, "tell who typed the items of a session, and how often")
+    COMMAND(who, "tell who typed the items of a log, and how often")
 
 /* NAME_usage is what 'camp help NAME' prints; NAME_run takes what follows, and returns the status. */
 #define COMMAND_DECLARED(name, summary) \

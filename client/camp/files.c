@@ -78,7 +78,42 @@ bool read_whole(const char *path, content *into)
     return whole;
 }
 
-static bool write_all(int file, const uint8_t *bytes, size_t length)
+/* False with errno. */
+static bool hand_on(int file, uint8_t *part, size_t most, part_taker *take, void *to)
+{
+    for (;;) {
+        ssize_t got = read(file, part, most);
+        if (got == 0)
+            return true;
+        if (got < 0 && errno != EINTR)
+            return false;
+        if (got > 0 && !take(to, part, (size_t)got))
+            return true;
+    }
+}
+
+bool read_parts_of(int file, size_t most, part_taker *take, void *to)
+{
+    uint8_t *part = malloc(most);
+    bool whole = part != NULL && hand_on(file, part, most, take, to);
+    int error = errno;
+    free(part);
+    errno = error;
+    return whole;
+}
+
+bool read_parts(const char *path, size_t most, part_taker *take, void *to)
+{
+    int file = is_standard(path) ? STDIN_FILENO : open(path, O_RDONLY);
+    bool whole = file >= 0 && read_parts_of(file, most, take, to);
+    if (!whole)
+        trouble(input_name(path));
+    if (file >= 0 && !is_standard(path))
+        close(file);
+    return whole;
+}
+
+bool write_bytes(int file, const uint8_t *bytes, size_t length)
 {
     while (length > 0) {
         ssize_t put = write(file, bytes, length);
@@ -103,7 +138,7 @@ static bool set_rights(int file)
 /* Writes, and makes sure that the bytes are kept; closes the file in any case. */
 static bool keep(int file, const uint8_t *bytes, size_t length)
 {
-    bool kept = write_all(file, bytes, length) && set_rights(file) && fsync(file) == 0;
+    bool kept = write_bytes(file, bytes, length) && set_rights(file) && fsync(file) == 0;
     int error = errno;
     if (close(file) != 0 && kept) {
         kept = false;
@@ -147,19 +182,23 @@ static bool is_taken(const char *path)
     return stat(path, &found) == 0 && !S_ISREG(found.st_mode);
 }
 
+const char *try_write(const char *path, const uint8_t *bytes, size_t length)
+{
+    if (is_taken(path))
+        return "not an ordinary file";
+    return write_to(path, bytes, length) ? NULL : strerror(errno);
+}
+
 bool write_whole(const char *path, const uint8_t *bytes, size_t length)
 {
     if (is_standard(path)) {
         fwrite(bytes, 1, length, stdout);
         return true;
     }
-    if (is_taken(path)) {
-        about(stderr, path);
-        fputs("not an ordinary file\n", stderr);
-        return false;
-    }
-    if (write_to(path, bytes, length))
+    const char *why = try_write(path, bytes, length);
+    if (why == NULL)
         return true;
-    trouble(path);
+    about(stderr, path);
+    fprintf(stderr, "%s\n", why);
     return false;
 }

@@ -21,14 +21,15 @@ static const char before[] =
     "       camp --help\n"
     "       camp --version\n"
     "\n"
-    "Looks after the sessions of the crystal camp, by the proved desk, and after lists of symmetry\n"
-    "operators. The commands:\n"
+    "Looks after the sessions and logs of the crystal camp, by the proved desk, and after lists of\n"
+    "symmetry operators. The commands:\n"
     "\n";
 
 static const char after[] =
     "\n"
     "'camp help COMMAND' tells more of one. A session is a file of keys, for each of them two bytes: the\n"
-    "digit of the bench, 0 to 3, and the key's byte. The name - stands for standard input or output.\n"
+    "digit of the bench, 0 to 3, and the key's byte. A log is a file of records, one for each accepted\n"
+    "entry, as 'camp record' writes it. The name - stands for standard input or output.\n"
     "\n"
     "Exit status: 0 done; 1 something is found or refused, or a file cannot be read or written; 2 wrong\n"
     "use.\n"

@@ -4,11 +4,14 @@
 #include "messages.h"
 
 #include <errno.h>
+#include <inttypes.h>
 #include <stdbool.h>
 #include <string.h>
 #include <unistd.h>
 
 #include "meanings.h"
+
+enum { NO_SUCH_SHEET = 12 };
 
 void show(FILE *to, const void *bytes, size_t length)
 {
@@ -37,6 +40,14 @@ void show_refusal(FILE *to, unsigned number)
 {
     const char *meaning = meaning_of(number);
     fprintf(to, "%u, %s", number, meaning != NULL ? meaning : "a number without a meaning here");
+}
+
+int no_sheet(uint64_t sheet)
+{
+    fprintf(stderr, "camp: sheet %" PRIu64 ": ", sheet);
+    show_refusal(stderr, NO_SUCH_SHEET);
+    putc('\n', stderr);
+    return STATUS_FOUND;
 }
 
 int trouble(const char *file)

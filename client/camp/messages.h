@@ -6,6 +6,7 @@
 #define CAMP_MESSAGES_H
 
 #include <stddef.h>
+#include <stdint.h>
 #include <stdio.h>
 
 /*
@@ -25,6 +26,9 @@ void about(FILE *to, const char *file);
 
 /* 'NUMBER, MEANING' of a refusal. */
 void show_refusal(FILE *to, unsigned number);
+
+/* Tells that there is no such sheet, and returns STATUS_FOUND. */
+int no_sheet(uint64_t sheet);
 
 /* Tells what errno says of a file, and returns STATUS_FOUND. */
 int trouble(const char *file);

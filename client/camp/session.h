@@ -5,6 +5,8 @@
 #ifndef CAMP_SESSION_H
 #define CAMP_SESSION_H
 
+#include <stdbool.h>
+
 #include "desk.h"
 #include "files.h"
 
@@ -27,6 +29,9 @@ typedef struct {
 /* How many keys a session has; a last odd byte is none. */
 size_t key_count(const content *session);
 
+/* The key of a pair. */
+key key_of(uint8_t first, uint8_t byte);
+
 /* A key of a session; the first is at 0. */
 key key_at(const content *session, size_t at);
 
@@ -38,5 +43,22 @@ uint8_t press(own_desk *desk, key pressed);
 
 /* Plays a session on a fresh desk; refused keys are passed over. */
 void play(own_desk *desk, const content *session);
+
+/* The same of the session in a file. False, and told, where it cannot be read. */
+bool play_session(const char *path, own_desk *desk);
+
+/* The profiles of a report. */
+enum { SINGLE_CRYSTAL = 0, POWDER = 1 };
+
+/* desk_report, desk_who and desk_file of this desk. */
+desk_reported report_of(const own_desk *desk, uint64_t sheet, uint64_t profile);
+desk_told who_typed(const own_desk *desk, uint64_t sheet, uint64_t item);
+desk_filed write_file(const own_desk *desk, uint64_t sheet, const char *block, uint8_t out[DESK_FILE]);
+
+/* How many accepted entries a sheet has. */
+size_t count_of(const own_desk *desk, uint64_t sheet);
+
+/* Whether the desk has no sheet of that number. */
+bool no_such_sheet(const own_desk *desk, uint64_t sheet);
 
 #endif

@@ -2,6 +2,6 @@
 #ifndef CAMP_VERSION_H
 #define CAMP_VERSION_H
 
-#define CAMP_VERSION "1.8"
+#define CAMP_VERSION "1.10"
 
 #endif

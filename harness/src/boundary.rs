@@ -2,11 +2,13 @@
 //! offsets.
 
 use reference::cif_file::BLOCK_LENGTHS;
-use reference::desk::{BENCHES, LOG_LIMIT, NO_BENCH};
+use reference::desk::{BENCHES, LOG_LIMIT, NO_BENCH, SHEETS};
 use reference::group::MOST;
 use reference::line::LIMIT;
 use reference::names::ITEMS;
 use reference::operator::NUMBERS;
+use reference::powder::PROFILES;
+use reference::reader::LENGTHS;
 use reference::rows::ROWS;
 use std::mem::{offset_of, size_of};
 
@@ -14,12 +16,15 @@ include!(concat!(env!("OUT_DIR"), "/headers.rs"));
 
 const _: () = assert!(
     DESK_BENCHES == BENCHES
+        && DESK_SHEETS == SHEETS
         && DESK_ITEMS == ITEMS.len()
         && DESK_ROWS == ROWS
+        && DESK_PROFILES == PROFILES as usize
         && DESK_LINE == LIMIT
-        && DESK_TEXTS == (BENCHES + ITEMS.len()) * LIMIT
+        && DESK_TEXTS == (BENCHES + SHEETS * ITEMS.len()) * LIMIT
         && DESK_FILE == b"data_\n".len() + *BLOCK_LENGTHS.end() + ITEMS.len() * (LIMIT + 1)
         && DESK_LOG == LOG_LIMIT
+        && DESK_KEPT == *LENGTHS.end()
         && DESK_NO_BENCH == NO_BENCH as usize
         && SYMMETRY_ROW == NUMBERS
         && SYMMETRY_MOST == MOST
@@ -38,6 +43,21 @@ impl Memory {
     /// Zeros, which are a fresh desk, and a log.
     pub fn zeros(log: &[u8]) -> Self {
         Memory { texts: [0; DESK_TEXTS].into(), numbers: [0; DESK_NUMBERS].into(), log: log.into() }
+    }
+}
+
+/// What is lent to desk_feed beside a desk: the kept bytes, and the numbers of them and of how the reading
+/// stands. Runs of other lengths are no reader.
+#[derive(Clone, PartialEq, Eq)]
+pub struct Stick {
+    pub kept: Box<[u8]>,
+    pub state: Box<[usize]>,
+}
+
+impl Stick {
+    /// Zeros, which with a fresh desk are a fresh reader.
+    pub fn zeros() -> Self {
+        Stick { kept: [0; DESK_KEPT].into(), state: [0; DESK_STATE].into() }
     }
 }
 
@@ -100,6 +120,22 @@ pub struct Filed {
     pub answer: u8,
 }
 
+/// `desk_fed` of desk.h.
+#[repr(C)]
+#[derive(Clone, Copy, Debug, PartialEq, Eq)]
+pub struct Fed {
+    pub place: usize,
+    pub answer: u8,
+}
+
+/// `desk_proposed` of desk.h.
+#[repr(C)]
+#[derive(Clone, Copy, Debug, PartialEq, Eq)]
+pub struct Proposed {
+    pub count: usize,
+    pub answer: u8,
+}
+
 /// `symmetry_operator` of symmetry.h.
 #[repr(C)]
 #[derive(Clone, Copy, Debug, PartialEq, Eq)]
@@ -134,6 +170,8 @@ pub fn print() {
     print_layout!("desk_reported", Reported, answer, rows);
     print_layout!("desk_told", Told, entry, times, answer, bench);
     print_layout!("desk_filed", Filed, count, answer);
+    print_layout!("desk_fed", Fed, place, answer);
+    print_layout!("desk_proposed", Proposed, count, answer);
     print_layout!("symmetry_operator", Operator, answer, row);
     print_layout!("symmetry_checked", Checked, pairs, answer);
     DEFINED.iter().for_each(|(name, number)| println!("{name} {number}"));

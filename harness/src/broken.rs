@@ -1,8 +1,8 @@
 //! Ways to break a sound desk, each in one place.
 
-use crate::desks::{longest_value, Desks, State};
+use crate::desks::{longest_value, Desks, State, OF_SHEET};
 use crate::random::Random;
-use reference::desk::{Item, Line, BENCHES, LOG_LIMIT, RECORD_HEAD};
+use reference::desk::{Item, Line, Sheet, BENCHES, LOG_LIMIT, RECORD_HEAD, SHEETS};
 use reference::line::LIMIT;
 use reference::names::ITEMS;
 
@@ -18,10 +18,10 @@ type Break = fn(&mut State, &mut Random);
 
 /// So many ways break the desk itself; those after them only its agreement with the log, which
 /// questions and the writer of files do not look at.
-pub const DESK_WAYS: usize = 38;
+pub const DESK_WAYS: usize = 42;
 
 /// Each way by name.
-pub const WAYS: [(&str, Break); 44] = [
+pub const WAYS: [(&str, Break); 50] = [
     ("line longer than the limit", |state, random| {
         line(state, random).len = random.pick(&BAD_LENGTHS);
     }),
@@ -45,21 +45,31 @@ pub const WAYS: [(&str, Break); 44] = [
     ("item's bench one too high", |state, random| {
         filled_item(state, random).bench = BENCHES as u64;
     }),
+    ("item's bench of the other sheet", |state, random| {
+        let item = filled_item(state, random);
+        item.bench = (item.bench + OF_SHEET as u64) % BENCHES as u64;
+    }),
+    ("an item on the other sheet too", |state, random| {
+        let [mine, other] = some_sheets(state, random);
+        let place = mine.items.iter().position(|item| item.len > 0).expect("an item is filled");
+        other.items[place] = Item { entry: 1, times: 1, ..mine.items[place] };
+    }),
+    ("sheets exchanged", |state, _| state.desk.sheets.reverse()),
     ("item's bench 255", |state, random| filled_item(state, random).bench = 255),
     ("item's bench beyond 8 bits", |state, random| {
         filled_item(state, random).bench += random.pick(&[1 << 8, 1 << 32]);
     }),
     ("item's entry 0", |state, random| filled_item(state, random).entry = 0),
     ("item's entry one above the count", |state, random| {
-        let count = state.desk.count;
-        filled_item(state, random).entry = count + 1;
+        let (item, count) = filled_and_count(state, random);
+        item.entry = *count + 1;
     }),
     ("item's entry largest", |state, random| filled_item(state, random).entry = u64::MAX),
     ("item's entry beyond 32 bits", |state, random| filled_item(state, random).entry += 1 << 32),
     ("item's times 0", |state, random| filled_item(state, random).times = 0),
     ("item's times one above the count", |state, random| {
-        let count = state.desk.count;
-        filled_item(state, random).times = count + 1;
+        let (item, count) = filled_and_count(state, random);
+        item.times = *count + 1;
     }),
     ("item's times largest", |state, random| filled_item(state, random).times = u64::MAX),
     ("item's times beyond 32 bits", |state, random| filled_item(state, random).times += 1 << 32),
@@ -69,7 +79,7 @@ pub const WAYS: [(&str, Break); 44] = [
         set(state, random, item, value.as_bytes());
     }),
     ("number item without a number", |state, random| {
-        let item = random.pick(&[2, 4, 5, 6, 7, 8, 9]);
+        let item = random.pick(&[2, 4, 5, 6, 7, 8, 9, 11, 14, 18]);
         let value = random.pick(&["x", "'1'", "-.", ".(3)", "1234567890."]);
         set(state, random, item, value.as_bytes());
     }),
@@ -82,11 +92,11 @@ pub const WAYS: [(&str, Break); 44] = [
         set(state, random, item, value.as_bytes());
     }),
     ("item one byte too long for its name", |state, random| {
-        let item = random.pick(&[1, 10]);
+        let item = random.pick(&[1, 10, 19]);
         set(state, random, item, &vec![b'x'; longest_value(item) + 1]);
     }),
     ("item as long as the limit", |state, random| {
-        let item = random.pick(&[1, 10]);
+        let item = random.pick(&[1, 10, 19]);
         set(state, random, item, &[b'x'; LIMIT]);
     }),
     ("item longer than the limit", |state, random| {
@@ -98,7 +108,7 @@ pub const WAYS: [(&str, Break); 44] = [
         filled_item(state, random).value[0] = random.pick(&BAD_BYTES);
     }),
     ("text item's byte out of range", |state, random| {
-        let item = random.pick(&[1, 10]);
+        let item = random.pick(&[1, 10, 19]);
         let value = [b'\'', random.pick(&BAD_BYTES), b'\''];
         set(state, random, item, &value);
     }),
@@ -117,20 +127,38 @@ pub const WAYS: [(&str, Break); 44] = [
     }),
     ("empty item's length", |state, random| empty_item(state, random).len = 1),
     ("count below an entry", |state, random| {
-        let entry = state.desk.count;
-        filled_item(state, random).entry = entry;
-        state.desk.count -= 1;
+        let (item, count) = filled_and_count(state, random);
+        item.entry = *count;
+        *count -= 1;
+    }),
+    ("item's entry counted on the other sheet", |state, random| {
+        let [mine, other] = some_sheets(state, random);
+        some(&mut mine.items, random, |item| item.len > 0).entry = mine.count + 1;
+        other.count = other.count.max(mine.count + 1);
     }),
     ("count above a sixth of used", |state, random| {
         let count = state.used / RECORD_HEAD as u64 + 1;
-        state.desk.count = random.pick(&[count, u64::MAX]);
+        let [mine, other] = some_sheets(state, random);
+        mine.count = random.pick(&[count - other.count, count, u64::MAX]);
+    }),
+    ("each count a sixth of used, and not their sum", |state, _| {
+        let most = state.used / RECORD_HEAD as u64;
+        for sheet in &mut state.desk.sheets {
+            sheet.count = sheet.count.max(most / SHEETS as u64 + 1);
+        }
     }),
     ("six times the count beyond 64 bits", |state, random| {
-        state.desk.count = random.pick(&[u64::MAX.div_ceil(RECORD_HEAD as u64), 1 << 63]);
+        let [mine, _] = some_sheets(state, random);
+        mine.count = random.pick(&[u64::MAX.div_ceil(RECORD_HEAD as u64), 1 << 63]);
+    }),
+    ("both counts beyond 64 bits", |state, random| {
+        let [mine, other] = some_sheets(state, random);
+        (mine.count, other.count) = random.pick(&[(1 << 63, 1 << 63), (u64::MAX, other.count + 1)]);
     }),
     ("used none of some entries", |state, _| state.used = 0),
     ("used one below six times the count", |state, _| {
-        state.used = RECORD_HEAD as u64 * state.desk.count - 1;
+        let count: u64 = state.desk.sheets.iter().map(|sheet| sheet.count).sum();
+        state.used = RECORD_HEAD as u64 * count - 1;
     }),
     ("used above the log's length", |state, random| {
         let length = state.log.len() as u64;
@@ -145,25 +173,34 @@ pub const WAYS: [(&str, Break); 44] = [
 pub fn each_broken(seed: u64, count: u64, mut given: impl FnMut(u64, usize, State, &mut Random)) {
     let (mut desks, mut random) = (Desks::new(!seed), Random::new(seed));
     for number in 0..count {
-        let sound = breakable(&mut desks);
-        for (way, (_, change)) in WAYS.iter().enumerate() {
-            let mut state = sound.clone();
-            change(&mut state, &mut random);
-            given(number, way, state, &mut random);
-        }
+        each_way(&mut desks, &mut random, |way, state, random| given(number, way, state, random));
     }
 }
 
-/// A sound desk with something in it to break: a line that is neither empty nor full, a filled and
-/// an empty item, entries counted.
+/// One sound desk broken in every way.
+pub fn each_way(
+    desks: &mut Desks,
+    random: &mut Random,
+    mut given: impl FnMut(usize, State, &mut Random),
+) {
+    let sound = breakable(desks);
+    for (way, (_, change)) in WAYS.iter().enumerate() {
+        let mut state = sound.clone();
+        change(&mut state, random);
+        given(way, state, random);
+    }
+}
+
+/// A sound desk with something in it to break: a line that is neither empty nor full, on each sheet a
+/// filled and an empty item, entries counted.
 fn breakable(desks: &mut Desks) -> State {
     loop {
         let state = desks.sound();
-        let mut items = state.desk.items.iter();
-        if state.desk.lines.iter().any(is_partly_filled)
-            && items.any(|item| item.len > 0)
-            && state.desk.items.iter().any(|item| item.len == 0)
-        {
+        let part = |sheet: &Sheet| {
+            sheet.items.iter().any(|item| item.len > 0)
+                && sheet.items.iter().any(|item| item.len == 0)
+        };
+        if state.desk.lines.iter().any(is_partly_filled) && state.desk.sheets.iter().all(part) {
             return state;
         }
     }
@@ -182,11 +219,24 @@ fn filled_line<'a>(state: &'a mut State, random: &mut Random) -> &'a mut Line {
 }
 
 fn filled_item<'a>(state: &'a mut State, random: &mut Random) -> &'a mut Item {
-    some(&mut state.desk.items, random, |item| item.len > 0)
+    filled_and_count(state, random).0
+}
+
+/// A filled item, and the count of its sheet.
+fn filled_and_count<'a>(state: &'a mut State, random: &mut Random) -> (&'a mut Item, &'a mut u64) {
+    let Sheet { items, count } = &mut state.desk.sheets[random.below(SHEETS)];
+    (some(items, random, |item| item.len > 0), count)
 }
 
 fn empty_item<'a>(state: &'a mut State, random: &mut Random) -> &'a mut Item {
-    some(&mut state.desk.items, random, |item| item.len == 0)
+    some(&mut state.desk.sheets[random.below(SHEETS)].items, random, |item| item.len == 0)
+}
+
+/// Both sheets, in any order.
+fn some_sheets<'a>(state: &'a mut State, random: &mut Random) -> [&'a mut Sheet; SHEETS] {
+    let mut sheets = state.desk.sheets.each_mut();
+    sheets.rotate_left(random.below(SHEETS));
+    sheets
 }
 
 /// One of those that are so; there is one.
@@ -198,6 +248,8 @@ fn some<'a, T>(from: &'a mut [T], random: &mut Random, is_so: fn(&T) -> bool) ->
 
 /// Fills an item with a value that may be wrong for it.
 fn set(state: &mut State, random: &mut Random, item: usize, value: &[u8]) {
-    let bench = random.below(BENCHES) as u64;
-    state.desk.items[item - 1] = Item::holding(value, state.desk.count, bench, 1);
+    let sheet = random.below(SHEETS);
+    let bench = (OF_SHEET * sheet + random.below(OF_SHEET)) as u64;
+    let Sheet { items, count } = &mut state.desk.sheets[sheet];
+    items[item - 1] = Item::holding(value, *count, bench, 1);
 }

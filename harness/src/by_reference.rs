@@ -2,12 +2,16 @@
 //! a changed copy of the reference in its place.
 
 use crate::boundary::{
-    Checked, Filed, Graded, LineResult, Memory, NumberResult, Operator, Reported, Row, Told,
+    Checked, Fed, Filed, Graded, LineResult, Memory, NumberResult, Operator, Proposed, Reported,
+    Row, Stick, Told,
 };
-use crate::memory::{held, put};
+use crate::memory::{held, held_reader, put, put_reader};
 use crate::program::{Call, Program};
-use reference::desk::{self, BENCHES, FRESH, NOT_SOUND, NO_SUCH_BENCH};
-use reference::{cif_file, grade, group, line, names, number, operator, rows, sequence, value};
+use reference::desk::{self, BENCHES, FRESH, NOT_SOUND, NO_SUCH_BENCH, NO_SUCH_SHEET, SHEETS};
+use reference::powder::{NO_SUCH_PROFILE, PROFILES};
+use reference::{
+    cif_file, grade, group, hydrogen, line, names, number, operator, reader, rows, sequence, value,
+};
 
 /// The reference program.
 pub struct Reference;
@@ -65,25 +69,60 @@ impl Program for Reference {
         answer
     }
 
-    fn report(&self, memory: &Memory) -> Reported {
-        let none = (NOT_SOUND, [rows::Row::default(); rows::ROWS]);
-        let (answer, rows) = held(memory).map_or(none, |(desk, _)| desk::report(&desk));
+    fn report(&self, memory: &Memory, sheet: u64, profile: u64) -> Reported {
+        let refusal = match no_desk(sheet) {
+            NOT_SOUND if profile >= PROFILES => NO_SUCH_PROFILE,
+            other => other,
+        };
+        let none = (refusal, [rows::Row::default(); rows::ROWS]);
+        let (answer, rows) =
+            held(memory).map_or(none, |(desk, _)| desk::report(&desk, sheet, profile));
         Reported { answer, rows: rows.map(|row| Row { level: row.level, reason: row.reason }) }
     }
 
-    fn who(&self, memory: &Memory, item: u64) -> Told {
-        let none = desk::Told::nobody(NOT_SOUND);
-        let told = held(memory).map_or(none, |(desk, _)| desk::who(&desk, item));
+    fn who(&self, memory: &Memory, sheet: u64, item: u64) -> Told {
+        let none = desk::Told::nobody(no_desk(sheet));
+        let told = held(memory).map_or(none, |(desk, _)| desk::who(&desk, sheet, item));
         let desk::Told { answer, bench, entry, times } = told;
         Told { entry: entry as usize, times: times as usize, answer, bench }
     }
 
-    fn file(&self, memory: &Memory, block: &[u8], out: &mut [u8]) -> Filed {
+    fn file(&self, memory: &Memory, sheet: u64, block: &[u8], out: &mut [u8]) -> Filed {
         let (answer, count) = match held(memory) {
-            Some((desk, _)) => cif_file::write_file(&desk, block, out),
-            None => (NOT_SOUND, 0),
+            Some((desk, _)) => cif_file::write_file(&desk, sheet, block, out),
+            None => (no_desk(sheet), 0),
         };
         Filed { count: count as usize, answer }
+    }
+
+    fn feed(&self, memory: &mut Memory, stick: &mut Stick, part: &[u8], last: u8) -> Fed {
+        let Some(mut reader) = held_reader(memory, stick) else {
+            return Fed { place: 0, answer: NOT_SOUND };
+        };
+        let over = reader.over.is_some();
+        let (answer, place) = reader.feed(part, last != 0);
+        if answer != NOT_SOUND && !over {
+            put_reader(memory, stick, &reader);
+        }
+        Fed { place: place as usize, answer }
+    }
+
+    fn hydrogens(&self, memory: &Memory, sheet: u64) -> Proposed {
+        proposed(
+            held(memory).map_or((no_desk(sheet), 0), |(desk, _)| hydrogen::propose(&desk, sheet)),
+        )
+    }
+
+    fn hydrogens_right(&self, memory: &Memory, sheet: u64, count: u64) -> Proposed {
+        let none = (no_desk(sheet), 0);
+        proposed(held(memory).map_or(none, |(desk, _)| hydrogen::check(&desk, sheet, count)))
+    }
+
+    fn whole(&self, log: &[u8]) -> (Fed, Memory) {
+        let (sheets, (answer, place)) = reader::read_whole(log);
+        let mut memory = Memory::zeros(&[]);
+        put(&mut memory, &desk::Desk { sheets, ..FRESH }, 0);
+        (Fed { place: place as usize, answer }, memory)
     }
 
     fn operator(&self, text: &[u8]) -> Operator {
@@ -97,12 +136,26 @@ impl Program for Reference {
     }
 }
 
+/// What a question about a sheet, and the writer of its file, answer where the memory is no desk: "12, no
+/// such sheet, before 2".
+fn no_desk(sheet: u64) -> u8 {
+    if sheet < SHEETS as u64 {
+        NOT_SOUND
+    } else {
+        NO_SUCH_SHEET
+    }
+}
+
+fn proposed((answer, count): (u8, u64)) -> Proposed {
+    Proposed { count: count as usize, answer }
+}
+
 /// The places of calls in gathered order.
 pub fn gathered(calls: &[Call]) -> Vec<usize> {
     let own = |call: &Call| match *call {
         Call::Key { bench, byte } => sequence::Call::Key { bench, byte },
-        Call::Report => sequence::Call::Report,
-        Call::Who { item } => sequence::Call::Who { item },
+        Call::Report { sheet, profile } => sequence::Call::Report { sheet, profile },
+        Call::Who { sheet, item } => sequence::Call::Who { sheet, item },
     };
     sequence::gathered(&calls.iter().map(own).collect::<Vec<_>>())
 }

@@ -2,13 +2,13 @@
 //! programs that read CIF.
 
 use crate::boundary::DESK_FILE;
-use crate::desks::State;
+use crate::desks::{State, OF_SHEET};
 use crate::files::{text_values, Files};
 use crate::program::Program;
 use crate::random::Random;
 use crate::sheets::Sheets;
 use reference::cif_file::BLOCK_LENGTHS;
-use reference::desk::{BENCHES, ENTER};
+use reference::desk::{ENTER, SHEETS};
 use reference::line::{ACCEPTED, LIMIT};
 use reference::names::{Kind, ITEMS};
 use std::fs;
@@ -64,7 +64,7 @@ impl Typist {
         entries
     }
 
-    /// Types the entries, those of an item from one bench, and writes both files.
+    /// Types the entries on one sheet, those of an item from one bench, and writes both files.
     fn sheet(
         &mut self,
         program: &dyn Program,
@@ -73,7 +73,8 @@ impl Typist {
         name: &str,
     ) -> Result<(), String> {
         let mut memory = State::fresh(LOG, 0).memory();
-        let owners = ITEMS.map(|_| self.random.below(BENCHES) as u64);
+        let sheet = self.random.below(SHEETS);
+        let owners = ITEMS.map(|_| (OF_SHEET * sheet + self.random.below(OF_SHEET)) as u64);
         for entry in entries {
             let (line, bench) = (self.line(entry), owners[entry.0 - 1]);
             for byte in line.iter().chain([&ENTER]) {
@@ -87,7 +88,7 @@ impl Typist {
         let letters = 1 + self.random.below(*BLOCK_LENGTHS.end());
         let block = self.files.name_of(letters);
         let mut file = vec![0; DESK_FILE];
-        let filed = program.file(&memory, &block, &mut file);
+        let filed = program.file(&memory, sheet as u64, &block, &mut file);
         if filed.answer != ACCEPTED {
             return Err(format!("{name}: {filed:?}"));
         }

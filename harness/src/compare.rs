@@ -1,9 +1,13 @@
 //! The comparison: the same inputs to two programs, and every answer held equal.
 
 mod calls;
+mod camps;
 mod files;
+mod hydrogens;
 mod keys;
+mod logs;
 mod memories;
+mod moieties;
 mod points;
 mod sequences;
 mod sheets;
@@ -110,6 +114,18 @@ pub fn compare<'a>(
     run
 }
 
+/// Every moiety text over a few bytes up to a length.
+pub fn moieties<'a>(
+    tested: &'a dyn Program,
+    expected: &'a dyn Program,
+    longest: usize,
+) -> Comparison<'a> {
+    let plan = Plan { fixed_seed: 0, new_seed: 0, count: 0, lists: false };
+    let mut run = Comparison::new(tested, expected, gathered, &plan);
+    run.short_moieties(longest);
+    run
+}
+
 /// What unwinds a run that its first difference ends.
 struct Difference(String);
 
@@ -180,8 +196,12 @@ impl<'a> Comparison<'a> {
         self.some_keys(plan);
         self.some_memories(plan);
         self.some_sequences(plan);
+        self.some_camps(plan);
         self.some_files(plan);
+        self.some_logs(plan);
         self.some_symmetry(plan);
+        self.some_moieties(plan);
+        self.some_hydrogens(plan);
         if plan.lists {
             self.listed_sheets();
             self.listed_keys(plan);
@@ -189,6 +209,9 @@ impl<'a> Comparison<'a> {
             self.listed_files();
             self.listed_symmetry();
             self.listed_texts();
+            self.listed_hydrogens();
+            self.listed_moieties();
+            self.listed_logs(plan);
         }
     }
 

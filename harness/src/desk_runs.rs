@@ -4,6 +4,7 @@
 use crate::files::Files;
 use crate::random::Random;
 use crate::sequences::Sequences;
+use reference::desk::SHEETS;
 use reference::program::{cif_program, program};
 use std::ffi::OsStr;
 use std::io::{Result as IoResult, Write};
@@ -21,13 +22,20 @@ pub fn run(path: &Path, seed: u64, count: u64) -> (usize, usize) {
     each(seed, count, |input, _| printed(output(path, &[], input), program(input).as_bytes()))
 }
 
-/// Runs the command `cif` of the program `camp` on generated inputs and block names.
+/// Runs the command `cif` of the program `camp` on generated inputs and block names, of each sheet and,
+/// for sheet 0, now and then without its number.
 pub fn run_cif(path: &Path, seed: u64, count: u64) -> (usize, usize) {
     each(seed, count, |input, seed| {
         let mut block = Files::new(seed).block();
         block.retain(|&byte| byte != 0); // no argument holds one
-        let output = output(path, &[b"cif", &block], input);
-        match cif_program(input, &block) {
+        let sheet = seed as usize % SHEETS;
+        let arguments: &[&[u8]] = match (seed >> 8) % 4 {
+            0 if sheet == 0 => &[b"cif", &block],
+            1 => &[b"cif", &block, b"--sheet", &[b'0' + sheet as u8]],
+            _ => &[b"cif", b"--sheet", &[b'0' + sheet as u8], &block],
+        };
+        let output = output(path, arguments, input);
+        match cif_program(input, sheet, &block) {
             Some(file) => printed(output, &file),
             None => refused(output),
         }

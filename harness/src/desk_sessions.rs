@@ -5,7 +5,7 @@ use crate::desks::State;
 use crate::program::Program;
 use crate::sheet_lists::longest_formula;
 use crate::tally::Tally;
-use reference::desk::{NOT_OWNER, NOT_SOUND, RECORD_HEAD};
+use reference::desk::{NOT_OWNER, NOT_SOUND, RECORD_HEAD, SHEETS};
 use reference::line::LIMIT;
 use reference::names::ITEMS;
 use reference::program::{cif_program, keys, program, LOG};
@@ -41,9 +41,18 @@ fn together(texts: &[(u8, &str)]) -> Vec<u8> {
     (0..longest).flat_map(|place| texts.iter().filter_map(key(place)).flatten()).collect()
 }
 
-/// Values for items, entered one after the other by benches 0 to 3 in turn.
+/// Values for items of sheet 0, entered one after the other by its benches in turn.
 fn sheet(values: &[(usize, &str)]) -> Vec<u8> {
-    let benches = b"0123".iter().cycle();
+    of_benches(b"01", values)
+}
+
+/// The same for the visitors' sheet.
+fn visitors_sheet(values: &[(usize, &str)]) -> Vec<u8> {
+    of_benches(b"23", values)
+}
+
+fn of_benches(benches: &[u8], values: &[(usize, &str)]) -> Vec<u8> {
+    let benches = benches.iter().cycle();
     let entry = |(&bench, (item, value)): (&u8, &(usize, &str))| {
         typed(bench, format!("{} {value}\n", ITEMS[item - 1].0))
     };
@@ -77,7 +86,7 @@ pub fn scripts() -> Vec<Script> {
         ("refused_enter_of_another", refused_enter_of_another()),
         ("log_filled_to_its_end", log_filled_to_its_end()),
         ("log_one_byte_too_short", log_one_byte_too_short()),
-        ("all_ten_items", all_ten_items()),
+        ("all_items", all_items()),
         ("overwritten", overwritten()),
         ("items_of_others", items_of_others()),
         ("erase_and_cancel", erase_and_cancel()),
@@ -96,6 +105,12 @@ pub fn scripts() -> Vec<Script> {
         ("levels_c", levels_c()),
         ("not_judgeable", not_judgeable()),
         ("points_at_either_end", points_at_either_end()),
+        ("two_camps", two_camps()),
+        ("visitors_alone", visitors_alone()),
+        ("powder_week", powder_week()),
+        ("out_of_order", out_of_order()),
+        ("moieties", moieties()),
+        ("moieties_not_read", moieties_not_read()),
     ]
 }
 
@@ -153,8 +168,18 @@ fn log_one_byte_too_short() -> Vec<u8> {
     before.chain(ends.concat()).chain(typed(b'1', R_FACTOR)).collect()
 }
 
-fn all_ten_items() -> Vec<u8> {
+/// Every item, in various writings; rows 13 to 25 without an alert.
+fn all_items() -> Vec<u8> {
     sheet(&[
+        (19, "'C10 H10, Fe'"),
+        (18, "0.71073"),
+        (17, ".110(5)"),
+        (16, "0.11"),
+        (15, "0.32"),
+        (14, "0.0310(12)"),
+        (13, "1892"),
+        (12, "2105."),
+        (11, "+8235"),
         (10, "'F > 6\\s(F)'"),
         (9, "-0.01"),
         (8, "+0.02(1)"),
@@ -180,18 +205,70 @@ fn overwritten() -> Vec<u8> {
     .concat()
 }
 
-/// Values that belong to another bench, one of them unassigned; the line of one is corrected to an item
-/// that is free, and the owner corrects its own.
+/// Values that belong to the other bench of a camp, one of them unassigned; the line of one is corrected
+/// to an item that is free, and the owner corrects its own.
 fn items_of_others() -> Vec<u8> {
     [
         together(&[(b'0', R_FACTOR), (b'1', WR_FACTOR)]),
-        typed(b'3', "_refine_ls_R_factor_gt 0.3\n\n\x08\x08\x08\x08\x08\x08obs 0.3\n"),
+        typed(b'1', "_refine_ls_R_factor_gt 0.3\n\n\x08\x08\x08\x08\x08\x08obs 0.3\n"),
         typed(b'2', "_chemical_formula_sum ?\n"),
         typed(b'0', "_refine_ls_wR_factor_obs 1234567890\n\x08\n"),
-        typed(b'1', "_chemical_formula_sum 'C10 H20'\n"),
+        typed(b'3', "_chemical_formula_sum 'C10 H20'\n"),
         typed(b'2', "_chemical_formula_sum 'C10 H22'\n"),
     ]
     .concat()
+}
+
+/// Both camps at once, with the same items: each has its own values, owners, entry numbers and report.
+fn two_camps() -> Vec<u8> {
+    let entries = [(b'0', R_FACTOR), (b'1', WR_FACTOR), (b'2', "_refine_ls_R_factor_gt 0.3\n")];
+    [
+        together(&[&entries[..], &[(b'3', "_refine_ls_wR_factor_obs 0.5\n")]].concat()),
+        typed(b'3', "_refine_ls_R_factor_gt 0.1\n\x18"),
+        typed(b'2', "_refine_ls_R_factor_gt 0.12\n"),
+        typed(b'1', "_chemical_formula_sum 'C10 H20'\n"),
+        typed(b'3', "_chemical_formula_sum 'Br H'\n"),
+        typed(b'2', "_refine_ls_R_factor_gt 0.2\n"),
+        typed(b'0', "_chemical_formula_sum 'C10H20'\n"),
+    ]
+    .concat()
+}
+
+/// A powder, of which no crystal and no number of equivalents is known; all reflections count.
+fn powder_week() -> Vec<u8> {
+    sheet(&[(18, "1.54059(1)"), (11, "412"), (12, "412.0"), (13, "412"), (14, "-0.0"), (15, "?")])
+}
+
+/// Rows 20, 22, 23 and 24 fire on one sheet, row 21 on the other.
+fn out_of_order() -> Vec<u8> {
+    [
+        sheet(&[(11, "5"), (12, "6"), (13, "7"), (14, "?"), (15, "0.1"), (16, "0.1"), (17, "0.2")]),
+        visitors_sheet(&[(11, "7"), (12, "7"), (13, "7.0(3)"), (14, "0.000001")]),
+    ]
+    .concat()
+}
+
+/// Moieties that have the formula's atoms, and such as do not.
+fn moieties() -> Vec<u8> {
+    [
+        sheet(&[(1, "'C10 H22 O'"), (19, "'C10 H20, H2 O'")]),
+        visitors_sheet(&[(1, "'Ca H4 O6 S'"), (19, "\"Ca S O4, (H2 O)3\"")]),
+    ]
+    .concat()
+}
+
+/// A count before its bracket, and a formula that cannot be read.
+fn moieties_not_read() -> Vec<u8> {
+    [
+        sheet(&[(1, "'C12 H12 N2 O2'"), (19, "'C12 H8 N2, 2(H2 O)'")]),
+        visitors_sheet(&[(1, "'C10H20'"), (19, "'C10 H20'")]),
+    ]
+    .concat()
+}
+
+/// Sheet 0 stays empty.
+fn visitors_alone() -> Vec<u8> {
+    visitors_sheet(&[(1, "'C10 H20'"), (2, "138.8672"), (3, "FO"), (4, "0.16"), (8, "?")])
 }
 
 fn erase_and_cancel() -> Vec<u8> {
@@ -235,7 +312,7 @@ fn unassigned() -> Vec<u8> {
     let values: Vec<(usize, &str)> = (1..=ITEMS.len()).zip(marks).collect();
     [
         sheet(&values),
-        typed(b'3', "_refine_ls_R_factor_gt '?'\n"),
+        typed(b'1', "_refine_ls_R_factor_gt '?'\n\x18"),
         typed(b'1', "_reflns_threshold_expression '?'\n"),
     ]
     .concat()
@@ -243,13 +320,13 @@ fn unassigned() -> Vec<u8> {
 
 fn quoted() -> Vec<u8> {
     [
-        sheet(&[(1, "\"C10 H20\""), (2, "'140.27'"), (3, "\"FO\""), (10, "'I > 2\\s(I)'")]),
+        sheet(&[(1, "\"C10 H20\""), (10, "'I > 2\\s(I)'"), (3, "\"FO\""), (2, "'140.27'")]),
         typed(b'1', "\x18_chemical_formula_weight 140.27\n"),
         typed(b'0', "_chemical_formula_sum 'C10 H20\"\n\x08'\n"),
-        typed(b'3', "_reflns_threshold_expression \"F^2^ > 4.5\\s(F^2^)\"\n"),
-        typed(b'2', "_publ_requested_category 'C'O'\n\x08\x08\x08O'\n"),
+        typed(b'1', "_reflns_threshold_expression \"F^2^ > 4.5\\s(F^2^)\"\n"),
+        typed(b'0', "_publ_requested_category 'C'O'\n\x08\x08\x08O'\n"),
         typed(b'0', "_chemical_formula_sum \"'\"\n"),
-        typed(b'3', "_reflns_threshold_expression ''\n"),
+        typed(b'1', "_reflns_threshold_expression ''\n"),
     ]
     .concat()
 }
@@ -364,24 +441,24 @@ fn points_at_either_end() -> Vec<u8> {
 /// The block name of the sessions' files.
 const BLOCK: &[u8] = b"camp-1";
 
-/// A session with what `desk` prints for it, and the file that `camp cif` writes with the block
-/// name camp-1.
+/// A session with what `desk` prints for it, and the files that `camp cif` writes of both sheets with
+/// the block name camp-1.
 #[derive(PartialEq, Eq)]
 pub struct Session {
     pub name: &'static str,
     pub input: Vec<u8>,
     pub printed: String,
-    pub file: Option<Vec<u8>>,
+    pub files: [Option<Vec<u8>>; SHEETS],
 }
 
 /// All sessions by two programs, one that prints and one that writes.
 pub fn sessions_by(
     program: fn(&[u8]) -> String,
-    cif_program: fn(&[u8], &[u8]) -> Option<Vec<u8>>,
+    cif_program: fn(&[u8], usize, &[u8]) -> Option<Vec<u8>>,
 ) -> Vec<Session> {
     let session = |(name, input): Script| {
-        let (printed, file) = (program(&input), cif_program(&input, BLOCK));
-        Session { name, input, printed, file }
+        let files = std::array::from_fn(|sheet| cif_program(&input, sheet, BLOCK));
+        Session { name, printed: program(&input), files, input }
     };
     scripts().into_iter().map(session).collect()
 }
@@ -391,16 +468,20 @@ pub fn sessions() -> Vec<Session> {
     sessions_by(program, cif_program)
 }
 
-/// Writes each session as NAME.in, NAME.out and NAME.cif. Fails where the sessions leave out a
-/// refusal, or a level or reason of a row.
+/// Writes each session as NAME.in, NAME.out and, of sheet 0, NAME.cif, and where the visitors filled
+/// something, NAME.visitors.cif. Fails where the sessions leave out a refusal, or a level or reason of a
+/// row.
 pub fn write(folder: &Path) -> Result<(), String> {
     let missing = left_out(&scripts());
     if !missing.is_empty() {
         return Err(format!("the sessions leave out {}", missing.join(", ")));
     }
-    for Session { name, input, printed, file } in sessions() {
-        let file = file.expect("a good block name");
-        for (end, content) in [("in", &input[..]), ("out", printed.as_bytes()), ("cif", &file)] {
+    for Session { name, input, printed, files } in sessions() {
+        let [own, visitors] = files.map(|file| file.expect("a good block name"));
+        let all = [("in", &input[..]), ("out", printed.as_bytes()), ("cif", &own)];
+        let filled = visitors.iter().filter(|&&byte| byte == b'\n').count() > 1;
+        let visitors = filled.then_some(("visitors.cif", &visitors[..]));
+        for (end, content) in all.into_iter().chain(visitors) {
             let path = folder.join(format!("{name}.{end}"));
             fs::write(&path, content).map_err(|fault| format!("{}: {fault}", path.display()))?;
         }
@@ -417,7 +498,9 @@ fn left_out(scripts: &[Script]) -> Vec<String> {
         for (bench, byte) in keys(input) {
             seen[usize::from(state.key(bench, byte))] = true;
         }
-        tally.note_rows(&Reference.report(&state.memory()).rows);
+        for sheet in 0..SHEETS as u64 {
+            tally.note_rows(0, &Reference.report(&state.memory(), sheet, 0).rows);
+        }
     }
     let answers =
         (0..=NOT_OWNER).filter(|&answer| answer != NOT_SOUND && !seen[usize::from(answer)]);

@@ -5,7 +5,9 @@ use crate::inputs::Inputs;
 use crate::memory::put;
 use crate::random::Random;
 use crate::sheets::Sheets;
-use reference::desk::{key, Desk, Item, Line, BENCHES, FRESH, LOG_LIMIT, RECORD_HEAD};
+use reference::desk::{
+    key, Desk, Item, Line, Sheet, BENCHES, FRESH, LOG_LIMIT, RECORD_HEAD, SHEETS,
+};
 use reference::line::{split, BYTES, LIMIT};
 use reference::names::ITEMS;
 
@@ -41,18 +43,35 @@ impl State {
     }
 }
 
-/// A desk that holds these values, none longer than a line, entered in turn by all benches.
+/// How many benches each sheet has.
+pub const OF_SHEET: usize = BENCHES / SHEETS;
+
+/// A desk on whose sheet 0 these values are, none longer than a line, entered in turn by its benches.
 pub fn holding<T: AsRef<[u8]>>(values: impl IntoIterator<Item = (usize, T)>) -> Desk {
     let mut desk = FRESH;
+    let Sheet { items, count } = &mut desk.sheets[0];
     for (entry, (item, value)) in (1..).zip(values) {
-        let (bench, times) = (entry % BENCHES as u64, desk.items[item - 1].times + 1);
-        desk.items[item - 1] = Item::holding(value.as_ref(), entry, bench, times);
-        desk.count = entry;
+        let (bench, times) = (entry % OF_SHEET as u64, items[item - 1].times + 1);
+        items[item - 1] = Item::holding(value.as_ref(), entry, bench, times);
+        *count = entry;
     }
     desk
 }
 
-/// The same for the values of items 1 to 10, of which some are empty.
+/// The same desk with the camps changed over: each has the lines and the sheet of the other.
+pub fn changed_over(desk: &Desk) -> Desk {
+    let mut other = *desk;
+    other.sheets.reverse();
+    other.lines.rotate_left(OF_SHEET);
+    for item in other.sheets.iter_mut().flat_map(|sheet| &mut sheet.items) {
+        if item.len > 0 && item.bench < BENCHES as u64 {
+            item.bench = (item.bench + OF_SHEET as u64) % BENCHES as u64;
+        }
+    }
+    other
+}
+
+/// The same for the values of all items, of which some are empty.
 pub fn sheet<T: AsRef<[u8]>>(values: [T; ITEMS.len()]) -> Desk {
     holding((1..).zip(values).filter(|(_, value)| !value.as_ref().is_empty()))
 }
@@ -65,7 +84,7 @@ pub fn in_memory(desk: &Desk) -> Memory {
 }
 
 /// The longest value that an item takes: with its name and one space a line at the limit.
-pub fn longest_value(item: usize) -> usize {
+pub const fn longest_value(item: usize) -> usize {
     LIMIT - ITEMS[item - 1].0.len() - 1
 }
 
@@ -110,23 +129,15 @@ impl Desks {
     /// just what the record of one bench's line takes, or a byte less.
     pub fn sound(&mut self) -> State {
         let mut desk = FRESH;
-        desk.count = self.random.pick(&[0, 1, 1, 2, 3, 10, 10, 40, 600]);
-        let filled = self.random.pick(&[0, 1, 2, 2]);
-        for (place, value) in self.sheets.values().into_iter().enumerate() {
-            let short = (1..=longest_value(place + 1)).contains(&value.len());
-            if short && desk.count > 0 && self.random.below(3) <= filled {
-                let bench = self.random.below(BENCHES) as u64;
-                let (entry, times) = (self.entry(desk.count), self.entry(desk.count));
-                desk.items[place] = Item::holding(&value, entry, bench, times);
-            }
-        }
+        desk.sheets = std::array::from_fn(|sheet| self.sound_sheet(sheet));
         let lines: [Vec<u8>; BENCHES] = std::array::from_fn(|_| match self.random.below(4) {
             0 => vec![],
             _ => self.typed_line(),
         });
         desk.lines = std::array::from_fn(|bench| Line::holding(&lines[bench]));
         let extra = self.random.pick(&[0, 0, 1, 7, 90]);
-        let used = RECORD_HEAD * desk.count as usize + extra;
+        let count: u64 = desk.sheets.iter().map(|sheet| sheet.count).sum();
+        let used = RECORD_HEAD * count as usize + extra;
         let line = &lines[self.random.below(BENCHES)];
         let record = RECORD_HEAD + split(line).map_or(0, |(_, value)| value.len());
         let room = self.random.pick(&[record - 1, record, record, record + 1, 100, 100, 1000]);
@@ -135,17 +146,35 @@ impl Desks {
         State { desk, log, used: used as u64 }
     }
 
+    /// A sheet of that number, as it may stand on a sound desk.
+    fn sound_sheet(&mut self, number: usize) -> Sheet {
+        let Sheet { mut items, .. } = FRESH.sheets[number];
+        let count = self.random.pick(&[0, 1, 1, 2, 3, 10, 10, 40, 600]);
+        let filled = self.random.pick(&[0, 1, 2, 2]);
+        for (place, value) in self.sheets.values().into_iter().enumerate() {
+            let short = (1..=longest_value(place + 1)).contains(&value.len());
+            if short && count > 0 && self.random.below(3) <= filled {
+                let bench = (OF_SHEET * number + self.random.below(OF_SHEET)) as u64;
+                let (entry, times) = (self.entry(count), self.entry(count));
+                items[place] = Item::holding(&value, entry, bench, times);
+            }
+        }
+        Sheet { items, count }
+    }
+
     /// A desk and a log of random bytes, with random numbers, many of them small.
     pub fn random(&mut self) -> State {
         let mut desk = FRESH;
         for line in &mut desk.lines {
             *line = Line { bytes: self.bytes(), len: self.number() };
         }
-        for item in &mut desk.items {
-            let (value, len, entry) = (self.bytes(), self.number(), self.number());
-            *item = Item { value, len, entry, bench: self.number(), times: self.number() };
+        for Sheet { items, count } in &mut desk.sheets {
+            for item in items {
+                let (value, len, entry) = (self.bytes(), self.number(), self.number());
+                *item = Item { value, len, entry, bench: self.number(), times: self.number() };
+            }
+            *count = self.number();
         }
-        desk.count = self.number();
         let log = (0..self.random.below(300)).map(|_| self.random.byte()).collect();
         State { desk, log, used: self.number() }
     }

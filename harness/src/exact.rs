@@ -2,7 +2,8 @@
 //! tool that watches the memory sees every access beyond it. Lent memory is always so.
 
 use crate::boundary::{
-    Checked, Filed, Graded, LineResult, Memory, NumberResult, Operator, Reported, Told,
+    Checked, Fed, Filed, Graded, LineResult, Memory, NumberResult, Operator, Proposed, Reported,
+    Stick, Told,
 };
 use crate::program::Program;
 
@@ -46,19 +47,31 @@ impl<P: Program> Program for Exact<P> {
         self.0.key(memory, bench, byte)
     }
 
-    fn report(&self, memory: &Memory) -> Reported {
-        self.0.report(memory)
+    fn report(&self, memory: &Memory, sheet: u64, profile: u64) -> Reported {
+        self.0.report(memory, sheet, profile)
     }
 
-    fn who(&self, memory: &Memory, item: u64) -> Told {
-        self.0.who(memory, item)
+    fn who(&self, memory: &Memory, sheet: u64, item: u64) -> Told {
+        self.0.who(memory, sheet, item)
     }
 
-    fn file(&self, memory: &Memory, name: &[u8], out: &mut [u8]) -> Filed {
+    fn file(&self, memory: &Memory, sheet: u64, name: &[u8], out: &mut [u8]) -> Filed {
         let (name, mut lent) = (block(name), block(out));
-        let filed = self.0.file(memory, &name, &mut lent);
+        let filed = self.0.file(memory, sheet, &name, &mut lent);
         out.copy_from_slice(&lent);
         filed
+    }
+
+    fn feed(&self, memory: &mut Memory, stick: &mut Stick, part: &[u8], last: u8) -> Fed {
+        self.0.feed(memory, stick, &block(part), last)
+    }
+
+    fn hydrogens(&self, memory: &Memory, sheet: u64) -> Proposed {
+        self.0.hydrogens(memory, sheet)
+    }
+
+    fn hydrogens_right(&self, memory: &Memory, sheet: u64, count: u64) -> Proposed {
+        self.0.hydrogens_right(memory, sheet, count)
     }
 
     fn operator(&self, text: &[u8]) -> Operator {

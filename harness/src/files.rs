@@ -1,16 +1,21 @@
 //! Sheets to be written as files, block names, and rooms for them.
 
 use crate::boundary::DESK_FILE;
-use crate::desks::{holding, longest_value, Desks};
+use crate::desks::{holding, longest_value, Desks, OF_SHEET};
 use crate::inputs::WORDS;
 use crate::lists::numbers_at_limits;
 use crate::random::Random;
+use crate::session::OTHER_SHEETS;
 use crate::sheets::fits;
 use reference::cif_file::{file, BLOCK_LENGTHS};
-use reference::desk::{is_sound, Desk, Item, BENCHES};
+use reference::desk::{is_sound, Desk, Item, SHEETS};
 use reference::line::BYTES;
 use reference::names::{Kind, CATEGORIES, ITEMS};
 
+/// The items of the kind text.
+const TEXT_ITEMS: [usize; 3] = [1, 10, 19];
+/// The items of which every subset is filled.
+const FIRST_ITEMS: usize = 10;
 /// The letters, digits and `-` of a block name.
 const BLOCK_BYTES: &[u8] = b"abcdefghijklmnopqrstuvwxyzABCDEFGHIJKLMNOPQRSTUVWXYZ0123456789-";
 /// Lengths of names in which each byte stands at each place.
@@ -25,13 +30,10 @@ const AWKWARD: [&str; 44] = [
     "'_a'", "'# a'", "'; a'", "'a\" b'", "\"a' b\"",
 ];
 
-/// How long the file of a sound desk would be with this name; of an unsound one there is none.
-pub fn length(desk: &Desk, block: &[u8]) -> usize {
-    if is_sound(desk) {
-        file(desk, block).len()
-    } else {
-        DESK_FILE
-    }
+/// How long the file of a sound desk's sheet would be with this name; of an unsound one, and of a sheet
+/// that is not there, there is none.
+pub fn length(desk: &Desk, sheet: u64, block: &[u8]) -> usize {
+    desk.sheet(sheet).filter(|_| is_sound(desk)).map_or(DESK_FILE, |sheet| file(sheet, block).len())
 }
 
 /// Generated desks, names and rooms.
@@ -48,10 +50,12 @@ impl Files {
     /// A sound desk; its text items often hold long or awkward values.
     pub fn desk(&mut self) -> Desk {
         let mut desk = self.desks.sound().desk;
-        for item in [1, ITEMS.len()] {
-            if desk.count > 0 && self.random.once_in(2) {
-                let (value, bench) = (self.text(item), self.random.below(BENCHES) as u64);
-                desk.items[item - 1] = Item::holding(&value, desk.count, bench, 1);
+        for (at, sheet) in desk.sheets.iter_mut().enumerate() {
+            for item in TEXT_ITEMS {
+                if sheet.count > 0 && self.random.once_in(2) {
+                    let bench = (OF_SHEET * at + self.random.below(OF_SHEET)) as u64;
+                    sheet.items[item - 1] = Item::holding(&self.text(item), sheet.count, bench, 1);
+                }
             }
         }
         desk
@@ -116,8 +120,12 @@ impl Files {
         [0, self.random.below(length), length - 1, length, length + 1, length + much]
     }
 
-    pub fn bench(&mut self) -> usize {
-        self.random.below(BENCHES)
+    /// A sheet's number, now and then one that is none.
+    pub fn sheet(&mut self) -> u64 {
+        match self.random.below(8) {
+            0 => self.random.pick(&OTHER_SHEETS),
+            _ => self.random.below(SHEETS) as u64,
+        }
     }
 }
 
@@ -140,12 +148,14 @@ pub fn names_by_length() -> impl Iterator<Item = Vec<u8>> {
     lengths.flat_map(|length| b"aZ09-".map(|byte| vec![byte; length]))
 }
 
-/// Every subset of the items filled: with short values, with the longest in either quotes, and
-/// unassigned.
+/// Every subset of items 1 to 10 filled, and with it all of the others or none: with short values, with
+/// the longest in either quotes, and unassigned. So also every number of filled items.
 pub fn subsets() -> impl Iterator<Item = Desk> {
     let sets = [short_values(), longest_values(b'\''), longest_values(b'"'), unassigned_values()];
     sets.into_iter().flat_map(|values| {
-        (0..1_usize << ITEMS.len()).map(move |subset| {
+        let first = (0..1_usize << FIRST_ITEMS).map(|subset| subset * (1 | 1 << FIRST_ITEMS));
+        let others = (0..=ITEMS.len()).map(|filled| !(usize::MAX << filled));
+        first.chain(others).map(move |subset| {
             let filled = (1..=ITEMS.len()).filter(|item| subset >> (item - 1) & 1 == 1);
             holding(filled.map(|item| (item, &values[item - 1])))
         })

@@ -5,7 +5,8 @@
 //!
 //! Kind 0 is calls on a desk: how many calls, and the lengths of the log, of a block name and of the
 //! room for a file; then log, name, room, texts, numbers (8 bytes each) and calls. A call has its
-//! kind (0 key, 1 Report, 2 Who), its bench or item (8 bytes) and its byte. Answered are for each call
+//! kind (0 key, 1 Report, 2 Who), its bench, sheet or item (8 bytes) and its byte, with a Report the
+//! profile, with a Who the sheet; after them stands the sheet of the file, one byte. Answered are for each call
 //! its answer's number, with a Report level and reason of each row, with a Who bench, entry and times
 //! (8 bytes each); then count (8 bytes) and answer of the file; then room, texts, numbers and log. Kind 1 is
 //! the same on memory that is first made a fresh desk, of which the answer comes first.
@@ -16,7 +17,7 @@
 use crate::boundary::Memory;
 use crate::by_reference::Reference;
 use crate::desk_sessions;
-use crate::desks::{in_memory, Desks};
+use crate::desks::{changed_over, in_memory, Desks};
 use crate::files::{length, Files};
 use crate::inputs::{Inputs, ROWS};
 use crate::program::{Answer, Call, Program};
@@ -27,7 +28,7 @@ use crate::sequences::{
 };
 use crate::sheet_lists;
 use crate::sheets::Sheets;
-use reference::desk::Desk;
+use reference::desk::{Desk, SHEETS};
 use reference::program::{keys, LOG};
 use std::fs;
 use std::path::Path;
@@ -69,14 +70,16 @@ impl Frames {
         self.head(kind, [calls.len(), memory.log.len(), block.len(), room]);
         let calls_bytes: Vec<u8> = calls.iter().flat_map(encoded).collect();
         self.stdin.extend([&memory.log, block, &out].concat());
-        self.stdin.extend([desk_bytes(&memory), calls_bytes].concat());
+        // The sheets in turn, and one that is none, as the number of calls says.
+        let sheet = (calls.len() % (SHEETS + 1)) as u8;
+        self.stdin.extend([desk_bytes(&memory), calls_bytes, vec![sheet]].concat());
         if kind == FRESH_CALLS {
             self.stdout.push(Reference.fresh(&mut memory));
         }
         for call in calls {
             self.stdout.extend(told(&Reference.call(&mut memory, call)));
         }
-        let filed = Reference.file(&memory, block, &mut out);
+        let filed = Reference.file(&memory, sheet.into(), block, &mut out);
         self.stdout.extend(filed.count.to_le_bytes());
         self.stdout.push(filed.answer);
         self.stdout.extend([out, desk_bytes(&memory), memory.log.to_vec()].concat());
@@ -92,7 +95,7 @@ impl Frames {
     /// Measured examples of document 01.
     fn examples(&mut self, sheets: &[Desk]) {
         for sheet in sheets {
-            self.calls(CALLS, in_memory(sheet), &[Call::Report], b"", 0);
+            self.calls(CALLS, in_memory(sheet), &[Call::Report { sheet: 0, profile: 0 }], b"", 0);
         }
     }
 
@@ -113,8 +116,8 @@ fn desk_bytes(memory: &Memory) -> Vec<u8> {
 fn encoded(call: &Call) -> Vec<u8> {
     let (kind, number, byte) = match *call {
         Call::Key { bench, byte } => (0, bench, byte),
-        Call::Report => (1, 0, 0),
-        Call::Who { item } => (2, item, 0),
+        Call::Report { sheet, profile } => (1, sheet, u8::try_from(profile).unwrap_or(u8::MAX)),
+        Call::Who { sheet, item } => (2, item, u8::try_from(sheet).unwrap_or(u8::MAX)),
     };
     [&[kind][..], &number.to_le_bytes(), &[byte]].concat()
 }
@@ -130,26 +133,39 @@ fn told(answer: &Answer) -> Vec<u8> {
     [vec![answer.number()], rest].concat()
 }
 
-/// The measured examples, with the typed line whose record document 01 gives: in two halves, each few
-/// enough for the interpreter, the second in the folder `more`.
+/// In how many parts the measured examples are run, each few enough for the interpreter.
+const EXAMPLE_PARTS: usize = 5;
+
+/// The measured examples, with the typed line whose record document 01 gives, in parts: each in a folder
+/// of its number, from 1 on.
 pub fn write_examples(folder: &Path) -> Result<(), String> {
     let sheets = sheet_lists::measured_examples();
-    let (first, second) = sheets.split_at(sheets.len() / 2);
-    let mut frames = Frames::default();
-    frames.examples(first);
     let calls = b"_refine_ls_R_factor_gt 0.16\n".map(|byte| Call::Key { bench: 0, byte });
-    frames.sequence(&Sequence { calls: calls.into(), log: vec![0xee; 10] });
-    frames.write(folder)?;
-    let mut more = Frames::default();
-    more.examples(second);
-    more.sequence(&Sequence { calls: calls.into(), log: vec![0xee; 9] });
-    more.wall(b"0.200001", ROWS[0]);
-    more.wall(b"-0.06", ROWS[2]);
-    more.wall(b"-.06(3)", ROWS[2]);
-    more.wall(b"1.", ROWS[1]);
-    more.wall(b"-.", ROWS[0]);
-    more.wall(b"_refine_ls_R_factor_gt 0.16", NO_ROW);
-    more.write(&folder.join("more"))
+    // The typed lines have parts of their own.
+    let alone: &[Desk] = &[];
+    let examples = sheets.chunks(sheets.len().div_ceil(EXAMPLE_PARTS));
+    let parts = [alone, alone].into_iter().chain(examples);
+    for (number, part) in (1..).zip(parts) {
+        let mut frames = Frames::default();
+        frames.examples(part);
+        match number {
+            1 => frames.sequence(&Sequence { calls: calls.into(), log: vec![0xee; 10] }),
+            2 => frames.sequence(&Sequence { calls: calls.into(), log: vec![0xee; 9] }),
+            3 => {
+                frames.wall(b"0.200001", ROWS[0]);
+                frames.wall(b"-0.06", ROWS[2]);
+                frames.wall(b"-.06(3)", ROWS[2]);
+                frames.wall(b"1.", ROWS[1]);
+                frames.wall(b"-.", ROWS[0]);
+                frames.wall(b"_refine_ls_R_factor_gt 0.16", NO_ROW);
+            }
+            _ => {}
+        }
+        let folder = folder.join(number.to_string());
+        fs::create_dir_all(&folder).map_err(|fault| format!("{}: {fault}", folder.display()))?;
+        frames.write(&folder)?;
+    }
+    Ok(())
 }
 
 /// The measured examples, as they are and typed, the sessions of desk with their files, and sequences
@@ -163,7 +179,7 @@ pub fn write_lists(folder: &Path) -> Result<(), String> {
     for (number, (_, input)) in (1..).zip(desk_sessions::scripts()) {
         let calls: Vec<Call> =
             keys(&input).map(|(bench, byte)| Call::Key { bench, byte }).collect();
-        let block = &b"camp-1-2-3-4-5-6-7-8-9-0-a-b-c-d"[..number];
+        let block = &b"camp-1-2-3-4-5-6-7-8-9-0-a-b-c-d"[..1 + (number - 1) % 32];
         frames.calls(FRESH_CALLS, Memory::zeros(&[0; LOG]), &calls, block, number);
     }
     frames.write(folder)
@@ -181,13 +197,14 @@ pub fn write(seed: u64, count: u64, folder: &Path) -> Result<(), String> {
         frames.sequence(&sequences.sequence());
         for state in [desks.sound(), desks.random()] {
             let (calls, block) = (sequences.calls(OTHERS as usize, 0), files.block());
-            let room = seeds.pick(&files.rooms(length(&state.desk, &block)));
+            let room = seeds.pick(&files.rooms(length(&state.desk, 0, &block)));
             frames.calls(CALLS, state.memory(), &calls, &block, room);
         }
         for _ in 0..OTHERS {
             frames.wall(&inputs.value(), seeds.pick(&[ROWS[0], ROWS[1], ROWS[2], NO_ROW]));
             frames.wall(&inputs.line(), NO_ROW);
-            frames.calls(CALLS, in_memory(&sheets.sheet()), &[Call::Report], b"", 0);
+            let desk = changed_over(&sheets.sheet());
+            frames.calls(CALLS, in_memory(&desk), &[Call::Report { sheet: 1, profile: 1 }], b"", 0);
         }
     }
     frames.write(folder)

@@ -17,12 +17,16 @@ mod exact;
 mod files;
 mod frames;
 mod groups;
+mod hydrogens;
 mod inputs;
 mod lists;
+mod logs;
 pub mod memory;
+mod moieties;
 mod old_build;
 mod operators;
 mod points;
+mod powder;
 pub mod program;
 pub mod proved;
 mod random;
@@ -57,6 +61,8 @@ const USAGE: &str = "usage: harness MODE
                                   in proportion
   memory [--seed N] [--count N]   the same on generated inputs and short lists, each run of bytes lent in a
                                   block of the heap of its exact length: for a run under valgrind
+  moieties LENGTH                 compare both programs on every moiety text of C H 2 ( ) , and space up to this
+                                  length; 8 takes about a minute
   self-check                      show that the comparison finds faulty programs
   trace, reference-trace          answer trace commands by the proved library, by the reference
   bench [FILE]                    speed of both programs; beside it, from a file of lines WORKLOAD INPUTS
@@ -66,7 +72,8 @@ const USAGE: &str = "usage: harness MODE
                                   function counted_round; prints the number of inputs
   layout                          sizes and offsets of the boundary's structs, and the headers' numbers
   desk-sessions FOLDER            write the sessions of the programs desk and camp cif, NAME.in, and
-                                  what they must print for each, NAME.out and NAME.cif
+                                  what they must print for each, NAME.out and NAME.cif, and where the
+                                  visitors filled something NAME.visitors.cif
   desk-runs PROGRAM SEED COUNT    run the program desk on generated inputs
   cif-runs PROGRAM SEED COUNT     run the program's command cif on generated inputs and block names
   desk-input SEED                 write one such input
@@ -80,7 +87,8 @@ const USAGE: &str = "usage: harness MODE
   client-lines SEED COUNT         write generated lines
   client-values SEED COUNT        write generated values
   operator-lines SEED COUNT       write generated texts of symmetry operators, whole and damaged
-  desk-answers, cif-answers BLOCK what desk and camp cif must print for the input
+  desk-answers, cif-answers SHEET BLOCK
+                                  what desk and camp cif must print for the input
   operator-answers FILE           what camp symmetry must print for the input where some line is no
                                   operator; FILE is the input's name in its messages
   client-answers [ROW]            what the client must print for the input
@@ -111,6 +119,10 @@ fn run(words: &[&str]) -> Outcome {
     match words {
         ["compare", options @ ..] => compare(&Proved, plan(options, true)?),
         ["memory", options @ ..] => compare(&Exact(Proved), plan(options, false)?),
+        ["moieties", longest] => {
+            let run = compare::moieties(&Proved, &Reference, number(2, longest)? as usize);
+            Ok(counted(run.print()))
+        }
         ["self-check"] => Ok(counted(self_check::run())),
         ["trace"] => done(trace::run(&Proved, stdin().lock(), output)),
         ["reference-trace"] => done(trace::run(&Reference, stdin().lock(), output)),
@@ -181,8 +193,9 @@ fn run(words: &[&str]) -> Outcome {
             let input = whole_input()?;
             done(output.write_all(program(&input).as_bytes()).and_then(|()| output.flush()))
         }
-        ["cif-answers", block] => {
-            let file = cif_program(&whole_input()?, block.as_bytes()).unwrap_or_default();
+        ["cif-answers", sheet @ ("0" | "1"), block] => {
+            let (sheet, input) = (usize::from(*sheet == "1"), whole_input()?);
+            let file = cif_program(&input, sheet, block.as_bytes()).unwrap_or_default();
             done(output.write_all(&file).and_then(|()| output.flush()))
         }
         ["client-answers"] => done(client::answers(None, stdin().lock(), output)),

@@ -2,10 +2,12 @@
 //! include/desk.h. `mutants/` compiles this file a second time, with a changed copy of the reference.
 
 use crate::boundary::{
-    Memory, DESK_COUNT_AT, DESK_ITEMS_AT, DESK_ITEMS_SLOT, DESK_ITEM_NUMBERS, DESK_LINE,
-    DESK_NUMBERS, DESK_TEXTS, DESK_USED_AT,
+    Memory, Stick, DESK_COUNT_AT, DESK_ITEMS, DESK_ITEMS_AT, DESK_ITEMS_SLOT, DESK_ITEM_NUMBERS,
+    DESK_KEPT, DESK_LINE, DESK_NUMBERS, DESK_SHEET_NUMBERS, DESK_STATE, DESK_TEXTS, DESK_USED_AT,
 };
-use reference::desk::{Desk, Item, Line};
+use reference::desk::{Desk, Item, Line, Sheet};
+use reference::line::ACCEPTED;
+use reference::reader::{Reader, BAD_SHAPE, END_INSIDE, FOREIGN_OVERWRITE};
 use std::array::from_fn;
 use std::ops::Range;
 
@@ -19,11 +21,12 @@ pub fn held(memory: &Memory) -> Option<(Desk, u64)> {
     let text = |at| from_fn(|byte| texts[slot(at)][byte]);
     let number = |at: usize| numbers[at] as u64;
     let line = |bench| Line { bytes: text(bench), len: number(bench) };
-    let item = |place| {
-        let [len, entry, bench, times] = numbers_of(place).map(number);
-        Item { value: text(DESK_ITEMS_SLOT + place), len, entry, bench, times }
+    let item = |sheet, place| {
+        let [len, entry, bench, times] = numbers_of(sheet, place).map(number);
+        Item { value: text(slot_of(sheet, place)), len, entry, bench, times }
     };
-    let desk = Desk { lines: from_fn(line), items: from_fn(item), count: number(DESK_COUNT_AT) };
+    let sheet = |at| Sheet { items: from_fn(|place| item(at, place)), count: number(count_of(at)) };
+    let desk = Desk { lines: from_fn(line), sheets: from_fn(sheet) };
     Some((desk, number(DESK_USED_AT)))
 }
 
@@ -34,15 +37,47 @@ pub fn put(memory: &mut Memory, desk: &Desk, used: u64) {
         texts[slot(bench)].copy_from_slice(&line.bytes);
         numbers[bench] = line.len as usize;
     }
-    for (place, item) in desk.items.iter().enumerate() {
-        texts[slot(DESK_ITEMS_SLOT + place)].copy_from_slice(&item.value);
-        let held = [item.len, item.entry, item.bench, item.times];
-        for (at, number) in numbers_of(place).into_iter().zip(held) {
-            numbers[at] = number as usize;
+    for (at, sheet) in desk.sheets.iter().enumerate() {
+        for (place, item) in sheet.items.iter().enumerate() {
+            texts[slot(slot_of(at, place))].copy_from_slice(&item.value);
+            let held = [item.len, item.entry, item.bench, item.times];
+            for (at, number) in numbers_of(at, place).into_iter().zip(held) {
+                numbers[at] = number as usize;
+            }
         }
+        numbers[count_of(at)] = sheet.count as usize;
     }
-    numbers[DESK_COUNT_AT] = desk.count as usize;
     numbers[DESK_USED_AT] = used as usize;
+}
+
+/// How a reading stands, and with which answer it is over.
+const STANDS: [(usize, Option<u8>); 5] = [
+    (0, None),
+    (1, Some(ACCEPTED)),
+    (18, Some(BAD_SHAPE)),
+    (19, Some(FOREIGN_OVERWRITE)),
+    (20, Some(END_INSIDE)),
+];
+
+/// The reader that memory holds, sound or not; none where the memory is no reader.
+pub fn held_reader(memory: &Memory, Stick { kept, state }: &Stick) -> Option<Reader> {
+    let (desk, start) = held(memory)?;
+    if (kept.len(), state.len()) != (DESK_KEPT, DESK_STATE) {
+        return None;
+    }
+    let (_, over) = STANDS.into_iter().find(|(number, _)| *number == state[1])?;
+    let kept = kept[..state[0].min(DESK_KEPT)].to_vec();
+    Some(Reader { desk, start, kept, over })
+}
+
+/// Puts a reader into memory of a reader's lengths; behind the kept bytes are zeros.
+pub fn put_reader(memory: &mut Memory, stick: &mut Stick, reader: &Reader) {
+    put(memory, &reader.desk, reader.start);
+    stick.kept.fill(0);
+    stick.kept[..reader.kept.len()].copy_from_slice(&reader.kept);
+    let stands = STANDS.into_iter().find(|(_, over)| *over == reader.over);
+    stick.state[0] = reader.kept.len();
+    stick.state[1] = stands.expect("no other answer ends a reading").0;
 }
 
 /// The places of a slot's bytes.
@@ -50,7 +85,17 @@ fn slot(at: usize) -> Range<usize> {
     DESK_LINE * at..DESK_LINE * (at + 1)
 }
 
+/// The slot of a sheet's item.
+fn slot_of(sheet: usize, place: usize) -> usize {
+    DESK_ITEMS_SLOT + DESK_ITEMS * sheet + place
+}
+
 /// The places of an item's length, entry number and bench, and of how many entries named it.
-fn numbers_of(place: usize) -> [usize; DESK_ITEM_NUMBERS] {
-    from_fn(|at| DESK_ITEMS_AT + DESK_ITEM_NUMBERS * place + at)
+fn numbers_of(sheet: usize, place: usize) -> [usize; DESK_ITEM_NUMBERS] {
+    from_fn(|at| DESK_ITEMS_AT + DESK_SHEET_NUMBERS * sheet + DESK_ITEM_NUMBERS * place + at)
+}
+
+/// The place of a sheet's count.
+fn count_of(sheet: usize) -> usize {
+    DESK_COUNT_AT + DESK_SHEET_NUMBERS * sheet
 }

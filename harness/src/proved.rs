@@ -1,7 +1,8 @@
 //! The proved library through its C boundary.
 
 use crate::boundary::{
-    Checked, Filed, Graded, LineResult, Memory, NumberResult, Operator, Reported, Told,
+    Checked, Fed, Filed, Graded, LineResult, Memory, NumberResult, Operator, Proposed, Reported,
+    Stick, Told,
 };
 use crate::program::Program;
 
@@ -33,12 +34,15 @@ extern "C" {
         texts_length: usize,
         numbers: *const usize,
         numbers_length: usize,
+        sheet: u64,
+        profile: u64,
     ) -> Reported;
     fn desk_who(
         texts: *const u8,
         texts_length: usize,
         numbers: *const usize,
         numbers_length: usize,
+        sheet: u64,
         item: u64,
     ) -> Told;
     fn desk_file(
@@ -46,11 +50,40 @@ extern "C" {
         texts_length: usize,
         numbers: *const usize,
         numbers_length: usize,
+        sheet: u64,
         name: *const u8,
         name_length: usize,
         out: *mut u8,
         out_length: usize,
     ) -> Filed;
+    fn desk_feed(
+        texts: *mut u8,
+        texts_length: usize,
+        numbers: *mut usize,
+        numbers_length: usize,
+        kept: *mut u8,
+        kept_length: usize,
+        state: *mut usize,
+        state_length: usize,
+        part: *const u8,
+        part_length: usize,
+        last: u8,
+    ) -> Fed;
+    fn desk_hydrogens(
+        texts: *const u8,
+        texts_length: usize,
+        numbers: *const usize,
+        numbers_length: usize,
+        sheet: u64,
+    ) -> Proposed;
+    fn desk_hydrogens_right(
+        texts: *const u8,
+        texts_length: usize,
+        numbers: *const usize,
+        numbers_length: usize,
+        sheet: u64,
+        count: u64,
+    ) -> Proposed;
     fn symmetry_read(text: *const u8, length: usize) -> Operator;
     fn symmetry_check(rows: *const i8, length: usize) -> Checked;
 }
@@ -105,17 +138,28 @@ impl Program for Proved {
         }
     }
 
-    fn report(&self, memory: &Memory) -> Reported {
+    fn report(&self, memory: &Memory, sheet: u64, profile: u64) -> Reported {
         let Memory { texts, numbers, .. } = memory;
-        unsafe { desk_report(texts.as_ptr(), texts.len(), numbers.as_ptr(), numbers.len()) }
+        unsafe {
+            desk_report(
+                texts.as_ptr(),
+                texts.len(),
+                numbers.as_ptr(),
+                numbers.len(),
+                sheet,
+                profile,
+            )
+        }
     }
 
-    fn who(&self, memory: &Memory, item: u64) -> Told {
+    fn who(&self, memory: &Memory, sheet: u64, item: u64) -> Told {
         let Memory { texts, numbers, .. } = memory;
-        unsafe { desk_who(texts.as_ptr(), texts.len(), numbers.as_ptr(), numbers.len(), item) }
+        unsafe {
+            desk_who(texts.as_ptr(), texts.len(), numbers.as_ptr(), numbers.len(), sheet, item)
+        }
     }
 
-    fn file(&self, memory: &Memory, block: &[u8], out: &mut [u8]) -> Filed {
+    fn file(&self, memory: &Memory, sheet: u64, block: &[u8], out: &mut [u8]) -> Filed {
         let Memory { texts, numbers, .. } = memory;
         unsafe {
             desk_file(
@@ -123,10 +167,52 @@ impl Program for Proved {
                 texts.len(),
                 numbers.as_ptr(),
                 numbers.len(),
+                sheet,
                 block.as_ptr(),
                 block.len(),
                 out.as_mut_ptr(),
                 out.len(),
+            )
+        }
+    }
+
+    fn feed(&self, memory: &mut Memory, stick: &mut Stick, part: &[u8], last: u8) -> Fed {
+        let (Memory { texts, numbers, .. }, Stick { kept, state }) = (memory, stick);
+        unsafe {
+            desk_feed(
+                texts.as_mut_ptr(),
+                texts.len(),
+                numbers.as_mut_ptr(),
+                numbers.len(),
+                kept.as_mut_ptr(),
+                kept.len(),
+                state.as_mut_ptr(),
+                state.len(),
+                part.as_ptr(),
+                part.len(),
+                last,
+            )
+        }
+    }
+
+    fn hydrogens(&self, memory: &Memory, sheet: u64) -> Proposed {
+        let Memory { texts, numbers, .. } = memory;
+        let (texts_length, numbers_length) = (texts.len(), numbers.len());
+        unsafe {
+            desk_hydrogens(texts.as_ptr(), texts_length, numbers.as_ptr(), numbers_length, sheet)
+        }
+    }
+
+    fn hydrogens_right(&self, memory: &Memory, sheet: u64, count: u64) -> Proposed {
+        let Memory { texts, numbers, .. } = memory;
+        unsafe {
+            desk_hydrogens_right(
+                texts.as_ptr(),
+                texts.len(),
+                numbers.as_ptr(),
+                numbers.len(),
+                sheet,
+                count,
             )
         }
     }

@@ -1,9 +1,14 @@
 //! Shows that the comparison can fail: programs with one known fault each must be found different.
 //! These are errors of thought; `mutants/` has slips of the pen.
 
+mod camps;
 mod files;
+mod hydrogens;
 mod keys;
+mod logs;
+mod moieties;
 mod owners;
+mod powder;
 mod questions;
 mod rows;
 mod symmetry;
@@ -11,7 +16,8 @@ mod texts;
 mod times;
 
 use crate::boundary::{
-    Checked, Filed, Graded, LineResult, Memory, NumberResult, Operator, Reported, Told,
+    Checked, Fed, Filed, Graded, LineResult, Memory, NumberResult, Operator, Proposed, Reported,
+    Stick, Told,
 };
 use crate::by_reference::{gathered, Reference};
 use crate::compare::{compare, first_difference, Gather, Plan};
@@ -31,9 +37,12 @@ enum Wrong {
     Item(fn(&[u8]) -> u64),
     Fresh(fn(&mut Memory) -> u8),
     Key(fn(&mut Memory, u64, u8) -> u8),
-    Report(fn(&Memory) -> Reported),
-    Who(fn(&Memory, u64) -> Told),
-    File(fn(&Memory, &[u8], &mut [u8]) -> Filed),
+    Report(fn(&Memory, u64, u64) -> Reported),
+    Who(fn(&Memory, u64, u64) -> Told),
+    File(fn(&Memory, u64, &[u8], &mut [u8]) -> Filed),
+    Feed(fn(&mut Memory, &mut Stick, &[u8], u8) -> Fed),
+    Hydrogens(fn(&Memory, u64) -> Proposed),
+    HydrogensRight(fn(&Memory, u64, u64) -> Proposed),
     Operator(fn(&[u8]) -> Operator),
     Group(fn(&[i8]) -> Checked),
 }
@@ -58,9 +67,12 @@ impl Program for Wrong {
     answers!(Item, item(name: &[u8]) -> u64);
     answers!(Fresh, fresh(memory: &mut Memory) -> u8);
     answers!(Key, key(memory: &mut Memory, bench: u64, byte: u8) -> u8);
-    answers!(Report, report(memory: &Memory) -> Reported);
-    answers!(Who, who(memory: &Memory, item: u64) -> Told);
-    answers!(File, file(memory: &Memory, block: &[u8], out: &mut [u8]) -> Filed);
+    answers!(Report, report(memory: &Memory, sheet: u64, profile: u64) -> Reported);
+    answers!(Who, who(memory: &Memory, sheet: u64, item: u64) -> Told);
+    answers!(File, file(memory: &Memory, sheet: u64, block: &[u8], out: &mut [u8]) -> Filed);
+    answers!(Feed, feed(memory: &mut Memory, stick: &mut Stick, part: &[u8], last: u8) -> Fed);
+    answers!(Hydrogens, hydrogens(memory: &Memory, sheet: u64) -> Proposed);
+    answers!(HydrogensRight, hydrogens_right(memory: &Memory, sheet: u64, count: u64) -> Proposed);
     answers!(Operator, operator(text: &[u8]) -> Operator);
     answers!(Group, group(numbers: &[i8]) -> Checked);
 
@@ -79,24 +91,32 @@ fn change(memory: &mut Memory, change: impl FnOnce(&mut Desk)) {
 
 /// Prints one line for each fault; answers how many were found and how many not.
 pub fn run() -> (usize, usize) {
-    let lists: [&[(&str, Wrong)]; 8] = [
+    let lists: [&[(&str, Wrong)]; 13] = [
         &texts::FAULTS,
         &rows::FAULTS,
+        &powder::FAULTS,
+        &moieties::FAULTS,
+        &hydrogens::FAULTS,
         &keys::FAULTS,
         &questions::FAULTS,
         &times::FAULTS,
         &owners::FAULTS,
+        &camps::FAULTS,
         &files::FAULTS,
+        &logs::FAULTS,
         &symmetry::FAULTS,
     ];
     let faults = lists.into_iter().flatten();
     let mut results: Vec<(String, bool)> =
         faults.map(|(name, wrong)| found(name, wrong, gathered)).collect();
     results.extend(questions::ORDERS.map(|(name, order)| found(name, &Reference, order)));
-    results.push(found_by_log());
+    results.push(found_in_both(&times::FAULTS[0]));
+    results.push(found_in_both(&camps::FAULTS[0]));
     let none = compare(&Reference, &Reference, &PLAN);
     let same = none.differences() == 0 && none.missing().is_empty();
-    results.push(("the reference equals itself".into(), same));
+    let never =
+        none.missing().iter().map(|answer| format!(", never seen {answer}")).collect::<String>();
+    results.push((format!("the reference equals itself{never}"), same));
     results.push(("answers never seen are told".into(), !Tally::default().missing().is_empty()));
     for (name, passed) in &results {
         println!("{} {name}", if *passed { "ok" } else { "FAIL" });
@@ -105,9 +125,8 @@ pub fn run() -> (usize, usize) {
     (passed, results.len() - passed)
 }
 
-/// A fault of both programs, which only the log's bytes tell.
-fn found_by_log() -> (String, bool) {
-    let (name, wrong) = &times::FAULTS[0];
+/// A fault of both programs, which only the log's bytes tell, or two runs held side by side.
+fn found_in_both((name, wrong): &(&str, Wrong)) -> (String, bool) {
     told(&format!("{name}, in both"), first_difference(wrong, wrong, gathered, &PLAN))
 }
 

@@ -24,6 +24,10 @@ pub const OTHER_BENCHES: [u64; 14] = [
     u64::MAX,
 ];
 
+/// Sheet numbers that are none, likewise.
+pub const OTHER_SHEETS: [u64; 12] =
+    [2, 3, 4, 127, 255, 256, 257, 1 << 16, 1 << 32, (1 << 32) + 1, 1 << 63, u64::MAX];
+
 /// Benches at their keys. What each presses next depends on what its line holds.
 pub struct Session {
     random: Random,

@@ -1,5 +1,5 @@
 //! Fixed lists of sheets: every symbol, every mixture of missing items, and every place next to a
-//! bound of the twelve rows.
+//! bound of rows 1 to 12.
 
 use crate::desks;
 use crate::inputs::{decimal, near};
@@ -9,7 +9,7 @@ use crate::sheets::{fits, most_places, weight_bounds, MISSING};
 use reference::desk::Desk;
 use reference::formula::{self, SYMBOLS, WEIGHTS};
 use reference::line::BYTES;
-use reference::names::{CATEGORIES, ITEMS};
+use reference::names::CATEGORIES;
 use reference::number::PLACES;
 use reference::rows::THRESHOLDS;
 
@@ -45,13 +45,14 @@ pub fn measured_examples() -> Vec<Desk> {
     sheets
 }
 
-/// Each item assigned, empty or unassigned, in every mixture; with two sets of assigned values.
+/// Each of items 1 to 10 assigned, empty or unassigned, in every mixture; with two sets of assigned
+/// values.
 pub fn missing_mixtures() -> impl Iterator<Item = Desk> {
     let sets = [
         ["'C10 H20'", "140.27", "FO", "0.2", "0.3", "0.3", "0.5", "0.1", "-0.3", "'I > 5\\s(I)'"],
         ["'C10 Xx'", "1", "'CI'", "0.05", "0.12", "0.2", "0.4", "0", "0.06", "'I > 5'"],
     ];
-    let mixtures = 3_usize.pow(ITEMS.len() as u32);
+    let mixtures = 3_usize.pow(sets[0].len() as u32);
     sets.into_iter().flat_map(move |assigned| {
         (0..mixtures).map(move |mixture| {
             let item = |place: usize| match mixture / 3_usize.pow(place as u32) % 3 {
@@ -59,7 +60,9 @@ pub fn missing_mixtures() -> impl Iterator<Item = Desk> {
                 1 => MISSING[0],
                 _ => MISSING[1 + (mixture + place) % 2],
             };
-            desks::sheet(std::array::from_fn(item))
+            desks::sheet(std::array::from_fn(
+                |place| if place < assigned.len() { item(place) } else { "" },
+            ))
         })
     })
 }

@@ -1,7 +1,9 @@
-//! Generated sheets: ten values that could stand on a desk, about every bound of the twelve rows.
+//! Generated sheets: values that could stand on a desk, about every bound of the rows.
 
 use crate::desks;
 use crate::inputs::{decimal, near, Inputs, ROWS};
+use crate::moieties::{Moieties, ITEM, LONGEST};
+use crate::powder::{self, Powder};
 use crate::random::Random;
 use reference::desk::Desk;
 use reference::formula::{self, SYMBOLS, WEIGHTS};
@@ -24,6 +26,8 @@ const BAD_SYMBOLS: [&str; 8] = ["D", "T", "Xx", "Uuo", "CL", "cl", "h", "2H"];
 pub struct Sheets {
     random: Random,
     inputs: Inputs,
+    powder: Powder,
+    moieties: Moieties,
 }
 
 /// Whether a value may be typed for an item: form, kind and bytes.
@@ -46,7 +50,9 @@ pub fn most_places(millionths: i64) -> usize {
 
 impl Sheets {
     pub fn new(seed: u64) -> Self {
-        Sheets { random: Random::new(seed), inputs: Inputs::new(seed.rotate_left(32)) }
+        let inputs = Inputs::new(seed.rotate_left(32));
+        let powder = Powder::new(seed.rotate_left(4));
+        Sheets { random: Random::new(seed), inputs, powder, moieties: Moieties::new(!seed) }
     }
 
     /// A desk that holds such values.
@@ -54,16 +60,21 @@ impl Sheets {
         desks::sheet(self.values())
     }
 
-    /// Ten values; on some sheets all are there, on others many are missing.
+    /// A value for each item; on some sheets all are there, on others many are missing.
     pub fn values(&mut self) -> [Vec<u8>; ITEMS.len()] {
         let missing = self.random.pick(&[usize::MAX, 20, 6, 2]);
         let formula = self.value(1);
         let sum = formula::sum(value::text(&formula));
+        let powder = self.powder.values();
         std::array::from_fn(|place| match place + 1 {
             _ if self.random.once_in(missing) => self.random.pick(&MISSING).into(),
             1 => formula.clone(),
             2 => self.fitting(2, |sheets| sheets.weight(sum)),
-            item => self.value(item),
+            ITEM => self.fitting(ITEM, |sheets| sheets.moieties(&formula)),
+            item => match powder.get(item.wrapping_sub(powder::FIRST_ITEM)) {
+                Some(value) => value.clone(),
+                None => self.value(item),
+            },
         })
     }
 
@@ -77,6 +88,8 @@ impl Sheets {
             6 | 7 => sheets.graded(ROWS[1]),
             8 | 9 => sheets.graded(ROWS[2]),
             10 => sheets.threshold(),
+            ITEM => sheets.moieties(b"C"),
+            11..=18 => sheets.powder.values()[item - powder::FIRST_ITEM].clone(),
             _ => unreachable!("no values for item {item}"),
         })
     }
@@ -112,6 +125,19 @@ impl Sheets {
         let mut number = [sign, &size].concat().into_bytes();
         number.extend(self.inputs.uncertainty());
         number
+    }
+
+    /// Moieties in quotes: most often the formula's own terms, with another moiety now and then.
+    fn moieties(&mut self, formula: &[u8]) -> Vec<u8> {
+        let mut text = match self.random.below(4) {
+            0 => self.moieties.text(),
+            _ => value::text(formula).to_vec(),
+        };
+        if self.random.once_in(4) {
+            text.extend(b", H2 O");
+        }
+        text.truncate(LONGEST);
+        self.inputs.quoted(&text)
     }
 
     /// A formula, bare or quoted, most often a right one.

@@ -3,8 +3,11 @@
 use crate::boundary::Row;
 use crate::broken::{DESK_WAYS, WAYS};
 use crate::groups::DAMAGES;
+use crate::logs::{way, BROKEN, FAULTS};
+use crate::moieties::FAULTS as MOIETY_FAULTS;
 use crate::operators::PART_FAULTS;
 use reference::names::ITEMS;
+use reference::powder::{NOT_FOR_POWDER, PROFILES};
 use reference::rows::{NAMES, ROWS};
 
 const GRADES: &[&str] = &["0 0", "0 2", "0 3", "0 4", "7 0"];
@@ -37,7 +40,7 @@ const WITHOUT_CARBON: &[&str] = &[
 const AROUND_POINT: &[&str] = &["plain", "signed", "uncertain", "both"];
 
 /// Each question with its possible answers; an answer without a name is none.
-const QUESTIONS: [(&str, &[&str]); 59] = [
+const QUESTIONS: [(&str, &[&str]); 78] = [
     ("line", &["0", "5", "6", "7"]),
     ("row 6", GRADES),
     ("row 8", GRADES),
@@ -46,21 +49,21 @@ const QUESTIONS: [(&str, &[&str]); 59] = [
     ("number", &["none", "below 0", "0", "above 0"]),
     ("value", &["none", "unassigned", "bare", "quoted"]),
     ("line's form", &["no", "yes"]),
-    ("item", &["none", "1", "2", "3", "4", "5", "6", "7", "8", "9", "10"]),
+    ("item", NONE_AND_ITEMS),
     ("key", &["0", "1", "2", "3", "4", "5", "6", "7", "8", "9"]),
     ("key accepted", &["append", "erase", "erase nothing", "empty", "Enter"]),
     ("entry's bench", &["0", "1", "2", "3"]),
-    ("entry's item", &["1", "2", "3", "4", "5", "6", "7", "8", "9", "10"]),
+    ("entry's item", ALL_ITEMS),
     ("fresh", &["0", "2"]),
-    ("Report", &["0", "2"]),
-    ("Who", &["0 by 0", "0 by 1", "0 by 2", "0 by 3", "0 empty", "6", "2"]),
+    ("Report", &["0", "2", "12", "21"]),
+    ("Who", &["0 by 0", "0 by 1", "0 by 2", "0 by 3", "0 empty", "6", "12", "2"]),
     ("texts, numbers", &["- -", "- =", "- +", "= -", "= =", "= +", "+ -", "+ =", "+ +"]),
     ("log played on", &["of none", "shorter", "of the limit", "too long"]),
     ("gathering", &["changes nothing", "moves keys"]),
     ("played key", &["0", "1", "2", "3", "4", "5", "6", "7", "8", "9"]),
-    ("played Who", &["0 by 0", "0 by 1", "0 by 2", "0 by 3", "0 empty", "6"]),
-    ("file", &["0", "2", "10", "11"]),
-    ("filled items", &["0", "1", "2", "3", "4", "5", "6", "7", "8", "9", "10"]),
+    ("played Who", &["0 by 0", "0 by 1", "0 by 2", "0 by 3", "0 empty", "6", "12"]),
+    ("file", &["0", "2", "10", "11", "12"]),
+    ("filled items", NUMBERS_OF_ITEMS),
     ("block name of", &["0", "1", "2 to 30", "31", "32", "33", "more"]),
     ("room for it", &["0", "less", "one less", "exact", "one more", "more"]),
     ("log typed into", &["exact", "one more", "longer", "of the limit"]),
@@ -97,13 +100,43 @@ const QUESTIONS: [(&str, &[&str]); 59] = [
     ("filled, refused", &["own 7", "own 8", "another's 7", "another's 9"]),
     ("9 with", &["room", "exact room", "one byte less", "no room"]),
     ("9 of", &["a value", "?", "."]),
+    ("of one sheet", REFUSED),
+    ("asked sheet", &["Report 0", "Report 1", "Who 0", "Who 1", "file 0", "file 1"]),
+    ("on the other", &["empty", "filled"]),
+    ("camps apart", &["camp 0", "camp 1", "with 8, equal", "with 8, not"]),
+    ("log's part", &["0", "0 again", "18", "18 again", "19", "19 again", "20", "20 again"]),
+    ("bytes kept", &["none", "1 to 5", "more"]),
+    ("18 for a", &FAULTS),
+    ("20 after", &["1 to 5 bytes", "more"]),
+    ("log grown", &["of nothing", "of entries"]),
+    ("log of old", &["0", "19", "18"]),
+    ("moieties", &["equal", "B", "not read", "formula not", "neither"]),
+    ("so many", &["1", "2", "3", "more"]),
+    ("brackets deep", &["0", "1", "2", "3", "4"]),
+    ("bracket's count", &["1", "2 to 9", "10 to 98", "99"]),
+    ("hydrogens", &["0", "2", "12", "22", "23"]),
+    ("right", &["0", "2", "12", "22", "24"]),
+    ("started from", &["C, H", "C, no H", "H, no C", "neither", "H alone"]),
+    ("smallest", &["0", "1", "2 to 9", "10 to 99", "100 to 999", "1000 to 9998", "9999"]),
+    ("checked", &["one below", "smallest", "largest", "one above", "9999", "beyond 9999"]),
 ];
 /// What a desk of an earlier build is answered.
-const REFUSED: &[&str] = &["fresh 2", "key 2", "key 1", "Report 2", "Who 2", "file 2"];
+const REFUSED: &[&str] = &["fresh 2", "key 2", "key 1", "Report 2", "Who 2", "file 2", "12", "21"];
 /// The places of a row of an operator.
 const PLACES: &[&str] = &["1", "2", "3", "4", "5", "6", "7", "8", "9", "10", "11", "12"];
-/// The most answers of a question.
-const MOST: usize = 12;
+/// The items by number, after none; and how many of them may be filled.
+const NONE_AND_ITEMS: &[&str] = &[
+    "none", "1", "2", "3", "4", "5", "6", "7", "8", "9", "10", "11", "12", "13", "14", "15", "16",
+    "17", "18", "19",
+];
+const ALL_ITEMS: &[&str] = NONE_AND_ITEMS.split_at(1).1;
+const NUMBERS_OF_ITEMS: &[&str] = &[
+    "0", "1", "2", "3", "4", "5", "6", "7", "8", "9", "10", "11", "12", "13", "14", "15", "16",
+    "17", "18", "19",
+];
+/// The most answers of a question, and how many are printed in a line.
+const MOST: usize = 20;
+const IN_LINE: usize = 12;
 
 /// The lists that go by item have them all.
 const _: () = assert!(
@@ -174,10 +207,32 @@ pub enum Question {
     FilledRefused,
     NotOwnerRoom,
     NotOwnerValue,
+    OneSheet,
+    AskedSheet,
+    OnOtherSheet,
+    Camps,
+    Fed,
+    Kept,
+    BadShape,
+    EndInside,
+    Grown,
+    OldLog,
+    Moiety,
+    MoietyCount,
+    MoietyDepth,
+    GroupCount,
+    Hydrogens,
+    HydrogensRight,
+    HydrogenStart,
+    HydrogenCount,
+    HydrogenEdge,
 }
 
 const GRADED: &[(u8, u8)] = &[(0, 0), (2, 0), (3, 0), (4, 0), (2, 1)];
 const OLD_NAME: &[(u8, u8)] = &[(0, 0), (1, 0)];
+const PRESENT: &[(u8, u8)] = &[(0, 0), (2, 1)];
+const COMPARED: &[(u8, u8)] = &[(0, 0), (2, 0), (0, 1)];
+const LEFT_OUT: &[(u8, u8)] = &[(0, 0)];
 
 /// The levels and reasons that each row can have.
 const POSSIBLE: [&[(u8, u8)]; ROWS] = [
@@ -193,33 +248,72 @@ const POSSIBLE: [&[(u8, u8)]; ROWS] = [
     GRADED,
     OLD_NAME,
     &[(0, 0), (2, 0), (3, 0), (4, 0), (2, 1), (2, 2)],
+    PRESENT,
+    PRESENT,
+    PRESENT,
+    PRESENT,
+    PRESENT,
+    PRESENT,
+    PRESENT,
+    COMPARED,
+    COMPARED,
+    COMPARED,
+    COMPARED,
+    COMPARED,
+    &[(0, 0), (3, 0), (0, 1), (2, 2)],
 ];
 
+/// The same under a profile: powder leaves out some rows.
+fn possible(profile: u64) -> [&'static [(u8, u8)]; ROWS] {
+    let mut possible = POSSIBLE;
+    for row in NOT_FOR_POWDER.into_iter().filter(|_| profile == 1) {
+        possible[row - 1] = LEFT_OUT;
+    }
+    possible
+}
+
+/// Each row's levels and reasons counted.
+type Rows = [[u64; MOST]; ROWS];
+
 /// The calls on a desk that is not sound, and how many of the ways to break it each has to refuse.
-pub const CALLS: [(&str, usize); 4] =
-    [("key", WAYS.len()), ("Report", DESK_WAYS), ("Who", DESK_WAYS), ("file", DESK_WAYS)];
+pub const CALLS: [(&str, usize); 6] = [
+    ("key", WAYS.len()),
+    ("Report", DESK_WAYS),
+    ("Who", DESK_WAYS),
+    ("file", DESK_WAYS),
+    ("hydrogens", DESK_WAYS),
+    ("right", DESK_WAYS),
+];
 
 /// One question: its name, and each possible answer with its count.
 type Counted = (String, Vec<(String, u64)>);
 
 pub struct Tally {
     counts: [[u64; MOST]; QUESTIONS.len()],
-    rows: [[u64; MOST]; ROWS],
-    played_rows: [[u64; MOST]; ROWS],
+    /// Under each profile.
+    rows: [Rows; PROFILES as usize],
+    played_rows: [Rows; PROFILES as usize],
+    /// What powder left out, by the other report.
+    left_out: Rows,
     ways: [[u64; WAYS.len()]; CALLS.len()],
     text_faults: [u64; PART_FAULTS.len() + 1],
+    moiety_faults: [u64; MOIETY_FAULTS.len()],
     damages: [u64; DAMAGES.len()],
+    readers: [u64; BROKEN],
 }
 
 impl Default for Tally {
     fn default() -> Self {
         Tally {
             counts: [[0; MOST]; QUESTIONS.len()],
-            rows: [[0; MOST]; ROWS],
-            played_rows: [[0; MOST]; ROWS],
+            rows: [[[0; MOST]; ROWS]; PROFILES as usize],
+            played_rows: [[[0; MOST]; ROWS]; PROFILES as usize],
+            left_out: [[0; MOST]; ROWS],
             ways: [[0; WAYS.len()]; CALLS.len()],
             text_faults: [0; PART_FAULTS.len() + 1],
+            moiety_faults: [0; MOIETY_FAULTS.len()],
             damages: [0; DAMAGES.len()],
+            readers: [0; BROKEN],
         }
     }
 }
@@ -233,14 +327,19 @@ impl Tally {
         }
     }
 
-    /// Counts each row of a sheet.
-    pub fn note_rows(&mut self, rows: &[Row; ROWS]) {
-        note_each(&mut self.rows, rows);
+    /// Counts each row of a sheet under a profile.
+    pub fn note_rows(&mut self, profile: u64, rows: &[Row; ROWS]) {
+        note_each(&mut self.rows[profile as usize], rows);
     }
 
     /// Counts each row of a Report in a sequence.
-    pub fn note_played_rows(&mut self, rows: &[Row; ROWS]) {
-        note_each(&mut self.played_rows, rows);
+    pub fn note_played_rows(&mut self, profile: u64, rows: &[Row; ROWS]) {
+        note_each(&mut self.played_rows[profile as usize], rows);
+    }
+
+    /// Counts what powder left out of such a report.
+    pub fn note_left_out(&mut self, crystal: &[Row; ROWS]) {
+        note_each(&mut self.left_out, crystal);
     }
 
     /// Counts the calls that found a desk broken in one way not sound.
@@ -256,9 +355,19 @@ impl Tally {
         self.text_faults[fault] += 1;
     }
 
+    /// Counts moieties that were not read for this fault.
+    pub fn note_moiety_fault(&mut self, fault: usize) {
+        self.moiety_faults[fault] += 1;
+    }
+
     /// Counts a list that was damaged in this way.
     pub fn note_damage(&mut self, damage: usize) {
         self.damages[damage] += 1;
+    }
+
+    /// Counts a reader that was broken in this way and refused.
+    pub fn note_reader(&mut self, way: usize, refused: bool) {
+        self.readers[way] += u64::from(refused);
     }
 
     /// The possible answers that were never given.
@@ -268,7 +377,7 @@ impl Tally {
 
     /// The levels and reasons of a sheet's rows that were never given.
     pub fn missing_rows(&self) -> Vec<String> {
-        never_given(counted_rows("", &self.rows).collect())
+        never_given(counted_rows("", 0, &self.rows[0]).collect())
     }
 
     pub fn print(&self) {
@@ -276,7 +385,7 @@ impl Tally {
         for (question, row) in self.counted() {
             let row: Vec<String> =
                 row.into_iter().map(|(answer, count)| format!("{answer}: {count}")).collect();
-            let parts: Vec<String> = row.chunks(MOST).map(|part| part.join(", ")).collect();
+            let parts: Vec<String> = row.chunks(IN_LINE).map(|part| part.join(", ")).collect();
             println!("  {question:<13} {}", parts.join(&format!(",\n{:16}", "")));
         }
     }
@@ -293,16 +402,22 @@ impl Tally {
         });
         let faults = PART_FAULTS.iter().map(|(name, _)| *name).chain(["number of parts"]);
         let damages = DAMAGES.iter().map(|(name, _)| *name);
-        let symmetry = [
+        let moieties = MOIETY_FAULTS.iter().map(|(name, _)| *name);
+        let faulty = [
             ("13 for a part", named(faults, &self.text_faults)),
             ("list damaged", named(damages, &self.damages)),
+            ("reader refused", named((0..BROKEN).map(way), &self.readers)),
+            ("not read for", named(moieties, &self.moiety_faults)),
         ];
-        let rows = counted_rows("", &self.rows);
+        let left_out = counted_rows("left out ", 0, &self.left_out).collect::<Vec<_>>();
         questions
-            .chain(rows)
+            .chain(counted_rows("", 0, &self.rows[0]))
+            .chain(counted_rows("powder ", 1, &self.rows[1]))
+            .chain(NOT_FOR_POWDER.map(|row| left_out[row - 1].clone()))
             .chain(ways)
-            .chain(counted_rows("played ", &self.played_rows))
-            .chain(symmetry.map(|(name, counts)| (name.into(), counts)))
+            .chain(counted_rows("played ", 0, &self.played_rows[0]))
+            .chain(counted_rows("played powder ", 1, &self.played_rows[1]))
+            .chain(faulty.map(|(name, counts)| (name.into(), counts)))
             .collect()
     }
 }
@@ -319,7 +434,7 @@ fn never_given(counted: Vec<Counted>) -> Vec<String> {
     counted.into_iter().flat_map(unseen).collect()
 }
 
-fn note_each(counts: &mut [[u64; MOST]; ROWS], rows: &[Row; ROWS]) {
+fn note_each(counts: &mut Rows, rows: &[Row; ROWS]) {
     for ((row, possible), counts) in rows.iter().zip(POSSIBLE).zip(counts) {
         if let Some(at) = possible.iter().position(|&pair| pair == (row.level, row.reason)) {
             counts[at] += 1;
@@ -329,9 +444,10 @@ fn note_each(counts: &mut [[u64; MOST]; ROWS], rows: &[Row; ROWS]) {
 
 fn counted_rows<'a>(
     before: &'a str,
-    counts: &'a [[u64; MOST]; ROWS],
+    profile: u64,
+    counts: &'a Rows,
 ) -> impl Iterator<Item = Counted> + 'a {
-    let rows = (1..).zip(NAMES).zip(POSSIBLE).zip(counts);
+    let rows = (1..).zip(NAMES).zip(possible(profile)).zip(counts);
     rows.map(move |(((number, name), possible), counts)| {
         let pairs = possible.iter().map(|(level, reason)| format!("{level}/{reason}"));
         (format!("{before}{number:02} {name}"), pairs.zip(*counts).collect())

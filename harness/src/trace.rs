@@ -4,11 +4,12 @@ mod commands;
 
 pub use commands::commands;
 
-use crate::boundary::Memory;
+use crate::boundary::{Memory, Proposed, Stick};
 use crate::compare::hex;
 use crate::desks::State;
 use crate::memory::held;
 use crate::program::{Answer, Call, Program};
+use reference::desk::{Item, Sheet, SHEETS};
 use std::fmt::Write as _;
 use std::io::{BufRead, BufReader, Read, Result as IoResult, Write};
 
@@ -18,13 +19,26 @@ const MOST_ROOM: u64 = 1 << 24;
 /// How much input is taken at once.
 const BUFFER: usize = 1 << 20;
 
+/// The desk at which keys are pressed with its log, and the reader of another log with its desk.
+struct Traced {
+    desk: Memory,
+    read: Memory,
+    stick: Stick,
+}
+
+impl Traced {
+    fn fresh() -> Self {
+        Traced { desk: Memory::zeros(&[]), read: Memory::zeros(&[]), stick: Stick::zeros() }
+    }
+}
+
 /// Answers every command of the input by a program. The answers are handed on whenever the input
 /// pauses: when no further whole line has come with the last one.
 pub fn run(program: &dyn Program, input: impl Read, mut output: impl Write) -> IoResult<()> {
     let mut input = BufReader::with_capacity(BUFFER, input);
-    let (mut command, mut memory) = (vec![], Memory::zeros(&[]));
+    let (mut command, mut traced) = (vec![], Traced::fresh());
     while input.read_until(b'\n', &mut command)? > 0 {
-        let reply = answer(program, &mut memory, &String::from_utf8_lossy(&command));
+        let reply = answer(program, &mut traced, &String::from_utf8_lossy(&command));
         writeln!(output, "{}", reply.unwrap_or_else(|fault| format!("error: {fault}")))?;
         command.clear();
         if !input.buffer().contains(&b'\n') {
@@ -34,9 +48,9 @@ pub fn run(program: &dyn Program, input: impl Read, mut output: impl Write) -> I
     output.flush()
 }
 
-/// The reply to one command; `none` for one that is not there. A sheet and a profile are given and
-/// ignored.
-fn answer(program: &dyn Program, memory: &mut Memory, command: &str) -> Result<String, String> {
+/// The reply to one command; `none` for one that is not there.
+fn answer(program: &dyn Program, traced: &mut Traced, command: &str) -> Result<String, String> {
+    let Traced { desk: memory, read, stick } = traced;
     let words: Vec<&str> = command.split_ascii_whitespace().collect();
     let [command, ref arguments @ ..] = words[..] else {
         return Ok("none".into());
@@ -62,9 +76,34 @@ fn answer(program: &dyn Program, memory: &mut Memory, command: &str) -> Result<S
         }
         "cif" => {
             let [sheet, block, room] = named(arguments, ["SHEET", "NAMEHEX", "ROOM"])?;
-            number(1, sheet)?;
+            let sheet = number(1, sheet)?;
             let (block, room) = (bytes(2, block)?, up_to(3, room, MOST_ROOM)? as usize);
-            return Ok(file(program, memory, &block, room));
+            return Ok(file(program, memory, sheet, &block, room));
+        }
+        "stick" => {
+            let [] = named(arguments, [])?;
+            (*read, *stick) = (Memory::zeros(&[]), Stick::zeros());
+            return Ok("ok".into());
+        }
+        "feed" => {
+            let [last, part] = named(arguments, ["LAST", "HEX"])?;
+            let last = up_to(1, last, u8::MAX.into())? as u8;
+            let fed = program.feed(read, stick, &bytes(2, part)?, last);
+            return Ok(format!("{} {}", fed.answer, fed.place));
+        }
+        "stickdump" => {
+            let [] = named(arguments, [])?;
+            let (desk, _) = held(read).expect("the memory is a desk's");
+            return Ok(dumped(&desk.sheets));
+        }
+        "hyd" => {
+            let [sheet] = named(arguments, ["SHEET"])?;
+            return Ok(proposed(&program.hydrogens(memory, number(1, sheet)?)));
+        }
+        "hydcheck" => {
+            let [sheet, count] = named(arguments, ["SHEET", "COUNT"])?;
+            let (sheet, count) = (number(1, sheet)?, number(2, count)?);
+            return Ok(proposed(&program.hydrogens_right(memory, sheet, count)));
         }
         "symop" => {
             let [text] = named(arguments, ["HEX"])?;
@@ -84,14 +123,12 @@ fn answer(program: &dyn Program, memory: &mut Memory, command: &str) -> Result<S
         }
         "report" => {
             let [sheet, profile] = named(arguments, ["SHEET", "PROFILE"])?;
-            number(1, sheet)?;
-            number(2, profile)?;
-            Call::Report
+            let sheet = number(1, sheet)?;
+            Call::Report { sheet, profile: number(2, profile)? }
         }
         "who" => {
             let [sheet, item] = named(arguments, ["SHEET", "ITEM"])?;
-            number(1, sheet)?;
-            Call::Who { item: number(2, item)? }
+            Call::Who { sheet: number(1, sheet)?, item: number(2, item)? }
         }
         _ => return Ok("none".into()),
     };
@@ -112,12 +149,17 @@ fn fresh(
     }
 }
 
-/// The answer to the sheet as a CIF file with this block name, on so many lent bytes.
-fn file(program: &dyn Program, memory: &Memory, block: &[u8], room: usize) -> String {
+/// The answer to a sheet as a CIF file with this block name, on so many lent bytes.
+fn file(program: &dyn Program, memory: &Memory, sheet: u64, block: &[u8], room: usize) -> String {
     let mut out = vec![0; room];
-    let filed = program.file(memory, block, &mut out);
+    let filed = program.file(memory, sheet, block, &mut out);
     out.truncate(filed.count);
     format!("{} {} {}", filed.answer, filed.count, hex(&out))
+}
+
+/// A proposed count as it is printed.
+fn proposed(told: &Proposed) -> String {
+    format!("{} {}", told.answer, told.count)
 }
 
 /// An answer as it is printed.
@@ -134,23 +176,35 @@ fn told(answer: &Answer) -> String {
     }
 }
 
-/// The whole state. A length beyond the limit shows the bytes that there are.
+/// The whole state.
 fn dump(memory: &Memory) -> String {
-    let shown = |bytes: &[u8], len: u64| {
-        let len = usize::try_from(len).unwrap_or(usize::MAX).min(bytes.len());
-        digits(&bytes[..len])
-    };
     let (desk, used) = held(memory).expect("the memory is a desk's");
     let lines = desk.lines.each_ref().map(|line| shown(&line.bytes, line.len)).join(",");
-    let filled = (1..).zip(&desk.items).filter(|(_, item)| item.len > 0);
-    let items: Vec<String> = filled
-        .map(|(number, item)| {
-            let (bench, entry, times) = (item.bench, item.entry, item.times);
-            format!("0:{number}:{bench}:{entry}:{times}:{}", shown(&item.value, item.len))
+    let (sheets, log) = (dumped(&desk.sheets), digits(&memory.log));
+    format!("lines={lines} {sheets} used={used} log={log}")
+}
+
+/// The counts and the filled items of both sheets.
+fn dumped(sheets: &[Sheet; SHEETS]) -> String {
+    let counts = sheets.each_ref().map(|sheet| sheet.count.to_string()).join(",");
+    let item = |at: usize, number: usize, item: &Item| {
+        let (bench, entry, times) = (item.bench, item.entry, item.times);
+        format!("{at}:{number}:{bench}:{entry}:{times}:{}", shown(&item.value, item.len))
+    };
+    let items: Vec<String> = (0..)
+        .zip(sheets)
+        .flat_map(|(at, sheet)| {
+            let filled = (1..).zip(&sheet.items).filter(|(_, item)| item.len > 0);
+            filled.map(move |(number, held)| item(at, number, held))
         })
         .collect();
-    let (count, items, log) = (desk.count, items.join(";"), digits(&memory.log));
-    format!("lines={lines} counts={count} items={items} used={used} log={log}")
+    format!("counts={counts} items={}", items.join(";"))
+}
+
+/// A text of so many bytes. A length beyond the limit shows the bytes that there are.
+fn shown(bytes: &[u8], len: u64) -> String {
+    let len = usize::try_from(len).unwrap_or(usize::MAX).min(bytes.len());
+    digits(&bytes[..len])
 }
 
 /// Bytes in hexadecimal; an empty run is nothing.

@@ -1,6 +1,7 @@
-//! The sheet as a CIF file: document 02, request No. 1. Quoted sentences are that request's.
+//! A sheet as a CIF file: document 02, request No. 1; and No. 9, "the questions and the file writer name
+//! a sheet". Quoted sentences are those requests'.
 
-use crate::desk::{is_sound, Desk, Item, NOT_SOUND};
+use crate::desk::{asked, Desk, Item, Sheet};
 use crate::line::ACCEPTED;
 use crate::names::ITEMS;
 use std::ops::RangeInclusive;
@@ -16,14 +17,15 @@ pub const LINE_END: u8 = 10;
 
 /// Writes the file to the first of the lent bytes: the answer, and "how many bytes it wrote";
 /// "touches none after them; with a refusal, 0 and none at all".
-pub fn write_file(desk: &Desk, block: &[u8], lent: &mut [u8]) -> (u8, u64) {
-    if !is_sound(desk) {
-        return (NOT_SOUND, 0);
-    }
+pub fn write_file(desk: &Desk, sheet: u64, block: &[u8], lent: &mut [u8]) -> (u8, u64) {
+    let sheet = match asked(desk, sheet) {
+        Ok(sheet) => sheet,
+        Err(answer) => return (answer, 0),
+    };
     if !is_block_name(block) {
         return (BAD_BLOCK_NAME, 0);
     }
-    let file = file(desk, block);
+    let file = file(sheet, block);
     let Some(written) = lent.get_mut(..file.len()) else {
         return (NO_ROOM, 0);
     };
@@ -38,10 +40,10 @@ pub fn is_block_name(block: &[u8]) -> bool {
 }
 
 /// "a line `data_` with a block name .., then each filled item in item order: its name as in
-/// document 01, one space, the value as typed". The desk is sound.
-pub fn file(desk: &Desk, block: &[u8]) -> Vec<u8> {
+/// document 01, one space, the value as typed". The sheet is one of a sound desk.
+pub fn file(sheet: &Sheet, block: &[u8]) -> Vec<u8> {
     let mut file = [b"data_", block, &[LINE_END]].concat();
-    for ((name, _), Item { value, len, .. }) in ITEMS.iter().zip(&desk.items) {
+    for ((name, _), Item { value, len, .. }) in ITEMS.iter().zip(&sheet.items) {
         if *len > 0 {
             file.extend([name.as_bytes(), b" ", &value[..*len as usize], &[LINE_END]].concat());
         }
@@ -52,12 +54,17 @@ pub fn file(desk: &Desk, block: &[u8]) -> Vec<u8> {
 #[cfg(test)]
 mod tests {
     use super::*;
-    use crate::desk::{key, FRESH};
+    use crate::desk::{key, FRESH, NOT_SOUND, NO_SUCH_SHEET};
 
-    /// A desk on which benches 0 to 2 in turn typed these lines, each accepted.
+    /// A desk on which the benches of sheet 0 in turn typed these lines, each accepted.
     fn typed(lines: &[&str]) -> Desk {
+        typed_at(0, lines)
+    }
+
+    /// The same of another sheet.
+    fn typed_at(sheet: u64, lines: &[&str]) -> Desk {
         let (mut desk, mut log, mut used) = (FRESH, [0; 4096], 0);
-        for (line, bench) in lines.iter().zip([0, 1, 2].into_iter().cycle()) {
+        for (line, bench) in lines.iter().zip([2 * sheet, 2 * sheet + 1].into_iter().cycle()) {
             for byte in line.bytes().chain([10]) {
                 assert_eq!(key(&mut desk, &mut log, &mut used, bench, byte), ACCEPTED, "{line}");
             }
@@ -68,7 +75,7 @@ mod tests {
     /// Answer, count and the whole lent bytes afterwards, each of which was 0xa5.
     fn written(desk: &Desk, block: &[u8], room: usize) -> (u8, u64, Vec<u8>) {
         let mut lent = vec![0xa5; room];
-        let (answer, count) = write_file(desk, block, &mut lent);
+        let (answer, count) = write_file(desk, 0, block, &mut lent);
         (answer, count, lent)
     }
 
@@ -83,14 +90,17 @@ _refine_ls_shift/su_max ?
 _reflns_threshold_expression \"I > 2\\s(I)\"
 ";
 
+    const LINES: [&str; 6] = [
+        "_REFLNS_threshold_expression   \"I > 2\\s(I)\"",
+        "_refine_ls_r_factor_gt 0.3",
+        "_refine_ls_shift/su_max    ?",
+        "_REFINE_LS_R_FACTOR_GT  0.2",
+        "_chemical_FORMULA_sum 'C10 H20'",
+        "_REFINE_LS_R_FACTOR_GT  0.16",
+    ];
+
     fn sample() -> Desk {
-        typed(&[
-            "_REFLNS_threshold_expression   \"I > 2\\s(I)\"",
-            "_refine_ls_r_factor_gt 0.3",
-            "_refine_ls_shift/su_max    ?",
-            "_chemical_FORMULA_sum 'C10 H20'",
-            "_REFINE_LS_R_FACTOR_GT  0.16",
-        ])
+        typed(&LINES)
     }
 
     #[test]
@@ -144,19 +154,45 @@ _reflns_threshold_expression \"I > 2\\s(I)\"
     #[test]
     fn the_first_refusal_that_applies() {
         let mut unsound = sample();
-        unsound.items[9].bench = 4;
+        unsound.sheets[0].items[9].bench = 4;
         for (name, room) in [("x", 999), ("x", 0), ("_", 999), ("_", 0)] {
             assert_eq!(written(&unsound, name.as_bytes(), room), untouched(NOT_SOUND, room));
         }
         for room in [0, 6, 999] {
             assert_eq!(written(&sample(), b"_", room), untouched(BAD_BLOCK_NAME, room));
         }
+        for sheet in [2, 256, 1 << 32, u64::MAX] {
+            for desk in [&unsound, &sample()] {
+                for name in ["x", "_"] {
+                    let mut lent = [0xa5; 999];
+                    let refused = write_file(desk, sheet, name.as_bytes(), &mut lent);
+                    assert_eq!((refused, lent), ((NO_SUCH_SHEET, 0), [0xa5; 999]));
+                }
+            }
+        }
+    }
+
+    #[test]
+    fn each_sheet_has_a_file_of_its_own() {
+        for sheet in [0, 1] {
+            let desk = typed_at(sheet, &LINES);
+            let mut lent = [0; FILE.len()];
+            assert_eq!(
+                write_file(&desk, sheet, b"camp-1", &mut lent),
+                (ACCEPTED, FILE.len() as u64)
+            );
+            assert_eq!(lent, FILE.as_bytes());
+            assert_eq!(write_file(&desk, 1 - sheet, b"camp-1", &mut lent), (ACCEPTED, 12));
+            assert_eq!(&lent[..12], b"data_camp-1\n");
+        }
     }
 
     #[test]
     fn soundness_is_tested_as_for_questions() {
         // Six times the count is more than any log's used number; no question looks at that.
-        let desk = Desk { count: u64::MAX, ..sample() };
+        let mut desk = sample();
+        desk.sheets[0].count = u64::MAX;
+        desk.sheets[1].count = u64::MAX;
         assert_eq!(written(&desk, b"camp-1", FILE.len()).2, FILE.as_bytes());
     }
 
@@ -164,8 +200,8 @@ _reflns_threshold_expression \"I > 2\\s(I)\"
     fn the_item_lines_typed_again() {
         let lines: Vec<&str> = FILE.lines().skip(1).collect();
         let again = typed(&lines);
-        assert_eq!(again.count, lines.len() as u64);
-        for (item, before) in again.items.iter().zip(sample().items) {
+        assert_eq!(again.sheets[0].count, lines.len() as u64);
+        for (item, before) in again.sheets[0].items.iter().zip(sample().sheets[0].items) {
             assert_eq!((item.value, item.len), (before.value, before.len));
         }
     }

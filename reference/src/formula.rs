@@ -1,5 +1,7 @@
 //! Formulas: document 01, "The twelve rows", its terms, symbols and weights.
 
+use std::collections::BTreeMap;
+
 /// "a count 1 to 9999 without leading zero": so many digits.
 pub const COUNT_DIGITS: usize = 4;
 
@@ -57,6 +59,9 @@ pub struct Term<'a> {
     pub count: i128,
 }
 
+/// Each element's total, by symbol.
+pub type Totals<'a> = BTreeMap<&'a [u8], u64>;
+
 /// What a formula's elements make it.
 #[derive(Clone, Copy, Debug, PartialEq, Eq)]
 pub enum Class {
@@ -98,7 +103,21 @@ pub fn symbols(text: &[u8]) -> impl Iterator<Item = &[u8]> {
 
 /// No term is "ill formed or not recognised".
 pub fn all_recognised(text: &[u8]) -> bool {
-    terms(text).all(|term| term.is_some_and(|term| is_among(&SYMBOLS, term.symbol)))
+    terms(text).all(|term| term.is_some_and(|term| is_recognised(term.symbol)))
+}
+
+/// "Recognised symbols are the 118 of the IUPAC periodic table."
+pub fn is_recognised(symbol: &[u8]) -> bool {
+    is_among(&SYMBOLS, symbol)
+}
+
+/// Each element's total over the well-formed terms.
+pub fn totals(text: &[u8]) -> Totals<'_> {
+    let mut totals = Totals::new();
+    for Term { symbol, count } in terms(text).flatten() {
+        *totals.entry(symbol).or_default() += count as u64;
+    }
+    totals
 }
 
 /// "C first, then H, then the others in rising ASCII order, none twice" with C among the symbols;

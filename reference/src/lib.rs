@@ -1,9 +1,9 @@
 //! The rules of documents 01 and 02, written from their text alone and not proved: the readers of a
-//! line, the twelve rows, the whole desk, sequences of calls, the sheet as a CIF file, and symmetry
-//! operators with their lists.
+//! line, the rows, the whole desk, sequences of calls, the sheet as a CIF file, the reader of a
+//! log, and symmetry operators with their lists.
 //! The comparison holds the proved library to this program.
 //!
-//! Every function but the key call, the writer of files, and what is built on them, is pure. Quoted
+//! Every function but the key call, the writer of files, the reader, and what is built on them, is pure. Quoted
 //! sentences are document 01's, where a module does not say otherwise.
 
 pub mod cif_file;
@@ -11,11 +11,15 @@ pub mod desk;
 pub mod formula;
 pub mod grade;
 pub mod group;
+pub mod hydrogen;
 pub mod line;
+pub mod moiety;
 pub mod names;
 pub mod number;
 pub mod operator;
+pub mod powder;
 pub mod program;
+pub mod reader;
 pub mod rows;
 pub mod sequence;
 pub mod value;

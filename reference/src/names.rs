@@ -1,4 +1,5 @@
-//! The ten items: document 01, the table under "What the desk holds".
+//! The items: document 01, the table under "What the desk holds", and document 02, requests No. 11
+//! and 12.
 
 use crate::number::number;
 use crate::value::{form, text, Form};
@@ -11,8 +12,8 @@ pub enum Kind {
     Category,
 }
 
-/// Name and kind of items 1 to 10 in turn.
-pub const ITEMS: [(&str, Kind); 10] = [
+/// Name and kind of each item in turn; 11 to 18 are those of No. 11, 19 is that of No. 12.
+pub const ITEMS: [(&str, Kind); 19] = [
     ("_chemical_formula_sum", Kind::Text),
     ("_chemical_formula_weight", Kind::Number),
     ("_publ_requested_category", Kind::Category),
@@ -23,12 +24,21 @@ pub const ITEMS: [(&str, Kind); 10] = [
     ("_refine_ls_shift/su_max", Kind::Number),
     ("_refine_ls_shift/esd_max", Kind::Number),
     ("_reflns_threshold_expression", Kind::Text),
+    ("_diffrn_reflns_number", Kind::Number),
+    ("_reflns_number_total", Kind::Number),
+    ("_reflns_number_gt", Kind::Number),
+    ("_diffrn_reflns_av_R_equivalents", Kind::Number),
+    ("_exptl_crystal_size_max", Kind::Number),
+    ("_exptl_crystal_size_mid", Kind::Number),
+    ("_exptl_crystal_size_min", Kind::Number),
+    ("_diffrn_radiation_wavelength", Kind::Number),
+    ("_chemical_formula_moiety", Kind::Text),
 ];
 
 /// "A category is FI, CI, FM, CM, FO or CO, bare or quoted, capitals only."
 pub const CATEGORIES: [&str; 6] = ["FI", "CI", "FM", "CM", "FO", "CO"];
 
-/// The item's number, 1 to 10. "Names are compared without regard to the case of A to Z."
+/// The item's number, from 1 on. "Names are compared without regard to the case of A to Z."
 pub fn item(name: &[u8]) -> Option<usize> {
     let same = |(known, _): &(&str, Kind)| known.as_bytes().eq_ignore_ascii_case(name);
     ITEMS.iter().position(same).map(|place| place + 1)

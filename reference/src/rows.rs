@@ -1,13 +1,17 @@
-//! The twelve rows of a sheet: document 01, "The twelve rows".
+//! The rows of a sheet: document 01, "The twelve rows", and the last one by document 02, request
+//! No. 12; those between are `powder`'s.
 
-use crate::formula::{all_recognised, class, in_order, sum, Class};
+use crate::formula::{all_recognised, class, in_order, sum, totals, Class};
 use crate::grade::{grade, LEVELS};
+use crate::moiety;
 use crate::names::ITEMS;
 use crate::number::number;
+use crate::powder::{self, Profile};
 use crate::value::{form, text, Form};
 
-/// How many rows a report has.
-pub const ROWS: usize = 12;
+/// How many rows a report has, and how many of them document 01 has.
+pub const ROWS: usize = 25;
+pub const FIRST_TWELVE: usize = 12;
 
 /// The rows' names in turn.
 pub const NAMES: [&str; ROWS] = [
@@ -23,6 +27,19 @@ pub const NAMES: [&str; ROWS] = [
     "SHFSU_01",
     "SHFSU_01g",
     "REFLE_01",
+    "R13",
+    "R14",
+    "R15",
+    "R16",
+    "R17",
+    "R18",
+    "R19",
+    "R20",
+    "R21",
+    "R22",
+    "R23",
+    "R24",
+    "R25",
 ];
 
 /// "Level 0 none, 1 General, 2 C, 3 B, 4 A."
@@ -44,7 +61,7 @@ pub struct Row {
     pub reason: u8,
 }
 
-/// The values of items 1 to 10 in turn, as typed; an empty item is an empty run. Filled ones have
+/// The values of all items in turn, as typed; an empty item is an empty run. Filled ones have
 /// the form of a value and pass their item's kind.
 pub type Values<'a> = [&'a [u8]; ITEMS.len()];
 
@@ -56,8 +73,17 @@ pub const DIFFERENCE_BOUND: i128 = 1_000_000;
 pub const THRESHOLDS: [(&str, [i64; 3]); 3] =
     [("I", [6, 5, 4]), ("F^2^", [6, 5, 4]), ("F", [12, 10, 8])];
 
-/// All twelve rows.
-pub fn rows(values: &Values) -> [Row; ROWS] {
+/// All rows, under a profile.
+pub fn rows(values: &Values, profile: Profile) -> [Row; ROWS] {
+    let mut rows = [Row::default(); ROWS];
+    rows[..FIRST_TWELVE].copy_from_slice(&first_twelve(values));
+    rows[FIRST_TWELVE..ROWS - 1].copy_from_slice(&powder::rows(values, profile));
+    rows[ROWS - 1] = moieties(assigned(values, 1).map(text), assigned(values, 19).map(text));
+    rows
+}
+
+/// Rows 1 to 12.
+fn first_twelve(values: &Values) -> [Row; FIRST_TWELVE] {
     let formula = assigned(values, 1).map(text);
     let weight = assigned(values, 2).and_then(number).map(i128::from);
     let category = assigned(values, 3).map(text);
@@ -78,16 +104,16 @@ pub fn rows(values: &Values) -> [Row; ROWS] {
 }
 
 /// "'Missing' is empty or unassigned."
-fn assigned<'a>(values: &Values<'a>, item: usize) -> Option<&'a [u8]> {
+pub fn assigned<'a>(values: &Values<'a>, item: usize) -> Option<&'a [u8]> {
     let value = values[item - 1];
     (!value.is_empty() && form(value) != Some(Form::Unassigned)).then_some(value)
 }
 
-fn judged(level: u8) -> Row {
+pub fn judged(level: u8) -> Row {
     Row { level, reason: JUDGED }
 }
 
-fn missing(level: u8) -> Row {
+pub fn missing(level: u8) -> Row {
     Row { level, reason: MISSING }
 }
 
@@ -96,7 +122,7 @@ fn not_judgeable(level: u8) -> Row {
 }
 
 /// Row 1.
-fn symbols(formula: Option<&[u8]>) -> Row {
+pub fn symbols(formula: Option<&[u8]>) -> Row {
     match formula {
         None => missing(C),
         Some(formula) => judged(if all_recognised(formula) { NONE } else { A }),
@@ -104,7 +130,7 @@ fn symbols(formula: Option<&[u8]>) -> Row {
 }
 
 /// Row 2.
-fn order(formula: Option<&[u8]>) -> Row {
+pub fn order(formula: Option<&[u8]>) -> Row {
     match formula {
         None => missing(C),
         Some(formula) => judged(if in_order(formula) { NONE } else { B }),
@@ -130,7 +156,7 @@ fn category_fits(formula: Option<&[u8]>, category: Option<&[u8]>) -> Row {
 
 /// Row 4: RW against a bound is the weight in millionths against the bound times the sum in
 /// thousandths, both sides multiplied until they are whole.
-fn ratio(formula: Option<&[u8]>, weight: Option<i128>) -> Row {
+pub fn ratio(formula: Option<&[u8]>, weight: Option<i128>) -> Row {
     let (Some(formula), Some(weight)) = (formula, weight) else {
         return missing(C);
     };
@@ -180,6 +206,19 @@ fn threshold(expression: Option<&[u8]>) -> Row {
     judged(bounds.into_iter().zip(LEVELS).find(reached).map_or(NONE, |(_, level)| level))
 }
 
+/// Row 25: "B when some element's total differs from the one in item 1, C with reason 2 when either
+/// can't be read (for item 1: row 1 at A), and, tested first, level 0 with reason 1 when either is
+/// missing".
+fn moieties(formula: Option<&[u8]>, moieties: Option<&[u8]>) -> Row {
+    let (Some(formula), Some(moieties)) = (formula, moieties) else {
+        return missing(NONE);
+    };
+    let Some(moieties) = moiety::read(moieties).filter(|_| all_recognised(formula)) else {
+        return not_judgeable(C);
+    };
+    judged(if moiety::totals(&moieties) == totals(formula) { NONE } else { B })
+}
+
 /// x in millionths, and the bounds of what stands before it: "`I > x\s(I)`, `F^2^ > x\s(F^2^)` or
 /// `F > x\s(F)`, x a number without sign or uncertainty".
 fn read_threshold(expression: &[u8]) -> Option<(i64, [i64; 3])> {
@@ -196,8 +235,16 @@ fn read_threshold(expression: &[u8]) -> Option<(i64, [i64; 3])> {
 mod tests {
     use super::*;
 
+    /// Rows 1 to 12, which are the same under both profiles.
+    fn rows(values: &Values) -> [Row; FIRST_TWELVE] {
+        let [crystal, powder] =
+            [Profile::SingleCrystal, Profile::Powder].map(|profile| super::rows(values, profile));
+        assert_eq!(crystal[..FIRST_TWELVE], powder[..FIRST_TWELVE]);
+        std::array::from_fn(|place| crystal[place])
+    }
+
     /// The rows of a sheet whose items with a number are filled.
-    fn sheet(filled: &[(usize, &str)]) -> [Row; ROWS] {
+    fn sheet(filled: &[(usize, &str)]) -> [Row; FIRST_TWELVE] {
         let mut values: Values = [b""; ITEMS.len()];
         for (item, value) in filled {
             values[item - 1] = value.as_bytes();
@@ -425,6 +472,41 @@ mod tests {
         assert_eq!(row(4, &[(1, "H"), (2, "-1.008")]), (A, JUDGED));
         assert_eq!(row(5, &[(1, "H"), (2, "-1.008"), (3, "FO")]), (C, JUDGED));
         assert_eq!(row(4, &[(1, "H"), (2, "0")]), (A, JUDGED));
+    }
+
+    #[test]
+    fn moieties_against_the_formula() {
+        let last = |formula: &str, moieties: &str| {
+            let mut values: Values = [b""; ITEMS.len()];
+            (values[0], values[18]) = (formula.as_bytes(), moieties.as_bytes());
+            let [crystal, powder] = [Profile::SingleCrystal, Profile::Powder]
+                .map(|profile| super::rows(&values, profile)[ROWS - 1]);
+            assert_eq!(crystal, powder);
+            (crystal.level, crystal.reason)
+        };
+        for (formula, moieties, expected) in [
+            ("'C10 H22 O'", "'C10 H20, H2 O'", (NONE, JUDGED)),
+            ("'C10 H20'", "'C10 H20, H2 O'", (B, JUDGED)),
+            ("'C10 H22 O2'", "'C10 H20, H2 O'", (B, JUDGED)),
+            ("'C10 H22 N O'", "'C10 H20, H2 O'", (B, JUDGED)),
+            ("'H2 O'", "'O H2'", (NONE, JUDGED)),
+            ("'H3'", "'H O2'", (B, JUDGED)),
+            ("'H4 O2'", "\"(H2 O)2\"", (NONE, JUDGED)),
+            ("'C H H'", "'C H2'", (NONE, JUDGED)),
+            ("C", "C", (NONE, JUDGED)),
+            ("'H2 O'", "'2(H2 O)'", (C, NOT_JUDGEABLE)),
+            ("'C10H20'", "'C10 H20'", (C, NOT_JUDGEABLE)),
+            ("'C Xx'", "C(", (C, NOT_JUDGEABLE)),
+            ("C", "''", (C, NOT_JUDGEABLE)),
+            ("C", "'?'", (C, NOT_JUDGEABLE)),
+            ("C", "?", (NONE, MISSING)),
+            (".", "C", (NONE, MISSING)),
+            ("Xx", ".", (NONE, MISSING)),
+            ("", "'C('", (NONE, MISSING)),
+            ("", "", (NONE, MISSING)),
+        ] {
+            assert_eq!(last(formula, moieties), expected, "{formula} {moieties}");
+        }
     }
 
     #[test]

@@ -3,12 +3,13 @@
 use crate::desk::ENTER;
 use std::collections::HashMap;
 
-/// "key calls, with any bench number and byte, and Report and Who, whatever they are given"
+/// "key calls, with any bench number and byte, and Report and Who, whatever they are given"; No. 9: "the
+/// questions and the file writer name a sheet"
 #[derive(Clone, Copy, Debug, PartialEq, Eq)]
 pub enum Call {
     Key { bench: u64, byte: u8 },
-    Report,
-    Who { item: u64 },
+    Report { sheet: u64, profile: u64 },
+    Who { sheet: u64, item: u64 },
 }
 
 /// The places of the calls in gathered order: each bench's keys other than Enter directly before
@@ -25,7 +26,7 @@ pub fn gathered(calls: &[Call]) -> Vec<usize> {
                 place
             }
             Call::Key { bench, .. } => next_enter.get(bench).copied().unwrap_or(calls.len()),
-            Call::Report | Call::Who { .. } => place,
+            Call::Report { .. } | Call::Who { .. } => place,
         };
     }
     let mut order: Vec<usize> = (0..calls.len()).collect();
@@ -71,12 +72,19 @@ mod tests {
             Call::Key { bench, byte } => {
                 Answer::Key { answer: desk::key(desk, log, used, bench, byte) }
             }
-            Call::Report => {
-                let (answer, rows) = report(desk);
+            Call::Report { sheet, profile } => {
+                let (answer, rows) = report(desk, sheet, profile);
                 Answer::Report { answer, rows }
             }
-            Call::Who { item } => Answer::Who(who(desk, item)),
+            Call::Who { sheet, item } => Answer::Who(who(desk, sheet, item)),
         }
+    }
+
+    /// Questions about sheet 0.
+    const REPORT: Call = Call::Report { sheet: 0, profile: 0 };
+
+    fn who_typed(item: u64) -> Call {
+        Call::Who { sheet: 0, item }
     }
 
     fn key(bench: u64, byte: u8) -> Call {
@@ -104,7 +112,7 @@ mod tests {
                     order.push(call);
                 }
                 Call::Key { .. } => waiting.push(call),
-                Call::Report | Call::Who { .. } => order.push(call),
+                Call::Report { .. } | Call::Who { .. } => order.push(call),
             }
         }
         order.extend(waiting);
@@ -124,15 +132,15 @@ mod tests {
     #[test]
     fn keys_without_an_enter_go_to_the_end() {
         let (a, b, c) = (key(0, b'a'), key(1, b'b'), key(0, ERASE));
-        assert_eq!(in_order(&[a, b, c, Call::Report]), [Call::Report, a, b, c]);
+        assert_eq!(in_order(&[a, b, c, REPORT]), [REPORT, a, b, c]);
         assert_eq!(in_order(&[b, key(0, ENTER), a, c]), [key(0, ENTER), b, a, c]);
     }
 
     #[test]
     fn questions_and_enters_keep_their_order() {
-        let (a, who) = (key(3, b'a'), Call::Who { item: 4 });
-        let calls = [a, Call::Report, key(2, ENTER), who, a, key(3, ENTER), Call::Report];
-        let expected = [Call::Report, key(2, ENTER), who, a, a, key(3, ENTER), Call::Report];
+        let (a, who) = (key(3, b'a'), Call::Who { sheet: 1, item: 4 });
+        let calls = [a, REPORT, key(2, ENTER), who, a, key(3, ENTER), REPORT];
+        let expected = [REPORT, key(2, ENTER), who, a, a, key(3, ENTER), REPORT];
         assert_eq!(in_order(&calls), expected);
     }
 
@@ -140,8 +148,8 @@ mod tests {
     fn bench_numbers_that_are_none() {
         let far = u64::MAX;
         let (x, enter) = (key(far, b'x'), key(far, ENTER));
-        assert_eq!(in_order(&[x, Call::Report, key(7, ENTER), enter]), {
-            [Call::Report, key(7, ENTER), x, enter]
+        assert_eq!(in_order(&[x, REPORT, key(7, ENTER), enter]), {
+            [REPORT, key(7, ENTER), x, enter]
         });
         assert_eq!(in_order(&[key(4, 0), key(0, ENTER)]), [key(0, ENTER), key(4, 0)]);
     }
@@ -156,8 +164,8 @@ mod tests {
             key(1, ENTER),
             key(9, b'c'),
             key(9, ENTER),
-            Call::Report,
-            Call::Who { item: 4 },
+            REPORT,
+            who_typed(4),
         ];
         (0..=5).flat_map(move |length| {
             (0..from.len().pow(length)).map(move |number| {
@@ -203,19 +211,22 @@ mod tests {
         let one = keys(0, "_refine_ls_R_factor_gt 0.16\n");
         let other = keys(1, "_refine_ls_wR_factor_obs 0.2\n");
         let mut calls: Vec<Call> = one.iter().zip(&other).flat_map(|(a, b)| [*a, *b]).collect();
-        calls.push(Call::Who { item: 7 });
+        calls.push(who_typed(7));
         calls.extend(&other[one.len()..]);
-        calls.extend([4, 7, 1, 0].map(|item| Call::Who { item }));
-        calls.extend([key(5, ENTER), Call::Report]);
+        calls.extend([4, 7, 1, 0].map(who_typed));
+        calls.extend([Call::Who { sheet: 1, item: 4 }, Call::Who { sheet: 2, item: 4 }]);
+        calls.extend([key(5, ENTER), REPORT]);
         let log = [0x5a; 30];
         let played = same_when_gathered(&calls, &log);
         let by = |bench, entry| Answer::Who(Told { answer: ACCEPTED, bench, entry, times: 1 });
         let nobody = |answer| Answer::Who(Told::nobody(answer));
         let asked: Vec<Answer> =
             played.answers.iter().copied().filter(|got| matches!(got, Answer::Who(_))).collect();
-        assert_eq!(asked, [nobody(0), by(0, 1), by(1, 2), nobody(0), nobody(6)]);
+        let of_others = [nobody(0), nobody(12)];
+        assert_eq!(asked[..5], [nobody(0), by(0, 1), by(1, 2), nobody(0), nobody(6)]);
+        assert_eq!(asked[5..], of_others);
         let end = &played.answers[played.answers.len() - 2..];
-        let rows = report(&played.desk).1;
+        let rows = report(&played.desk, 0, 0).1;
         assert_eq!(end, [Answer::Key { answer: 1 }, Answer::Report { answer: ACCEPTED, rows }]);
         let mut written = log;
         play(&calls, &mut written);
@@ -226,7 +237,7 @@ mod tests {
 
     #[test]
     fn a_log_too_long_refuses_keys_and_no_question() {
-        let calls = [key(0, b'a'), key(4, b'a'), Call::Report, Call::Who { item: 1 }];
+        let calls = [key(0, b'a'), key(4, b'a'), REPORT, who_typed(1)];
         let Played { answers, desk, used } =
             same_when_gathered(&calls, &vec![1; crate::desk::LOG_LIMIT + 1]);
         assert_eq!((desk, used), (FRESH, 0));

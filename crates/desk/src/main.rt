@@ -1,4 +1,4 @@
-// Plays the pairs of standard input, a bench digit and a key byte each, on a fresh desk, and prints its report (document 01, "Measured examples").
+// Plays the pairs of standard input, a bench digit and a key byte each, on a fresh desk, and prints the reports of its sheets (document 01, "Measured examples").
 ghost use Rattle.desk_memory.specs.Memory.{Sized, deskOf};
 ghost use Rattle.desk.specs.Run.{PlaysPart, PlaysAll};
 use desk_memory::NUMBERS;
@@ -6,7 +6,7 @@ use desk_memory::TEXTS;
 use libc::STDIN_FILENO;
 use libc::STDOUT_FILENO;
 use program_printing::Printed;
-use program_printing::REPORT_MOST;
+use program_printing::REPORTS_MOST;
 
 // The bytes of the log, and of a part of the input. The second is even, so that a part that is full ends with a whole pair.
 const LOG_LENGTH: usize = 4096;
@@ -39,10 +39,10 @@ fn play_all(texts: &mut [u8], numbers: &mut [usize], log: &mut [u8])
     }
 }
 
-// Prints the report. Where it cannot be written nothing is left to do.
+// Prints the reports. Where they cannot be written nothing is left to do.
 fn print(texts: &[u8], numbers: &[usize]) {
-    let mut out = [0u8; REPORT_MOST];
-    let Printed::Bytes(n) = program_printing::print_report(texts, numbers, &mut out) else {
+    let mut out = [0u8; REPORTS_MOST];
+    let Printed::Bytes(n) = program_printing::print_reports(texts, numbers, &mut out) else {
         return;
     };
     io::write_all(STDOUT_FILENO, &out[..n]);

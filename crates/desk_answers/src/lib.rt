@@ -1,4 +1,4 @@
-// The answers of a key call and of the two questions, and their numbers (document 01, "Keys and their refusals"; document 02, No. 8), and those of the file's writer (document 02, No. 1).
+// The answers of a key call and of the two questions, and their numbers (document 01, "Keys and their refusals"; document 02, No. 8, 9 and 11), and those of the file's writer (document 02, No. 1).
 ghost use mathlib.Core.Path.{_≡_};
 ghost use Rattle.desk_answers.specs.Number.{answerNumber, askedNumber, fileNumber};
 
@@ -37,6 +37,8 @@ pub fn answer_number(a: Answer) -> u8
 // The answers of a question.
 pub enum Asked {
     Answered,
+    NoSheet,
+    NoProfile,
     Unsound,
     NoItem,
 }
@@ -47,6 +49,8 @@ pub fn asked_number(a: Asked) -> u8
 {
     match a {
         Asked::Answered => 0,
+        Asked::NoSheet => 12,
+        Asked::NoProfile => 21,
         Asked::Unsound => 2,
         Asked::NoItem => 6,
     }
@@ -55,6 +59,7 @@ pub fn asked_number(a: Asked) -> u8
 // The answers of the file's writer.
 pub enum FileAnswer {
     Written,
+    NoSheet,
     Unsound,
     BadBlockName,
     NoRoom,
@@ -66,6 +71,7 @@ pub fn file_number(a: FileAnswer) -> u8
 {
     match a {
         FileAnswer::Written => 0,
+        FileAnswer::NoSheet => 12,
         FileAnswer::Unsound => 2,
         FileAnswer::BadBlockName => 11,
         FileAnswer::NoRoom => 10,

@@ -4,19 +4,22 @@ use mathlib.Core.Path.{_≡_, refl, sym, ap, _∙_}
 use mathlib.Core.Bool.{true, false, _&&_, false≢true}
 use mathlib.Core.List.{List}
 use Prim.Native.Nat.{ℕ, _≤_, _<_}
+use native.Mathlib.Omega.{arith}
 use borrow.Author.Tests.{lt-ltb, le-ltb}
 use lib.ListN.{length}
 use Rattle.text.proofs.Bools.{and-both}
 use Rattle.desk_state.specs.Desks.{benchCount}
-use Rattle.desk_state.specs.declared.sheet.Sheet.{Sheet}
-use Rattle.desk_memory.specs.Memory.{isDesk, textsOf, numbersOf, deskOf, usedOf}
-use Rattle.desk_memory.proofs.Desks.{desk-sized, lines-long, sheet-of, items-long}
+use Rattle.desk_state.specs.declared.line.Line.{Line}
+use Rattle.desk_memory.specs.Memory.{isDesk, deskOf, usedOf}
+use Rattle.desk_memory.proofs.Desks.{desk-sized, lines-long, line-at}
 use Rattle.desk_soundness.specs.Sound.{soundDesk}
 use Rattle.desk_soundness.specs.SoundLog.{soundLog}
 use Rattle.desk_soundness.specs.SoundMemory.{soundMemory, soundForKeys}
+use Rattle.desk_soundness.proofs.Wording.{sound-is}
+use Rattle.desk_soundness.proofs.LogWording.{log-is}
+use Rattle.desk_entries.proofs.Sounds.{sound-takes}
 use Rattle.desk_keys.specs.Key.{keyStep, keyOf}
 use Rattle.desk_keys.specs.Lent.{leaves, KeyLent, Lent}
-use Rattle.desk_keys.proofs.Keys.{sound-ready}
 
 module _ (t n log : List ℕ) (bench byte : ℕ) where
   pub no-bench : benchCount ≤ bench → KeyLent t n log bench byte 1 t n log
@@ -47,8 +50,16 @@ module _ (t n log : List ℕ) (bench byte : ℕ) where
 
       pub lent-ready : Lent t n log bench
       lent-ready =
-          let ten = ap (λ (s : Sheet). length (s .items)) (sheet-of t n) ∙ items-long (textsOf t 0) (numbersOf n 0) in
-          record { sized = desk-sized t n is-desk; ready = sound-ready (deskOf t n) (usedOf n) log bench (lines-long t n) ten h is-sound with-log }
+          let d = deskOf t n in
+          let own : bench < length (d .lines) = omega (arith, lines-long t n) in
+          let line = sound-is d is-sound .lines bench own .most in
+          record {
+            sized = desk-sized t n is-desk;
+            bench-in = h;
+            short = omega (arith, line, ap (λ (l : Line). l .len) (line-at t n bench h));
+            room = log-is d (length log) (usedOf n) with-log .within;
+            takes-entry = λ item v. sound-takes t n (length log) (usedOf n) is-desk is-sound with-log bench item v h;
+          }
 
       pub stepped : {a : ℕ} {t′ n′ log′ : List ℕ} → length t′ ≡ length t → length n′ ≡ length n → leaves a t′ n′ log′ ≡ keyStep (deskOf t n) (usedOf n) log bench byte
           → KeyLent t n log bench byte a t′ n′ log′

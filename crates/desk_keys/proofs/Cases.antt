@@ -1,24 +1,20 @@
 -- What the steps of a key leave in lent memory, by cases.
 -- Assumes nothing.
-use mathlib.Core.Path.{_≡_, sym, ap, _∙_}
+use mathlib.Core.Path.{_≡_, ap, _∙_}
 use mathlib.Core.List.{List}
 use Prim.Native.Nat.{ℕ, _+_, _*_, _-_, _≤_, _<_}
 use native.Mathlib.Omega.{arith}
 use borrow.Author.Tests.{lt-ltb, le-ltb, le-leb, lt-leb}
-use lib.ListN.{getD, take, drop, set}
+use lib.ListN.{getD, set}
 use lib.Seq.{getD-set-other}
 use Rattle.line_items.specs.Typed.{lineMost}
-use Rattle.line_items.specs.Items.{itemCount}
 use Rattle.desk_state.specs.Lines.{emptyLine, erased}
 use Rattle.desk_state.specs.Desks.{benchCount, lineAt, withLine}
-use Rattle.desk_state.specs.Sheets.{itemAt}
 use Rattle.desk_state.specs.declared.line.Line.{Line}
-use Rattle.desk_state.specs.declared.sheet.Item.{Item}
-use Rattle.desk_state.specs.declared.sheet.Sheet.{Sheet}
-use Rattle.desk_keys.specs.Key.{edited, openTo, appendKey}
-use Rattle.desk_memory.specs.Memory.{itemNumbers, sheetsAt, usedAt, textsLength, Sized, slot, itemFrom, textsOf, numbersOf, deskOf, usedOf}
-use Rattle.desk_memory.proofs.Desks.{line-at, sheet-of, sheet-lent, item-at, count-of}
-use Rattle.desk_keys.specs.Lent.{leaves, Few, Lent}
+use Rattle.desk_keys.specs.Key.{edited, appendKey}
+use Rattle.desk_memory.specs.Memory.{usedAt, Sized, deskOf, usedOf}
+use Rattle.desk_memory.proofs.Desks.{line-at}
+use Rattle.desk_keys.specs.Lent.{leaves}
 use Rattle.desk_keys.proofs.Stores.{appended-in, erased-in, same-line}
 
 module _ (t n : List ℕ) (s : Sized t n) (k : ℕ) (h : k < benchCount) (log : List ℕ) where
@@ -57,25 +53,6 @@ module _ (t n : List ℕ) (s : Sized t n) (k : ℕ) (h : k < benchCount) (log : 
       let d = erased-in t n s k h o w in
       let u = used-at (getD n k 0 - 1) in
       cc
-
--- what is known of the numbers at the step of a key
-pub line-short : (t n log : List ℕ) (k : ℕ) → Lent t n log k → getD n k 0 ≤ lineMost
-line-short t n log k l = let r = l .ready in let e = ap (λ (x : Line). x .len) (line-at t n k (r .bench-in)) in omega (arith, r .short)
-
-pub few-entries : (t n log : List ℕ) (k : ℕ) → Lent t n log k → (item : ℕ) → 1 ≤ item → item ≤ itemCount → Few (numbersOf n 0) (item - 1)
-few-entries t n log k l item one most =
-    let r = l .ready in
-    let c = ap (λ (s : Sheet). s .count) (sheet-of t n) ∙ count-of (textsOf t 0) (numbersOf n 0) in
-    let i = ap (λ (s : Sheet). itemAt s item .times) (sheet-of t n) ∙ ap (λ (x : Item). x .times) (item-at (textsOf t 0) (numbersOf n 0) (item - 1) (omega arith)) in
-    record { count = omega (arith, r .few, c); times = omega (arith, r .named item one most, i) }
-
--- whether an item is open to a bench, asked of the sheet's block of numbers as it is lent
-pub open-lent : (t n : List ℕ) (item bench : ℕ) → item - 1 < itemCount
-    → openTo (itemAt (deskOf t n .sheet) item) bench
-    ≡ openTo (itemFrom (slot lineMost (take (textsLength - sheetsAt) (drop sheetsAt t)) (item - 1)) (slot itemNumbers (take (usedAt - benchCount) (drop benchCount n)) (item - 1))) bench
-open-lent t n item bench h =
-    ap (λ (s : Sheet). openTo (itemAt s item) bench) (sym (sheet-lent t n))
-    ∙ ap (λ (i : Item). openTo i bench) (item-at (take (textsLength - sheetsAt) (drop sheetsAt t)) (take (usedAt - benchCount) (drop benchCount n)) (item - 1) h)
 
 -- memory with that used number
 pub leaves-desk : (a : ℕ) (t n log : List ℕ) {u : ℕ} → usedOf n ≡ u → leaves a t n log ≡ record { answer = a; desk = deskOf t n; used = u; log = log }

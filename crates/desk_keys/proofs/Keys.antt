@@ -1,31 +1,21 @@
--- Laws of the key call's definitions: what is stored, and what soundness gives.
+-- Laws of the key call's definitions: what is stored, and what of the log.
 -- Assumes nothing.
-use mathlib.Core.Path.{_≡_, sym, ap, _∙_}
-use mathlib.Core.Bool.{Bool, true, false, _&&_}
-use mathlib.Core.List.{List, _++_}
-use Prim.Native.Nat.{ℕ, _+_, _-_, _*_, _≤_, _<_}
+use mathlib.Core.Path.{_≡_, refl, sym, ap, _∙_}
+use mathlib.Core.Bool.{Bool, true, false}
+use mathlib.Core.List.{List, _++_, append-assoc}
+use Prim.Native.Nat.{ℕ, _+_, _-_, _≤_}
 use native.Mathlib.Omega.{arith}
 use borrow.Author.Tests.{leb-true}
 use borrow.Rule.Slice.PartMut.{putMid, midOf}
 use lib.Dec.{leb}
 use lib.ListN.{length, take, drop, take-append-drop}
-use lib.Seq.{drop-drop}
-use Rattle.text.proofs.Bools.{and-both}
+use lib.Seq.{drop-drop, drop-at, take-at, length-take-le}
 use Rattle.line_items.specs.Typed.{lineMost}
-use Rattle.line_items.specs.Items.{itemCount}
-use Rattle.desk_log.specs.Record.{recordLength, recordMost, recordOf, withRecord, hasRoom, writtenOf, freeAfter}
+use Rattle.desk_log.specs.Record.{headLength, recordLength, recordMost, headOf, recordOf, withRecord, hasRoom, writtenOf, freeAfter}
 use Rattle.desk_log.specs.declared.Written.the-variants.{Bytes, NoRoom}
 use Rattle.desk_log.proofs.Records.{free-written, tail-back, tail-lent, wrote-none, wrote-bytes, room-left}
-use Rattle.desk_state.specs.Sheets.{itemAt}
-use Rattle.desk_state.specs.Desks.{benchCount, noLine, lineAt}
-use Rattle.desk_soundness.specs.Sound.{soundLine, soundLines, soundDesk}
-use Rattle.desk_soundness.specs.SoundLog.{logMost, soundLog}
-use Rattle.desk_state.specs.declared.line.Line.{Line}
 use Rattle.desk_state.specs.declared.desk.Desk.{Desk}
-use Rattle.desk_soundness.proofs.Everys.{every-each}
-use Rattle.desk_soundness.proofs.Wording.{sound-is, times-most}
 use Rattle.desk_keys.specs.Key.{After, refused, entered, stored}
-use Rattle.desk_keys.specs.Ready.{Ready}
 
 -- the log's tail was lent to the writer, and came back
 module _ (d : Desk) (used : ℕ) (log : List ℕ) (bench item : ℕ) (v last : List ℕ) (short : length v ≤ lineMost) (within : used ≤ length log)
@@ -60,24 +50,24 @@ module _ (d : Desk) (used : ℕ) (log : List ℕ) (bench item : ℕ) (v last : L
       let l = k .1 in
       simp (room true yes) (cc)
 
--- what a desk that is sound for key calls gives to the step of a key
-pub sound-ready : (d : Desk) (used : ℕ) (log : List ℕ) (bench : ℕ) → length (d .lines) ≡ benchCount → length (d .sheet .items) ≡ itemCount → bench < benchCount
-    → soundDesk d ≡ true → soundLog d (length log) used ≡ true → Ready d used log bench
-unfolding soundDesk soundLines soundLine soundLog
-sound-ready d used log bench four ten b s t =
-    let lines = and-both (soundLines d) _ s .0 in
-    let line = every-each (λ (k : ℕ) (l : Line). soundLine l) (d .lines) 0 bench noLine lines (omega arith) in
-    let t1 = and-both (leb (length log) logMost) (leb used (length log) && leb (6 * d .sheet .count) used) t in
-    let t2 = and-both (leb used (length log)) (leb (6 * d .sheet .count) used) (t1 .1) in
-    let most = leb-true (length log) logMost (t1 .0) in
-    let within = leb-true used (length log) (t2 .0) in
-    let six = leb-true (6 * d .sheet .count) used (t2 .1) in
-    record {
-      bench-in = b;
-      short = leb-true (lineAt d bench .len) lineMost (and-both (leb (lineAt d bench .len) lineMost) _ line .0);
-      few = omega arith;
-      named = λ item one last.
-          let i = sound-is d s .items item one (omega arith) in
-          omega (arith, times-most (d .sheet .count) item (itemAt (d .sheet) item) i);
-      room = within;
-    }
+  pub written-within : (n : ℕ) → writtenOf (midOf used (length log - used) log) v ≡ Bytes n → (recordLength v ≡ n) × (used + n ≤ length log)
+  written-within n w =
+      let k = wrote-bytes (midOf used (length log - used) log) v n w in
+      let l = k .1 in
+      (l, omega (arith, leb-true (recordLength v) (length log - used) (room true (k .0))))
+
+  -- and the value stands in it, as it is lent
+  pub value-written : (n : ℕ) → writtenOf (midOf used (length log - used) log) v ≡ Bytes n
+      → take (used + n - (used + headLength)) (drop (used + headLength) (putMid used (length log - used) log last)) ≡ v
+  value-written n w =
+      let k = wrote-bytes (midOf used (length log - used) log) v n w in
+      let l = k .1 in
+      let e : used + n - (used + headLength) ≡ length v = omega arith in
+      let rest : List ℕ = drop (recordLength v) (midOf used (length log - used) log) in
+      let head : List ℕ = headOf (length v) bench item in
+      ap (λ (m : ℕ). take m (drop (used + headLength) (putMid used (length log - used) log last))) e
+      ∙ ap (λ (x : List ℕ). take (length v) x)
+      (ap (drop (used + headLength)) (tail-back used log last) ∙ sym (drop-drop headLength used (take used log ++ last))
+      ∙ ap (drop headLength) (drop-at (take used log) last used (length-take-le used log within) ∙ back ∙ free-written (midOf used (length log - used) log) bench item v (k .0) ∙ append-assoc head v rest)
+      ∙ drop-at head (v ++ rest) headLength refl)
+      ∙ take-at v rest (length v) refl

@@ -12,7 +12,6 @@ use Rattle.line_reader.specs.declared.line.Class.{Class}
 use Rattle.line_reader.specs.declared.line.Class.the-variants as class
 use Rattle.desk_log.specs.Record.{recordLength}
 use Rattle.desk_state.specs.Lines.{typed}
-use Rattle.desk_state.specs.Sheets.{itemAt}
 use Rattle.desk_state.specs.Desks.{benchCount, lineAt}
 use Rattle.desk_state.specs.declared.desk.Desk.{Desk}
 use Rattle.desk_memory.specs.Memory.{Sized, isDesk, deskOf, usedOf}
@@ -20,7 +19,8 @@ use Rattle.desk_memory.proofs.Desks.{desk-sized}
 use Rattle.desk_memory.proofs.Whole.{same-texts, same-numbers}
 use Rattle.desk_soundness.specs.Sound.{soundDesk}
 use Rattle.desk_soundness.specs.SoundLog.{soundLog}
-use Rattle.desk_keys.specs.Key.{After, refused, stored, openTo, storedIfOpen, enteredAs, keyStep, keyOf}
+use Rattle.desk_entries.specs.Entry.{openTo, ownItem}
+use Rattle.desk_keys.specs.Key.{After, refused, stored, storedIfOpen, enteredAs, keyStep, keyOf}
 use Rattle.desk_keys.specs.Lent.{KeyLent}
 
 module _ (d : Desk) (used : ℕ) (log : List ℕ) where
@@ -39,7 +39,7 @@ module _ (d : Desk) (used : ℕ) (log : List ℕ) where
 
     open-kept : (item : ℕ) (v : List ℕ) → Kept (storedIfOpen d used log bench item v)
     unfolding storedIfOpen
-    open-kept item v = either (openTo (itemAt (d .sheet) item) bench) (stored-kept item v) (λ n. refl)
+    open-kept item v = either (openTo (ownItem d bench item) bench) (stored-kept item v) (λ n. refl)
 
     entered-kept : (q : Class) (t : List ℕ) → Kept (enteredAs q d used log bench t)
     entered-kept class.BadForm t = λ n. refl

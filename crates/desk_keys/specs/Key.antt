@@ -1,24 +1,22 @@
 -- What a key call does, for every desk, log, used number, bench number and byte (document 01, "Keys and their refusals";
--- document 02, No. 8).
+-- document 02, No. 8 and 9).
 -- Assumes nothing.
 use Prim.Native.Nat.{ℕ, _+_, _-_}
-use mathlib.Core.Bool.{Bool, cond, _&&_, _||_}
+use mathlib.Core.Bool.{cond, _&&_}
 use mathlib.Core.List.{List}
 use lib.Dec.{ltb, eqb}
-use lib.ListN.{length, drop, set}
+use lib.ListN.{length, drop}
 use Rattle.line_items.specs.Typed.{lineMost, isTyped}
 use Rattle.line_reader.specs.Line.{classOf}
 use Rattle.line_reader.specs.declared.line.Class.{Class}
 use Rattle.line_reader.specs.declared.line.Class.the-variants as class
 use Rattle.desk_log.specs.Record.{recordLength, recordFits, withRecord}
 use Rattle.desk_state.specs.Lines.{typed, emptyLine, appended, erased}
-use Rattle.desk_state.specs.Sheets.{filled, itemAt}
 use Rattle.desk_state.specs.Desks.{benchCount, lineAt, withLine}
 use Rattle.desk_soundness.specs.Sound.{soundDesk}
 use Rattle.desk_soundness.specs.SoundLog.{soundLog}
+use Rattle.desk_entries.specs.Entry.{withEntryOn, openTo, ownItem}
 use Rattle.desk_state.specs.declared.line.Line.{Line}
-use Rattle.desk_state.specs.declared.sheet.Item.{Item}
-use Rattle.desk_state.specs.declared.sheet.Sheet.{Sheet}
 use Rattle.desk_state.specs.declared.desk.Desk.{Desk}
 
 -- everything that a key call leaves; the answer is its number
@@ -36,13 +34,9 @@ refused a d used log = record { answer = a; desk = d; used = used; log = log }
 abbrev pub edited : Desk → ℕ → List ℕ → ℕ → Line → After
 edited d used log bench l = record { answer = 0; desk = withLine d bench l; used = used; log = log }
 
--- the sheet with one entry more: its number "is the count after that entry was accepted"; document 02, No. 7: one entry more has named its item
-abbrev pub withEntry : Sheet → ℕ → ℕ → List ℕ → Sheet
-withEntry s bench item v = record { items = set (s .items) (item - 1) (filled bench (s .count + 1) (itemAt s item .times + 1) v); count = s .count + 1 }
-
--- "An accepted Enter stores the value .. and empties that line"
+-- "An accepted Enter stores the value .. and empties that line"; document 02, No. 9: on the bench's own sheet
 abbrev pub entered : Desk → ℕ → ℕ → List ℕ → Desk
-entered d bench item v = record { lines = set (d .lines) bench emptyLine; sheet = withEntry (d .sheet) bench item v }
+entered d bench item v = withLine (withEntryOn d bench item v) bench emptyLine
 
 -- "Each accepted entry adds one record at the first unused byte"; 8 when "the record is longer than the unused part of the log"
 unfoldable pub stored : Desk → ℕ → List ℕ → ℕ → ℕ → List ℕ → After
@@ -56,15 +50,9 @@ stored d used log bench item v =
     })
     (refused 8 d used log)
 
--- document 02, No. 8: "The bench whose entry first fills an item owns it, also if that value was unassigned; nobody else may write it": a bench may write an
--- item that is empty, and one that holds its number. An unassigned value is a value of one byte, so an item that holds it is not empty. That the bench which an
--- item holds, the last to write it, is the first is `one-owner` (theorem_sequences/proofs/Owners.antt).
-unfoldable pub openTo : Item → ℕ → Bool
-openTo i bench = eqb (i .len) 0 || eqb (i .bench) bench
-
--- "Refusals: 9, item owned by another bench, after 7 and before 8"
+-- document 02, No. 8: "Refusals: 9, item owned by another bench, after 7 and before 8"; No. 9: "ownership and entry counts are per sheet"
 unfoldable pub storedIfOpen : Desk → ℕ → List ℕ → ℕ → ℕ → List ℕ → After
-storedIfOpen d used log bench item v = cond (openTo (itemAt (d .sheet) item) bench) (stored d used log bench item v) (refused 9 d used log)
+storedIfOpen d used log bench item v = cond (openTo (ownItem d bench item) bench) (stored d used log bench item v) (refused 9 d used log)
 
 -- Enter by what the line t is; "A refused Enter keeps the line for correction"
 abbrev pub enteredAs : Class → Desk → ℕ → List ℕ → ℕ → List ℕ → After

@@ -1,26 +1,21 @@
 // The key call of the desk: one key of a bench, on a desk in memory that the caller lends.
 ghost use mathlib.Core.Path.{_≡_};
-ghost use Prim.Native.Nat.{ℕ, _+_, _*_, _-_, _<_, _≤_};
+ghost use Prim.Native.Nat.{ℕ, _<_, _≤_};
+ghost use mathlib.Core.Bool.{true};
 ghost use mathlib.Core.List.{List};
-ghost use lib.ListN.{length, getD, take, drop};
-ghost use Rattle.line_items.specs.Typed.{lineMost};
+ghost use lib.ListN.{getD, drop};
 ghost use Rattle.line_items.specs.Items.{itemCount};
 ghost use Rattle.desk_answers.specs.Number.{answerNumber};
 ghost use Rattle.desk_state.specs.Lines.{typed, emptyLine, erased};
 ghost use Rattle.desk_state.specs.Desks.{benchCount, lineAt, withLine};
-ghost use Rattle.desk_memory.specs.Memory.{itemNumbers, sheetNumbers, sheetsAt, Sized, slot, itemFrom, numbersOf, deskOf, usedOf};
-ghost use Rattle.desk_keys.specs.Key.{edited, entered, stored, openTo, storedIfOpen, enter, appendKey, keyStep};
-ghost use Rattle.desk_keys.specs.Lent.{leaves, KeyLent, entryDesk, Few, EntryNumbers, Lent};
+ghost use Rattle.desk_memory.specs.Memory.{Sized, deskOf, usedOf};
+ghost use Rattle.desk_entries.specs.Lent.{takes};
+ghost use Rattle.desk_keys.specs.Key.{edited, entered, stored, storedIfOpen, enter, appendKey, keyStep};
+ghost use Rattle.desk_keys.specs.Lent.{leaves, KeyLent, Lent};
 use desk_answers::Answer;
+use desk_log::HEAD;
 use desk_log::Written;
-use desk_memory::BENCH_AT;
-use desk_memory::COUNT_AT;
-use desk_memory::ENTRY_AT;
-use desk_memory::ITEM_NUMBERS;
-use desk_memory::LEN_AT;
-use desk_memory::TIMES_AT;
 use desk_memory::USED_AT;
-use desk_memory::number_at;
 use desk_state::desk::BENCH_COUNT;
 use line_items::LINE_MOST;
 use line_reader::line::Class;
@@ -65,59 +60,23 @@ fn clear_line(texts: &mut [u8], numbers: &mut [usize], bench: usize)
     numbers[bench] = 0;
 }
 
-// The numbers of one entry more, in a sheet's block.
-fn put_numbers(numbers: &mut [usize], k: usize, len: usize, bench: usize)
-    requires { ⌜ (k < itemCount) × Few (now numbers) k × (length (now numbers) ≡ sheetNumbers) ⌝ }
-    ensures { λ _. ⌜ EntryNumbers (now (numbers .entry)) k len bench (now (numbers .exit)) ⌝ }
-{
-    let entry = numbers[COUNT_AT] + 1;
-    let at = k * ITEM_NUMBERS;
-    let times = numbers[at + TIMES_AT] + 1;
-    numbers[at + LEN_AT] = len;
-    numbers[at + ENTRY_AT] = entry;
-    numbers[at + BENCH_AT] = bench;
-    numbers[at + TIMES_AT] = times;
-    numbers[COUNT_AT] = entry;
-}
-
-// The value that stands in a line, len bytes of it from a place on, becomes an item's.
-fn put_entry(
-    texts: &mut [u8],
-    numbers: &mut [usize],
-    bench: usize,
-    item: usize,
-    from: usize,
-    len: usize,
-)
-    requires { ⌜ (1 ≤ item) × (item ≤ itemCount) × (len ≤ lineMost) × (from + len ≤ sheetsAt) × Few (numbersOf (now numbers) 0) (item - 1) × Sized (now texts) (now numbers) ⌝ }
-    ensures { λ _. ⌜ (deskOf (now (texts .exit)) (now (numbers .exit)) ≡ entryDesk (deskOf (now (texts .entry)) (now (numbers .entry))) bench item (take len (drop from (now (texts .entry))))) × (usedOf (now (numbers .exit)) ≡ usedOf (now (numbers .entry))) ⌝ }
-{
-    let k = item - 1;
-    let to = (BENCH_COUNT + k) * LINE_MOST;
-    desk_memory::copy_on(texts, from, len, to);
-    desk_memory::clear(texts, to + len, LINE_MOST - len);
-    put_numbers(&mut numbers[BENCH_COUNT..USED_AT], k, len, bench);
-}
-
 // The desk and the used number after an accepted Enter.
 fn enter_desk(
     texts: &mut [u8],
     numbers: &mut [usize],
     bench: usize,
     item: usize,
-    from: usize,
-    len: usize,
+    value: &[u8],
     used: usize,
 )
-    requires { ⌜ (bench < benchCount) × (1 ≤ item) × (item ≤ itemCount) × (len ≤ lineMost) × (from + len ≤ sheetsAt) × Few (numbersOf (now numbers) 0) (item - 1) × Sized (now texts) (now numbers) ⌝ }
-    ensures { λ _. ⌜ (deskOf (now (texts .exit)) (now (numbers .exit)) ≡ entered (deskOf (now (texts .entry)) (now (numbers .entry))) bench item (take len (drop from (now (texts .entry))))) × (usedOf (now (numbers .exit)) ≡ used) ⌝ }
+    requires { ⌜ (bench < benchCount) × Sized (now texts) (now numbers) × (takes (now texts) (now numbers) bench item (now value) ≡ true) ⌝ }
+    ensures { λ _. ⌜ (deskOf (now (texts .exit)) (now (numbers .exit)) ≡ entered (deskOf (now (texts .entry)) (now (numbers .entry))) bench item (now (value .entry))) × (usedOf (now (numbers .exit)) ≡ used) ⌝ }
 {
-    numbers[USED_AT] = used;
-    put_entry(texts, numbers, bench, item, from, len);
+    desk_entries::put_entry(texts, numbers, bench, item, value, used);
     clear_line(texts, numbers, bench);
 }
 
-// The value, which begins at a place of its line, is stored and its record written, if the log has room.
+// The record of the value, which begins at a place of its line, is written, and the value stored as it stands there, if the log has room.
 fn store(
     texts: &mut [u8],
     numbers: &mut [usize],
@@ -141,18 +100,9 @@ fn store(
     ) else {
         return Answer::NoRoom;
     };
-    enter_desk(texts, numbers, bench, item, from, len - start, used + n);
+    let next = used + n;
+    enter_desk(texts, numbers, bench, item, &log[used + HEAD..next], next);
     Answer::Accepted
-}
-
-// Whether a bench may write the item at a place of a sheet's block, whatever its value: the item is empty, or the bench's own.
-fn is_open(numbers: &[usize], k: usize, bench: usize) -> bool
-    ensures { λ r. ⌜ ((value : List ℕ) → r ≡ openTo (itemFrom value (slot itemNumbers (now (numbers .entry)) k)) bench) ⌝ }
-{
-    if number_at(numbers, k, LEN_AT) < 1 {
-        return true;
-    }
-    number_at(numbers, k, BENCH_AT) == bench
 }
 
 // The value is stored, as `store` says, if no other bench owns the item.
@@ -167,7 +117,7 @@ fn store_if_open(
     requires { ⌜ (1 ≤ item) × (item ≤ itemCount) × (start ≤ getD (now numbers) bench 0) × Lent (now texts) (now numbers) (now log) bench ⌝ }
     ensures { λ r. ⌜ leaves (answerNumber r) (now (texts .exit)) (now (numbers .exit)) (now (log .exit)) ≡ storedIfOpen (deskOf (now (texts .entry)) (now (numbers .entry))) (usedOf (now (numbers .entry))) (now (log .entry)) bench item (drop start (typed (lineAt (deskOf (now (texts .entry)) (now (numbers .entry))) bench))) ⌝ }
 {
-    if !is_open(&numbers[BENCH_COUNT..USED_AT], item - 1, bench) {
+    if !desk_entries::is_open(numbers, bench, item - 1) {
         return Answer::Owned;
     }
     store(texts, numbers, log, bench, item, start)

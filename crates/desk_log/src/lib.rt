@@ -12,7 +12,7 @@ pub enum Written {
 }
 
 // The bytes of a record before its value, and the longest record.
-const HEAD: usize = 6;
+pub const HEAD: usize = 6;
 
 const RECORD_MOST: usize = 65535;
 

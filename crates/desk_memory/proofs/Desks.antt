@@ -1,19 +1,20 @@
--- Laws of the desk that memory holds: its lines, its sheet and its items, and what becomes of it when the memory changes.
+-- Laws of the desk that memory holds: its lines, its sheets and their items, and what becomes of it when the memory changes.
 -- Assumes nothing.
-use mathlib.Core.Path.{_≡_, refl, sym, ap, _∙_}
+use mathlib.Core.Path.{_≡_, refl, _∙_}
 use mathlib.Core.Bool.{true}
 use mathlib.Core.List.{List}
-use Prim.Native.Nat.{ℕ, _+_, _*_, _-_, _<_}
+use Prim.Native.Nat.{ℕ, _+_, _*_, _<_}
+use native.Mathlib.Omega.{arith}
 use borrow.Author.Tests.{eq-eqb, eqb-true}
 use lib.Dec.{eqb}
-use lib.ListN.{length, getD, take, drop, set, replicate}
+use lib.ListN.{length, getD, drop, set, replicate, length-drop}
 use Rattle.text.proofs.Bools.{and-both}
 use Rattle.line_items.specs.Typed.{lineMost}
 use Rattle.line_items.specs.Items.{itemCount}
 use Rattle.desk_state.specs.Sheets.{noItem}
-use Rattle.desk_state.specs.Desks.{benchCount, noLine, lineAt, withLine, freshDesk}
-use Rattle.desk_memory.specs.Memory.{itemNumbers, countAt, sheetNumbers, sheetTexts, sheetsAt, usedAt, textsLength, numbersLength, Sized, isDesk, slot, each, lineIn, itemIn, sheetFrom, textsOf, numbersOf, deskOf, usedOf}
-use Rattle.desk_memory.proofs.Slots.{block-lent, slot-after, slot-within}
+use Rattle.desk_state.specs.Desks.{benchCount, sheetCount, noLine, lineAt, withLine, noSheet, sheetAt, withSheet, freshDesk}
+use Rattle.desk_memory.specs.Memory.{itemNumbers, countAt, sheetNumbers, sheetTexts, sheetsAt, textsLength, numbersLength, Sized, isDesk, slot, each, lineIn, itemIn, sheetFrom, textsOf, numbersOf, sheetIn, deskOf, usedOf}
+use Rattle.desk_memory.proofs.Slots.{slot-after, slot-within, slot-long}
 use Rattle.desk_memory.proofs.Eachs.{each-length, each-at, each-same, each-set}
 
 -- memory of zeros is a fresh desk
@@ -42,16 +43,13 @@ module _ (t n : List ℕ) where
   unfolding deskOf
   line-at k h = each-at (lineIn t n) noLine benchCount k h
 
-  pub sheet-of : deskOf t n .sheet ≡ sheetFrom (textsOf t 0) (numbersOf n 0)
+  pub sheets-long : length (deskOf t n .sheets) ≡ sheetCount
   unfolding deskOf
-  sheet-of = refl
+  sheets-long = each-length (sheetIn t n) 0 sheetCount
 
-  -- the sheet of a desk, of its block as it is lent
-  pub sheet-lent : sheetFrom (take (textsLength - sheetsAt) (drop sheetsAt t)) (take (usedAt - benchCount) (drop benchCount n)) ≡ deskOf t n .sheet
-  sheet-lent =
-      let x : take (textsLength - sheetsAt) (drop sheetsAt t) ≡ textsOf t 0 = block-lent sheetTexts t 0 sheetsAt sheetsAt textsLength refl refl in
-      let y : take (usedAt - benchCount) (drop benchCount n) ≡ numbersOf n 0 = block-lent sheetNumbers n 0 benchCount benchCount usedAt refl refl in
-      ap (λ (l : List ℕ). sheetFrom l (take (usedAt - benchCount) (drop benchCount n))) x ∙ ap (sheetFrom (textsOf t 0)) y ∙ sym sheet-of
+  pub sheet-at : (s : ℕ) → s < sheetCount → sheetAt (deskOf t n) s ≡ sheetIn t n s
+  unfolding deskOf
+  sheet-at s h = each-at (sheetIn t n) noSheet sheetCount s h
 
   -- of a sheet's block
   pub items-long : length (sheetFrom t n .items) ≡ itemCount
@@ -65,6 +63,14 @@ module _ (t n : List ℕ) where
   pub count-of : sheetFrom t n .count ≡ getD n countAt 0
   unfolding sheetFrom
   count-of = refl
+
+-- the blocks of a desk's sheets have their lengths
+module _ (t n : List ℕ) (z : Sized t n) (s : ℕ) (h : s < sheetCount) where
+  pub texts-long : length (textsOf t s) ≡ sheetTexts
+  texts-long = slot-long sheetTexts (drop sheetsAt t) s (simp length-drop (omega (arith, z .texts)))
+
+  pub numbers-long : length (numbersOf n s) ≡ sheetNumbers
+  numbers-long = slot-long sheetNumbers (drop benchCount n) s (simp length-drop (omega (arith, z .numbers)))
 
 -- memory of the same lengths is a desk's too, or neither
 pub still-desk : (t n t′ n′ : List ℕ) → length t′ ≡ length t → length n′ ≡ length n → isDesk t′ n′ ≡ isDesk t n
@@ -83,14 +89,36 @@ module _ (t n t′ n′ : List ℕ) where
   unfolding deskOf
   desk-line k s m p q =
       let ls = each-set (lineIn t n) (lineIn t′ n′) benchCount k (λ j l e. let x = s j l e in let y = m j l e in cc) in
+      let ss = each-same (sheetIn t n) (sheetIn t′ n′) sheetCount (λ j l. cc) in
       cc
 
-  -- memory that differs in the sheet
-  pub desk-sheet : ((j : ℕ) → j < benchCount → slot lineMost t′ j ≡ slot lineMost t j) → ((j : ℕ) → j < benchCount → getD n′ j 0 ≡ getD n j 0)
-      → deskOf t′ n′ ≡ record { lines = deskOf t n .lines; sheet = sheetFrom (textsOf t′ 0) (numbersOf n′ 0) }
-  unfolding deskOf
-  desk-sheet s m =
-      let ls = each-same (lineIn t n) (lineIn t′ n′) benchCount (λ j l. let x = s j l in let y = m j l in cc) in
+  -- memory that differs in no line
+  module _ (s : (j : ℕ) → j < benchCount → slot lineMost t′ j ≡ slot lineMost t j) (m : (j : ℕ) → j < benchCount → getD n′ j 0 ≡ getD n j 0) where
+    lines-same : each (lineIn t′ n′) 0 benchCount ≡ each (lineIn t n) 0 benchCount
+    lines-same = each-same (lineIn t n) (lineIn t′ n′) benchCount (λ j l. let x = s j l in let y = m j l in cc)
+
+    -- and in no sheet
+    pub desk-same : ((j : ℕ) → j < sheetCount → sheetIn t′ n′ j ≡ sheetIn t n j) → deskOf t′ n′ ≡ deskOf t n
+    unfolding deskOf
+    desk-same f =
+        let ls = lines-same in
+        let ss = each-same (sheetIn t n) (sheetIn t′ n′) sheetCount f in
+        cc
+
+    -- and in one sheet
+    pub desk-sheet : (k : ℕ) → ((j : ℕ) → j < sheetCount → (j ≡ k → ⊥) → sheetIn t′ n′ j ≡ sheetIn t n j)
+        → deskOf t′ n′ ≡ withSheet (deskOf t n) k (sheetIn t′ n′ k)
+    unfolding deskOf
+    desk-sheet k f =
+        let ls = lines-same in
+        let ss = each-set (sheetIn t n) (sheetIn t′ n′) sheetCount k f in
+        cc
+
+  -- a sheet's block with the same items and the same count
+  pub sheet-same : ((j : ℕ) → j < itemCount → slot lineMost t′ j ≡ slot lineMost t j) → n′ ≡ n → sheetFrom t′ n′ ≡ sheetFrom t n
+  unfolding sheetFrom
+  sheet-same s m =
+      let is = each-same (itemIn t n) (itemIn t′ n′) itemCount (λ j l. let x = s j l in cc) in
       cc
 
   -- a sheet's block that differs in one item and in the count

@@ -77,3 +77,14 @@ module _ (a e : ℕ) (n m : List ℕ) (within : a ≤ e) (fits : e ≤ length n)
       let q : e + (j - e) ≡ j = omega arith in
       ap (λ (i : ℕ). getD (putMid a (e - a) n m) i 0) (sym q) ∙ sym (getD-drop e (putMid a (e - a) n m) (j - e) 0)
       ∙ ap (λ (r : List ℕ). getD r (j - e) 0) (drop-put a e n m within fits l) ∙ getD-drop e n (j - e) 0 ∙ ap (λ (i : ℕ). getD n i 0) q
+
+  -- a part before it, and one after it
+  pub part-put-before : (b c : ℕ) → b + c ≤ a → take c (drop b (putMid a (e - a) n m)) ≡ take c (drop b n)
+  part-put-before b c h = front-part n b c a (m ++ postOf a (e - a) n) h (omega arith) ∙ part-within b c a n h
+
+  pub part-put-after : (b c : ℕ) → e ≤ b → take c (drop b (putMid a (e - a) n m)) ≡ take c (drop b n)
+  part-put-after b c h =
+      let q : e + (b - e) ≡ b = omega arith in
+      ap (λ (i : ℕ). take c (drop i (putMid a (e - a) n m))) (sym q)
+      ∙ ap (take c) (sym (drop-drop (b - e) e (putMid a (e - a) n m)) ∙ ap (drop (b - e)) (drop-put a e n m within fits l) ∙ drop-drop (b - e) e n)
+      ∙ ap (λ (i : ℕ). take c (drop i n)) q

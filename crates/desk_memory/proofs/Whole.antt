@@ -13,14 +13,14 @@ use lib.Seq.{getD-drop, ext-getD}
 use Rattle.line_items.specs.Typed.{lineMost}
 use Rattle.line_items.specs.Items.{itemCount}
 use Rattle.desk_state.specs.Sheets.{noItem}
-use Rattle.desk_state.specs.Desks.{benchCount, lineAt}
+use Rattle.desk_state.specs.Desks.{benchCount, sheetCount, lineAt, sheetAt}
 use Rattle.desk_state.specs.declared.line.Line.{Line}
 use Rattle.desk_state.specs.declared.sheet.Item.{Item}
 use Rattle.desk_state.specs.declared.sheet.Sheet.{Sheet}
 use Rattle.desk_state.specs.declared.desk.Desk.{Desk}
-use Rattle.desk_memory.specs.Memory.{itemNumbers, countAt, sheetNumbers, usedAt, numbersLength, Sized, slot, itemFrom, lineIn, itemIn, sheetFrom, textsOf, numbersOf, deskOf, usedOf}
-use Rattle.desk_memory.proofs.Slots.{slot-get, slot-of}
-use Rattle.desk_memory.proofs.Desks.{line-at, sheet-of, item-at, count-of, item-slot}
+use Rattle.desk_memory.specs.Memory.{itemNumbers, countAt, sheetNumbers, usedAt, numbersLength, Sized, slot, itemFrom, lineIn, itemIn, sheetFrom, textsOf, numbersOf, sheetIn, deskOf, usedOf}
+use Rattle.desk_memory.proofs.Slots.{slot-of}
+use Rattle.desk_memory.proofs.Desks.{line-at, sheet-at, item-at, count-of, item-slot}
 
 -- the numbers of an item are in it
 item-number : (v m v′ m′ : List ℕ) → itemFrom v m ≡ itemFrom v′ m′ → (i : ℕ) → i < itemNumbers → getD m i 0 ≡ getD m′ i 0
@@ -55,34 +55,37 @@ module _ (t n t′ n′ : List ℕ) (z : Sized t n) (z′ : Sized t′ n′) (e 
   same-line : (k : ℕ) → k < benchCount → lineIn t n k ≡ lineIn t′ n′ k
   same-line k h = sym (line-at t n k h) ∙ ap (λ (d : Desk). lineAt d k) e ∙ line-at t′ n′ k h
 
-  same-sheet : sheetFrom (textsOf t 0) (numbersOf n 0) ≡ sheetFrom (textsOf t′ 0) (numbersOf n′ 0)
-  same-sheet = sym (sheet-of t n) ∙ ap (λ (d : Desk). d .sheet) e ∙ sheet-of t′ n′
+  same-sheet : (s : ℕ) → s < sheetCount → sheetIn t n s ≡ sheetIn t′ n′ s
+  same-sheet s h = sym (sheet-at t n s h) ∙ ap (λ (d : Desk). sheetAt d s) e ∙ sheet-at t′ n′ s h
 
-  same-slot : (k : ℕ) → k < benchCount + itemCount → slot lineMost t k ≡ slot lineMost t′ k
+  same-slot : (k : ℕ) → k < benchCount + sheetCount * itemCount → slot lineMost t k ≡ slot lineMost t′ k
   same-slot k h = go (ltb k benchCount) refl
     where
       go : (b : Bool) → ltb k benchCount ≡ b → slot lineMost t k ≡ slot lineMost t′ k
       go true q = ap (λ (l : Line). l .bytes) (same-line k (ltb-true k benchCount q))
       go false q =
           let w = ltb-false k benchCount q in
-          let l : k - benchCount < itemCount = omega arith in
-          let m : benchCount + (0 * itemCount + (k - benchCount)) ≡ k = omega arith in
-          ap (slot lineMost t) (sym m) ∙ sym (item-slot t 0 (k - benchCount) l)
-          ∙ ap (λ (i : Item). i .value) (same-item (textsOf t 0) (numbersOf n 0) (textsOf t′ 0) (numbersOf n′ 0) same-sheet (k - benchCount) l)
-          ∙ item-slot t′ 0 (k - benchCount) l ∙ ap (slot lineMost t′) m
+          let s : ℕ = (k - benchCount) / itemCount in
+          let i : ℕ = (k - benchCount) % itemCount in
+          let g : s < sheetCount = omega arith in
+          let l : i < itemCount = omega arith in
+          let m : benchCount + (s * itemCount + i) ≡ k = omega arith in
+          ap (slot lineMost t) (sym m) ∙ sym (item-slot t s i l)
+          ∙ ap (λ (i : Item). i .value) (same-item (textsOf t s) (numbersOf n s) (textsOf t′ s) (numbersOf n′ s) (same-sheet s g) i l)
+          ∙ item-slot t′ s i l ∙ ap (slot lineMost t′) m
 
   pub same-texts : t ≡ t′
   same-texts =
       ext-getD 0 t t′ (z .texts ∙ sym (z′ .texts))
-      (λ i h. let w : i / lineMost < benchCount + itemCount = omega (arith, z .texts) in
+      (λ i h. let w : i / lineMost < benchCount + sheetCount * itemCount = omega (arith, z .texts) in
       sym (slot-of lineMost (omega arith) t i) ∙ ap (λ (s : List ℕ). getD s (i % lineMost) 0) (same-slot (i / lineMost) w) ∙ slot-of lineMost (omega arith) t′ i)
 
-  -- a number of the sheet's block
-  block-number : (m : List ℕ) (i : ℕ) → benchCount ≤ i → i < usedAt → getD (numbersOf m 0) (i - benchCount) 0 ≡ getD m i 0
-  block-number m i h l =
-      let x : benchCount + (0 * sheetNumbers + (i - benchCount)) ≡ i = omega arith in
-      slot-get sheetNumbers (drop benchCount m) 0 (i - benchCount) (omega arith) ∙ getD-drop benchCount m (0 * sheetNumbers + (i - benchCount)) 0
-      ∙ ap (λ (y : ℕ). getD m y 0) x
+  -- a number of a sheet's block
+  block-number : (m : List ℕ) (i : ℕ) → benchCount ≤ i
+      → getD (numbersOf m ((i - benchCount) / sheetNumbers)) ((i - benchCount) % sheetNumbers) 0 ≡ getD m i 0
+  block-number m i h =
+      let x : benchCount + (i - benchCount) ≡ i = omega arith in
+      slot-of sheetNumbers (omega arith) (drop benchCount m) (i - benchCount) ∙ getD-drop benchCount m (i - benchCount) 0 ∙ ap (λ (y : ℕ). getD m y 0) x
 
   same-number : (i : ℕ) → i < numbersLength → getD n i 0 ≡ getD n′ i 0
   same-number i h = one (ltb i benchCount) refl
@@ -90,9 +93,11 @@ module _ (t n t′ n′ : List ℕ) (z : Sized t n) (z′ : Sized t′ n′) (e 
       two : (b : Bool) → ltb i usedAt ≡ b → benchCount ≤ i → getD n i 0 ≡ getD n′ i 0
       two true q l =
           let w = ltb-true i usedAt q in
-          sym (block-number n i l w)
-          ∙ sheet-number (textsOf t 0) (numbersOf n 0) (textsOf t′ 0) (numbersOf n′ 0) same-sheet (i - benchCount) (omega arith)
-          ∙ block-number n′ i l w
+          let s : ℕ = (i - benchCount) / sheetNumbers in
+          let g : s < sheetCount = omega arith in
+          sym (block-number n i l)
+          ∙ sheet-number (textsOf t s) (numbersOf n s) (textsOf t′ s) (numbersOf n′ s) (same-sheet s g) ((i - benchCount) % sheetNumbers) (mod-lt (i - benchCount) (omega arith))
+          ∙ block-number n′ i l
       two false q l =
           let w = ltb-false i usedAt q in
           let m : usedAt ≡ i = omega arith in

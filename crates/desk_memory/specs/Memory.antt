@@ -3,14 +3,13 @@
 -- Assumes nothing.
 use mathlib.Core.Path.{_≡_}
 use Prim.Native.Nat.{ℕ, zero, suc, _+_, _*_}
-use mathlib.Core.Bool.{Bool, cond, _&&_}
+use mathlib.Core.Bool.{Bool, _&&_}
 use mathlib.Core.List.{List, [], _∷_}
-use lib.Dec.{eqb, leb}
+use lib.Dec.{eqb}
 use lib.ListN.{length, getD, take, drop}
-use Rattle.text_copies.specs.Copy.{copied}
 use Rattle.line_items.specs.Typed.{lineMost}
 use Rattle.line_items.specs.Items.{itemCount}
-use Rattle.desk_state.specs.Desks.{benchCount}
+use Rattle.desk_state.specs.Desks.{benchCount, sheetCount}
 use Rattle.desk_state.specs.declared.line.Line.{Line}
 use Rattle.desk_state.specs.declared.sheet.Item.{Item}
 use Rattle.desk_state.specs.declared.sheet.Sheet.{Sheet}
@@ -29,9 +28,6 @@ sheetNumbers = countAt + 1
 
 abbrev pub sheetTexts : ℕ
 sheetTexts = itemCount * lineMost
-
-abbrev pub sheetCount : ℕ
-sheetCount = 1
 
 -- where the sheets begin in the texts; in the numbers they begin at benchCount
 abbrev pub sheetsAt : ℕ
@@ -87,14 +83,13 @@ textsOf t s = slot sheetTexts (drop sheetsAt t) s
 abbrev pub numbersOf : List ℕ → ℕ → List ℕ
 numbersOf n s = slot sheetNumbers (drop benchCount n) s
 
+abbrev pub sheetIn : List ℕ → List ℕ → ℕ → Sheet
+sheetIn t n s = sheetFrom (textsOf t s) (numbersOf n s)
+
 -- the desk that lent memory holds
 unfoldable pub deskOf : List ℕ → List ℕ → Desk
-deskOf t n = record { lines = each (lineIn t n) 0 benchCount; sheet = sheetFrom (textsOf t 0) (numbersOf n 0) }
+deskOf t n = record { lines = each (lineIn t n) 0 benchCount; sheets = each (sheetIn t n) 0 sheetCount }
 
 -- the number of used bytes of the log
 abbrev pub usedOf : List ℕ → ℕ
 usedOf n = getD n usedAt 0
-
--- n elements copied to a later place that they do not reach, where they fit
-unfoldable pub copiedOn : List ℕ → ℕ → ℕ → ℕ → List ℕ
-copiedOn t from n to = cond (leb (from + n) to) (copied t to (take n (drop from t))) t

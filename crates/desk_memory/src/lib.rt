@@ -1,14 +1,15 @@
-// The desk in memory that the caller lends: where each part stands, what is read of it, and texts moved in it.
-// Texts: a slot of the longest line for each bench, then the sheet's block, a slot for each item.
-// Numbers: the length of each bench's line, then the sheet's block, each item's numbers together and then the sheet's count; then the used number.
+// The desk in memory that the caller lends: where each part stands, what is read of it, and bytes made zero in it.
+// Texts: a slot of the longest line for each bench, then each sheet's block, a slot for each item.
+// Numbers: the length of each bench's line, then each sheet's block, each item's numbers together and then the sheet's count; then the used number.
 ghost use mathlib.Core.Path.{_≡_};
 ghost use Prim.Native.Nat.{_+_, _≤_};
-ghost use lib.ListN.{length, getD, take, drop, replicate};
+ghost use lib.ListN.{length, getD, take, replicate};
 ghost use Rattle.text_copies.specs.Copy.{copied};
 ghost use Rattle.line_items.specs.Typed.{lineMost};
 ghost use Rattle.desk_state.specs.Sheets.{valueIn};
-ghost use Rattle.desk_memory.specs.Memory.{itemNumbers, isDesk, slot, itemIn, copiedOn};
+ghost use Rattle.desk_memory.specs.Memory.{itemNumbers, isDesk, slot, itemIn, textsOf, numbersOf};
 use desk_state::desk::BENCH_COUNT;
+use desk_state::desk::SHEET_COUNT;
 use line_items::ITEM_COUNT;
 use line_items::LINE_MOST;
 
@@ -30,8 +31,6 @@ pub const SHEET_NUMBERS: usize = COUNT_AT + 1;
 
 pub const SHEET_TEXTS: usize = ITEM_COUNT * LINE_MOST;
 
-pub const SHEET_COUNT: usize = 1;
-
 // Where the sheets begin in the texts; in the numbers they begin at BENCH_COUNT.
 pub const SHEETS_AT: usize = BENCH_COUNT * LINE_MOST;
 
@@ -49,6 +48,42 @@ pub fn is_desk(texts: &[u8], numbers: &[usize]) -> bool
         return false;
     }
     numbers.len() == NUMBERS
+}
+
+// The block of a sheet in the texts: nothing of a sheet that is not there.
+pub fn sheet_texts(texts: &[u8], sheet: usize) -> &[u8]
+    ensures { λ r. ⌜ now r ≡ textsOf (now (texts .entry)) sheet ⌝ }
+{
+    if texts.len() < SHEETS_AT {
+        return &texts[..0];
+    }
+    if (texts.len() - SHEETS_AT) / SHEET_TEXTS < sheet {
+        return &texts[..0];
+    }
+    let from = SHEETS_AT + sheet * SHEET_TEXTS;
+    if texts.len() - from < SHEET_TEXTS {
+        return &texts[from..];
+    }
+    let end = from + SHEET_TEXTS;
+    &texts[from..end]
+}
+
+// The block of a sheet in the numbers: nothing of a sheet that is not there.
+pub fn sheet_numbers(numbers: &[usize], sheet: usize) -> &[usize]
+    ensures { λ r. ⌜ now r ≡ numbersOf (now (numbers .entry)) sheet ⌝ }
+{
+    if numbers.len() < BENCH_COUNT {
+        return &numbers[..0];
+    }
+    if (numbers.len() - BENCH_COUNT) / SHEET_NUMBERS < sheet {
+        return &numbers[..0];
+    }
+    let from = BENCH_COUNT + sheet * SHEET_NUMBERS;
+    if numbers.len() - from < SHEET_NUMBERS {
+        return &numbers[from..];
+    }
+    let end = from + SHEET_NUMBERS;
+    &numbers[from..end]
 }
 
 // A number of the item at a place of a sheet's block, counted from 0.
@@ -91,36 +126,6 @@ pub fn value_at<'a>(texts: &'a [u8], numbers: &[usize], k: usize) -> &'a [u8]
     ensures { λ r. ⌜ now r ≡ valueIn (itemIn (now (texts .entry)) (now (numbers .entry)) k) ⌝ }
 {
     text_at(texts, k, number_at(numbers, k, LEN_AT))
-}
-
-fn copy_fitting(t: &mut [u8], from: usize, n: usize, to: usize)
-    requires { ⌜ (from + n ≤ to) × (to + n ≤ length (now t)) ⌝ }
-    ensures { λ _. ⌜ now (t .exit) ≡ copied (now (t .entry)) to (take n (drop from (now (t .entry)))) ⌝ }
-{
-    let mut j = 0;
-    while j < n {
-        t[to + j] = t[from + j];
-        j += 1;
-    }
-}
-
-// Copies n bytes to a later place, where they fit and do not reach it; else nothing.
-pub fn copy_on(t: &mut [u8], from: usize, n: usize, to: usize)
-    ensures { λ _. ⌜ now (t .exit) ≡ copiedOn (now (t .entry)) from n to ⌝ }
-{
-    if to < from {
-        return;
-    }
-    if to - from < n {
-        return;
-    }
-    if t.len() < to {
-        return;
-    }
-    if t.len() - to < n {
-        return;
-    }
-    copy_fitting(t, from, n, to);
 }
 
 fn clear_fitting(t: &mut [u8], from: usize, n: usize)

@@ -1,65 +1,71 @@
 -- What the questions say of lent memory, by the test of its soundness; the item that is asked for, and what soundness says of its bench.
 -- Assumes nothing.
-use mathlib.Core.Path.{_≡_, sym, ap, _∙_}
-use mathlib.Core.Bool.{true, cond}
+use mathlib.Core.Path.{_≡_, refl, sym, ap, _∙_}
+use mathlib.Core.Bool.{Bool, true, false, cond}
 use mathlib.Core.List.{List}
 use Prim.Native.Nat.{ℕ, _+_, _-_, _<_}
 use native.Mathlib.Nat.{zero-add}
 use native.Mathlib.Omega.{arith}
 use borrow.Author.Tests.{ne-eqb, ltb-true}
 use lib.Dec.{ltb}
-use lib.ListN.{getD, take, drop}
+use lib.ListN.{getD}
 use Rattle.text.proofs.Bools.{and-both}
 use Rattle.line_items.specs.Items.{itemCount, isItem}
 use Rattle.desk_state.specs.Sheets.{noItem, itemAt}
-use Rattle.desk_state.specs.Desks.{benchCount}
+use Rattle.desk_state.specs.Desks.{benchCount, sheetCount, isSheet, sheetAt}
 use Rattle.desk_state.specs.declared.sheet.Sheet.{Sheet}
-use Rattle.desk_memory.specs.Memory.{itemNumbers, sheetsAt, usedAt, textsLength, isDesk, slot, itemIn, sheetFrom, deskOf}
-use Rattle.desk_memory.proofs.Desks.{sheet-lent, items-long, item-at}
-use Rattle.desk_soundness.specs.Sound.{soundFilled, soundItem, soundLines, soundSheet, soundDesk}
+use Rattle.desk_memory.specs.Memory.{isDesk, itemNumbers, slot, itemIn, sheetFrom, textsOf, numbersOf, deskOf}
+use Rattle.desk_memory.proofs.Desks.{sheet-at, items-long, item-at}
+use Rattle.desk_soundness.specs.Sound.{soundDesk, soundFilled, soundItem, soundSheet}
 use Rattle.desk_soundness.specs.SoundMemory.{soundMemory}
 use Rattle.desk_soundness.proofs.Everys.{every-each}
-use Rattle.desk_soundness.proofs.Memories.{by-soundness}
-use Rattle.rows.specs.Rows.{noRows}
+use Rattle.desk_soundness.proofs.Memories.{by-sheet, sound-sheet-at}
+use Rattle.rows.specs.Rows.{isProfile, noRows}
 use Rattle.rows_sheet.specs.Sheet.{rowsOf}
 use Rattle.desk_questions.specs.Who.{nobody, toldOf, whoOf, whoLent}
 use Rattle.desk_questions.specs.Report.{reportedAs, reportedOf, reportLent}
 
 -- a filled item of a sound sheet has one of the benches
-filled-bench : (t n : List ℕ) (k : ℕ) → k < itemCount → soundSheet (sheetFrom t n) ≡ true
+filled-bench : (sheet : ℕ) (t n : List ℕ) (k : ℕ) → k < itemCount → soundSheet sheet (sheetFrom t n) ≡ true
     → (getD (slot itemNumbers n k) 0 0 ≡ 0 → ⊥) → getD (slot itemNumbers n k) 2 0 < benchCount
 unfolding soundSheet soundItem soundFilled
-filled-bench t n k h s f =
+filled-bench sheet t n k h s f =
     let c = sheetFrom t n .count in
-    let one = every-each (soundItem c) (sheetFrom t n .items) 0 k noItem s (omega (arith, items-long t n)) in
-    let i : soundItem c k (itemIn t n k) ≡ true =
-    sym (ap (soundItem c k) (item-at t n k h)) ∙ sym (ap (λ (m : ℕ). soundItem c m (getD (sheetFrom t n .items) k noItem)) (zero-add k)) ∙ one in
-    let g : soundFilled c (k + 1) (itemIn t n k) ≡ true = simp (ne-eqb (getD (slot itemNumbers n k) 0 0) 0 f) at i in
+    let one = every-each (soundItem sheet c) (sheetFrom t n .items) 0 k noItem s (omega (arith, items-long t n)) in
+    let i : soundItem sheet c k (itemIn t n k) ≡ true =
+    sym (ap (soundItem sheet c k) (item-at t n k h)) ∙ sym (ap (λ (m : ℕ). soundItem sheet c m (getD (sheetFrom t n .items) k noItem)) (zero-add k)) ∙ one in
+    let g : soundFilled sheet c (k + 1) (itemIn t n k) ≡ true = simp (ne-eqb (getD (slot itemNumbers n k) 0 0) 0 f) at i in
     let bench = getD (slot itemNumbers n k) 2 0 in
     ltb-true bench benchCount (and-both (ltb bench benchCount) _ g .0)
 
-module _ (t n : List ℕ) where
-  pub report-by : reportLent t n ≡ cond (soundMemory t n) (reportedAs 0 (rowsOf (deskOf t n .sheet))) (reportedAs 2 noRows)
+either : {A : Type 0} (b : Bool) (x : A) → cond b x x ≡ x
+either true x = refl
+either false x = refl
+
+-- what is asked before soundness: the sheet, then the profile
+by-profile : {A : Type 0} (t n : List ℕ) (sheet profile : Bool) (x y z w : A)
+    → cond (isDesk t n) (cond sheet (cond profile (cond (soundDesk (deskOf t n)) x y) z) w) (cond sheet (cond profile y z) w)
+    ≡ cond sheet (cond profile (cond (soundMemory t n) x y) z) w
+by-profile t n true profile x y z w = by-sheet t n profile x y z
+by-profile t n false profile x y z w = either (isDesk t n) w
+
+module _ (t n : List ℕ) (sheet : ℕ) where
+  pub report-by : (profile : ℕ) → reportLent t n sheet profile
+      ≡ cond (isSheet sheet)
+      (cond (isProfile profile) (cond (soundMemory t n) (reportedAs 0 (rowsOf profile (sheetAt (deskOf t n) sheet))) (reportedAs 2 noRows)) (reportedAs 21 noRows))
+      (reportedAs 12 noRows)
   unfolding reportLent reportedOf
-  report-by = by-soundness t n _ _
+  report-by profile = by-profile t n (isSheet sheet) (isProfile profile) _ _ _ _
 
-  pub who-by : (item : ℕ) → whoLent t n item ≡ cond (soundMemory t n) (cond (isItem item) (toldOf (itemAt (deskOf t n .sheet) item)) (nobody 6)) (nobody 2)
+  pub who-by : (item : ℕ) → whoLent t n sheet item
+      ≡ cond (isSheet sheet) (cond (soundMemory t n) (cond (isItem item) (toldOf (itemAt (sheetAt (deskOf t n) sheet) item)) (nobody 6)) (nobody 2)) (nobody 12)
   unfolding whoLent whoOf
-  who-by item = by-soundness t n _ _
+  who-by item = by-sheet t n (isSheet sheet) _ _ _
 
-  -- the block of the sheet's numbers, as it is lent
-  abbrev pub block : List ℕ
-  block = take (usedAt - benchCount) (drop benchCount n)
+  module _ (here : sheet < sheetCount) where
+    pub item-lent : (k : ℕ) → k < itemCount → getD (sheetAt (deskOf t n) sheet .items) k noItem ≡ itemIn (textsOf t sheet) (numbersOf n sheet) k
+    item-lent k h = ap (λ (s : Sheet). getD (s .items) k noItem) (sheet-at t n sheet here) ∙ item-at (textsOf t sheet) (numbersOf n sheet) k h
 
-  abbrev pub textBlock : List ℕ
-  textBlock = take (textsLength - sheetsAt) (drop sheetsAt t)
-
-  pub item-lent : (k : ℕ) → k < itemCount → getD (deskOf t n .sheet .items) k noItem ≡ itemIn textBlock block k
-  item-lent k h = ap (λ (s : Sheet). getD (s .items) k noItem) (sym (sheet-lent t n)) ∙ item-at textBlock block k h
-
-  module _ (s : soundMemory t n ≡ true) where
-    pub sound-bench : (k : ℕ) → k < itemCount → (getD (slot itemNumbers block k) 0 0 ≡ 0 → ⊥) → getD (slot itemNumbers block k) 2 0 < benchCount
-    unfolding soundMemory soundDesk
-    sound-bench k h =
-        let d = and-both (isDesk t n) (soundDesk (deskOf t n)) s .1 in
-        filled-bench textBlock block k h (ap soundSheet (sheet-lent t n) ∙ and-both (soundLines (deskOf t n)) (soundSheet (deskOf t n .sheet)) d .1)
+    pub sound-bench : soundMemory t n ≡ true → (k : ℕ) → k < itemCount → (getD (slot itemNumbers (numbersOf n sheet) k) 0 0 ≡ 0 → ⊥)
+        → getD (slot itemNumbers (numbersOf n sheet) k) 2 0 < benchCount
+    sound-bench s k h = filled-bench sheet (textsOf t sheet) (numbersOf n sheet) k h (sound-sheet-at t n s sheet here)

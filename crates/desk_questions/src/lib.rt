@@ -1,3 +1,3 @@
-// The two questions to the desk in lent memory. report: the twelve rows. who: who typed an item.
+// The two questions to the desk in lent memory. report: the rows of a sheet. who: who typed an item.
 pub mod report;
 pub mod who;

@@ -12,10 +12,10 @@ use desk_memory::BENCH_AT;
 use desk_memory::ENTRY_AT;
 use desk_memory::LEN_AT;
 use desk_memory::TIMES_AT;
-use desk_memory::USED_AT;
 use desk_memory::number_at;
-use desk_state::desk::BENCH_COUNT;
+use desk_memory::sheet_numbers;
 use desk_state::desk::NO_BENCH;
+use desk_state::desk::SHEET_COUNT;
 use line_items::ITEM_COUNT;
 
 // The answer, the number of the item's last entry, its bench, and how many accepted entries named the item.
@@ -56,10 +56,13 @@ fn tell(numbers: &[usize], k: usize) -> Told
     }
 }
 
-// Who typed the item of that number, of the desk in lent memory.
-pub fn who(texts: &[u8], numbers: &[usize], item: u64) -> Told
-    ensures { λ r. ⌜ whoIn r ≡ whoLent (now (texts .entry)) (now (numbers .entry)) item ⌝ }
+// Who typed the item of that number, of a sheet of the desk in lent memory.
+pub fn who(texts: &[u8], numbers: &[usize], sheet: u64, item: u64) -> Told
+    ensures { λ r. ⌜ whoIn r ≡ whoLent (now (texts .entry)) (now (numbers .entry)) sheet item ⌝ }
 {
+    if SHEET_COUNT as u64 <= sheet {
+        return tell_nobody(Asked::NoSheet);
+    }
     if !desk_soundness::is_sound(texts, numbers) {
         return tell_nobody(Asked::Unsound);
     }
@@ -70,5 +73,5 @@ pub fn who(texts: &[u8], numbers: &[usize], item: u64) -> Told
         return tell_nobody(Asked::NoItem);
     }
     let at = (item - 1) as usize;
-    tell(&numbers[BENCH_COUNT..USED_AT], at)
+    tell(sheet_numbers(numbers, sheet as usize), at)
 }

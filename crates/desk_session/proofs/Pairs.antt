@@ -10,7 +10,8 @@ use lib.Seq.{drop-cons}
 use Rattle.rows.specs.Rows.{noRows}
 use Rattle.rows_sheet.specs.Sheet.{rowsOf}
 use Rattle.desk_keys.specs.Key.{After, keyOf}
-use Rattle.theorem_sequences.specs.Calls.{Call, key, State, left, step, final}
+use Rattle.theorem_work.specs.Calls.{Call, key, final}
+use Rattle.theorem_sequences.specs.Calls.{State, left, step}
 use Rattle.desk_session.specs.Play.{benchOf, pairsOf, played}
 
 -- after i pairs the state s stands, from the state first

@@ -7,7 +7,8 @@ use Rattle.text.specs.Run.{between}
 use Rattle.desk_state.specs.Desks.{benchCount, noBench}
 use Rattle.rows.specs.Rows.{noRows}
 use Rattle.rows_sheet.specs.Sheet.{rowsOf}
-use Rattle.theorem_sequences.specs.Calls.{Call, key, State, step, final}
+use Rattle.theorem_work.specs.Calls.{Call, key, final}
+use Rattle.theorem_sequences.specs.Calls.{State, step}
 
 -- "a bench digit", from `0` on; "Any other first byte goes in as bench 255"
 unfoldable pub benchOf : ℕ → ℕ

@@ -7,7 +7,7 @@ use Prim.Native.Nat.{ℕ, zero, suc, _+_, _≤_, _<_}
 use native.Mathlib.Omega.{arith}
 use native.Mathlib.Nat.{add-zero, not-suc-le-zero, le-of-suc-le-suc}
 use native.Mathlib.Numerals.{add-one}
-use lib.ListN.{length, getD, drop, drop-of-length-le}
+use lib.ListN.{length, getD, drop, set, drop-of-length-le}
 use lib.Seq.{drop-cons}
 use Rattle.text.specs.Run.{all}
 use Rattle.text.proofs.Bools.{and-both}
@@ -37,3 +37,20 @@ every-each p (x ∷ xs) n (suc i) d e h =
     let k = every-each p xs (suc n) i d (and-both (p n x) _ e .1) (le-of-suc-le-suc h) in
     let g : n + suc i ≡ suc n + i = omega arith in
     rw g k
+
+-- a store of what passes, and a weaker test
+pub every-set : {A : Type 0} (p : ℕ → A → Bool) (s : List A) (n i : ℕ) (x : A) → every p n s ≡ true → p (n + i) x ≡ true → every p n (set s i x) ≡ true
+unfolding every
+every-set p [] n i x h g = h
+every-set p (y ∷ s) n zero x h g = let k = and-both (p n y) (every p (suc n) s) h in simp (rw (add-zero n) at g, k .1)
+every-set p (y ∷ s) n (suc i) x h g =
+    let k = and-both (p n y) (every p (suc n) s) h in
+    let e : n + suc i ≡ suc n + i = omega arith in
+    simp (k .0, every-set p s (suc n) i x (k .1) (rw e at g))
+
+pub every-more : {A : Type 0} (p q : ℕ → A → Bool) → ((i : ℕ) (x : A) → p i x ≡ true → q i x ≡ true) → (s : List A) (n : ℕ) → every p n s ≡ true → every q n s ≡ true
+unfolding every
+every-more p q f [] n h = refl
+every-more p q f (x ∷ s) n h =
+    let k = and-both (p n x) (every p (suc n) s) h in
+    simp (f n x (k .0), every-more p q f s (suc n) (k .1))

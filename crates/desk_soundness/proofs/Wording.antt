@@ -1,4 +1,4 @@
--- The test of soundness says what document 01's words say.
+-- The test of soundness says what the documents' words say.
 -- Assumes nothing.
 use mathlib.Core.Path.{_≡_, refl, ap, subst, _∙_}
 use mathlib.Core.Bool.{Bool, true, false, cond}
@@ -21,11 +21,11 @@ use Rattle.line_kinds.proofs.Passes.{passes-known}
 use Rattle.line_kinds.proofs.Wording.{passes-is, passes-taken}
 use Rattle.desk_state.specs.Lines.{typed}
 use Rattle.desk_state.specs.Sheets.{valueIn, noItem, itemAt}
-use Rattle.desk_state.specs.Desks.{benchCount, noLine, lineAt}
+use Rattle.desk_state.specs.Desks.{benchCount, sheetOfBench, noLine, lineAt, noSheet, sheetAt}
 use Rattle.desk_state.specs.declared.line.Line.{Line}
 use Rattle.desk_state.specs.declared.sheet.Item.{Item}
 use Rattle.desk_state.specs.declared.desk.Desk.{Desk}
-use Rattle.desk_soundness.specs.Sound.{every, zeros, soundLine, soundEmpty, counted, soundFilled, soundItem, soundLines, soundSheet, soundDesk}
+use Rattle.desk_soundness.specs.Sound.{every, zeros, soundLine, soundEmpty, counted, soundFilled, soundItem, soundLines, soundSheet, soundSheets, soundDesk}
 use Rattle.desk_soundness.specs.Wording.{AreZero, SoundLine, EmptyItem, FilledItem, SoundItem, Sound}
 use Rattle.desk_soundness.proofs.Everys.{every-each}
 
@@ -76,13 +76,14 @@ pub counted-taken : (count n : ℕ) → 1 ≤ n → n ≤ count → counted coun
 unfolding counted
 counted-taken count n f l = simp (le-leb 1 n f, le-leb n count l)
 
-module _ (count k : ℕ) (i : Item) where
-  filled-is : (i .len ≡ 0 → ⊥) → soundFilled count k i ≡ true → FilledItem count k i
+module _ (sheet count k : ℕ) (i : Item) where
+  filled-is : (i .len ≡ 0 → ⊥) → soundFilled sheet count k i ≡ true → FilledItem sheet count k i
   unfolding soundFilled fits
   filled-is some e =
       let v = valueIn i in
       let bench = and-both (ltb (i .bench) benchCount) _ e in
-      let entry = and-both (counted count (i .entry)) _ (bench .1) in
+      let camp = and-both (eqb (sheetOfBench (i .bench)) sheet) _ (bench .1) in
+      let entry = and-both (counted count (i .entry)) _ (camp .1) in
       let times = and-both (counted count (i .times)) _ (entry .1) in
       let most = and-both (leb (i .len) lineMost) _ (times .1) in
       let fit = and-both (fits k v) _ (most .1) in
@@ -94,6 +95,7 @@ module _ (count k : ℕ) (i : Item) where
         some = omega (arith, some);
         most = leb-true (i .len) lineMost (most .0);
         bench = ltb-true (i .bench) benchCount (bench .0);
+        camp = eqb-true (sheetOfBench (i .bench)) sheet (camp .0);
         first = counted-is count (i .entry) (entry .0) .0;
         last = counted-is count (i .entry) (entry .0) .1;
         once = counted-is count (i .times) (times .0) .0;
@@ -105,12 +107,13 @@ module _ (count k : ℕ) (i : Item) where
         unused = all-same 0 (drop (i .len) (i .value)) (fit .1);
       }
 
-  filled-taken : 1 ≤ k → FilledItem count k i → soundFilled count k i ≡ true
+  filled-taken : 1 ≤ k → FilledItem sheet count k i → soundFilled sheet count k i ≡ true
   unfolding soundFilled fits
   filled-taken one h =
       let v = valueIn i in
       simp (
         lt-ltb (i .bench) benchCount (h .bench),
+        eq-eqb (sheetOfBench (i .bench)) sheet (h .camp),
         counted-taken count (i .entry) (h .first) (h .last),
         counted-taken count (i .times) (h .once) (h .often),
         le-leb (i .len) lineMost (h .most),
@@ -121,26 +124,26 @@ module _ (count k : ℕ) (i : Item) where
         zeros-taken (drop (i .len) (i .value)) (h .unused),
       )
 
-module _ (count n : ℕ) (i : Item) where
-  item-by : (b : Bool) → eqb (i .len) 0 ≡ b → cond b (soundEmpty i) (soundFilled count (n + 1) i) ≡ true → SoundItem count (n + 1) i
+module _ (sheet count n : ℕ) (i : Item) where
+  item-by : (b : Bool) → eqb (i .len) 0 ≡ b → cond b (soundEmpty i) (soundFilled sheet count (n + 1) i) ≡ true → SoundItem sheet count (n + 1) i
   item-by true e s = SoundItem.empty (empty-is i (eqb-true (i .len) 0 e) s)
-  item-by false e s = SoundItem.filled (filled-is count (n + 1) i (eqb-false (i .len) 0 e) s)
+  item-by false e s = SoundItem.filled (filled-is sheet count (n + 1) i (eqb-false (i .len) 0 e) s)
 
-  item-is : soundItem count n i ≡ true → SoundItem count (n + 1) i
+  pub item-is : soundItem sheet count n i ≡ true → SoundItem sheet count (n + 1) i
   unfolding soundItem
   item-is e = item-by (eqb (i .len) 0) refl e
 
-  item-taken : SoundItem count (n + 1) i → soundItem count n i ≡ true
+  item-taken : SoundItem sheet count (n + 1) i → soundItem sheet count n i ≡ true
   unfolding soundItem
   item-taken (SoundItem.empty h) = simp (eq-eqb (i .len) 0 (h .len), empty-taken i h)
   item-taken (SoundItem.filled h) =
       let m = h .some in
-      simp (ne-eqb (i .len) 0 (λ e. omega arith), filled-taken count (n + 1) i (omega arith) h)
+      simp (ne-eqb (i .len) 0 (λ e. omega arith), filled-taken sheet count (n + 1) i (omega arith) h)
 
 -- a sound item was named at most as often as there are entries
-pub times-most : (count k : ℕ) (i : Item) → SoundItem count k i → i .times ≤ count
-times-most count k i (SoundItem.empty h) = omega (arith, h .times)
-times-most count k i (SoundItem.filled h) = h .often
+pub times-most : (sheet count k : ℕ) (i : Item) → SoundItem sheet count k i → i .times ≤ count
+times-most sheet count k i (SoundItem.empty h) = omega (arith, h .times)
+times-most sheet count k i (SoundItem.filled h) = h .often
 
 -- ---- a desk
 
@@ -158,33 +161,43 @@ module _ (d : Desk) where
   unfolding soundLines
   lines-are e bench l = line-is (lineAt d bench) (every-each (λ (k : ℕ) (l : Line). soundLine l) (d .lines) 0 bench noLine e l)
 
-  items-are : soundSheet (d .sheet) ≡ true → (k : ℕ) → 1 ≤ k → k ≤ length (d .sheet .items) → SoundItem (d .sheet .count) k (itemAt (d .sheet) k)
+  items-are : soundSheets d ≡ true → (s : ℕ) → s < length (d .sheets) → (k : ℕ) → 1 ≤ k → k ≤ length (sheetAt d s .items)
+      → SoundItem s (sheetAt d s .count) k (itemAt (sheetAt d s) k)
   unfolding soundSheet
-  items-are e k one l =
-      let c = d .sheet .count in
-      let i = itemAt (d .sheet) k in
+  items-are e s h k one l =
+      let c = sheetAt d s .count in
+      let i = itemAt (sheetAt d s) k in
+      let none : 0 + s ≡ s = omega arith in
       let first : 0 + (k - 1) ≡ k - 1 = omega arith in
-      let h = item-is c (k - 1) i (rw first at (every-each (soundItem c) (d .sheet .items) 0 (k - 1) noItem e (omega arith))) in
+      let own : every (soundItem s c) 0 (sheetAt d s .items) ≡ true = rw none at (every-each soundSheet (d .sheets) 0 s noSheet e h) in
+      let x = item-is s c (k - 1) i (rw first at (every-each (soundItem s c) (sheetAt d s .items) 0 (k - 1) noItem own (omega arith))) in
       let same : k - 1 + 1 ≡ k = omega arith in
-      subst (λ (n : ℕ). SoundItem c n i) same h
+      subst (λ (n : ℕ). SoundItem s c n i) same x
 
   -- a desk that the test takes is sound
   pub sound-is : soundDesk d ≡ true → Sound d
   unfolding soundDesk
   sound-is e = let h = and-both (soundLines d) _ e in record { lines = lines-are (h .0); items = items-are (h .1) }
 
-  item-at : Sound d → (i : ℕ) → i < length (d .sheet .items) → soundItem (d .sheet .count) (0 + i) (getD (d .sheet .items) i noItem) ≡ true
-  item-at h i l =
-      let c = d .sheet .count in
+  item-at : Sound d → (s : ℕ) → s < length (d .sheets) → (i : ℕ) → i < length (sheetAt d s .items)
+      → soundItem s (sheetAt d s .count) (0 + i) (getD (sheetAt d s .items) i noItem) ≡ true
+  item-at h s g i l =
+      let c = sheetAt d s .count in
       let first : 0 + i ≡ i = omega arith in
       let same : i + 1 - 1 ≡ i = omega arith in
       rw first
-      (item-taken c i (getD (d .sheet .items) i noItem)
-      (subst (λ (n : ℕ). SoundItem c (i + 1) (getD (d .sheet .items) n noItem)) same (h .items (i + 1) (omega arith) (omega arith))))
+      (item-taken s c i (getD (sheetAt d s .items) i noItem)
+      (subst (λ (n : ℕ). SoundItem s c (i + 1) (getD (sheetAt d s .items) n noItem)) same (h .items s g (i + 1) (omega arith) (omega arith))))
+
+  sheet-at : Sound d → (s : ℕ) → s < length (d .sheets) → soundSheet (0 + s) (sheetAt d s) ≡ true
+  unfolding soundSheet
+  sheet-at h s g =
+      let none : 0 + s ≡ s = omega arith in
+      rw none (every-from (soundItem s (sheetAt d s .count)) (sheetAt d s .items) 0 noItem (item-at h s g))
 
   -- the test takes every sound desk
   pub sound-taken : Sound d → soundDesk d ≡ true
-  unfolding soundDesk soundLines soundSheet
+  unfolding soundDesk soundLines
   sound-taken h =
       let lines = every-from (λ (k : ℕ) (l : Line). soundLine l) (d .lines) 0 noLine (λ i l. line-taken (lineAt d i) (h .lines i l)) in
-      simp (lines, every-from (soundItem (d .sheet .count)) (d .sheet .items) 0 noItem (item-at h))
+      simp (lines, every-from soundSheet (d .sheets) 0 noSheet (sheet-at h))

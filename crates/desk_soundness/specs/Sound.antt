@@ -1,4 +1,4 @@
--- When a desk is sound (document 01, "What the desk holds"); the part on the log is in SoundLog.
+-- When a desk is sound (document 01, "What the desk holds"; document 02, No. 9); the part on the log is in SoundLog.
 -- Assumes nothing.
 use Prim.Native.Nat.{ℕ, suc, _+_}
 use mathlib.Core.List.{List, [], _∷_}
@@ -10,7 +10,7 @@ use Rattle.line_items.specs.Typed.{lineMost, isTyped}
 use Rattle.line_kinds.specs.Kinds.{fits}
 use Rattle.desk_state.specs.Lines.{typed}
 use Rattle.desk_state.specs.Sheets.{valueIn}
-use Rattle.desk_state.specs.Desks.{benchCount}
+use Rattle.desk_state.specs.Desks.{benchCount, sheetOfBench}
 use Rattle.desk_state.specs.declared.line.Line.{Line}
 use Rattle.desk_state.specs.declared.sheet.Item.{Item}
 use Rattle.desk_state.specs.declared.sheet.Sheet.{Sheet}
@@ -38,22 +38,26 @@ unfoldable pub counted : ℕ → ℕ → Bool
 counted count n = leb 1 n && leb n count
 
 -- "each filled item has bench 0 to 3, an entry number from 1 to the count and a value .. " that its item, k, can hold; "unused bytes are zero"; document 02,
--- No. 7: how often it was named "is 1 to the entry count where filled"
-unfoldable pub soundFilled : ℕ → ℕ → Item → Bool
-soundFilled count k i =
-    ltb (i .bench) benchCount && (counted count (i .entry) && (counted count (i .times)
-    && (leb (i .len) lineMost && (fits k (valueIn i) && zeros (drop (i .len) (i .value))))))
+-- No. 7: how often it was named "is 1 to the entry count where filled"; document 02, No. 9: "A filled item's bench is one of its sheet's"
+unfoldable pub soundFilled : ℕ → ℕ → ℕ → Item → Bool
+soundFilled sheet count k i =
+    ltb (i .bench) benchCount && (eqb (sheetOfBench (i .bench)) sheet && (counted count (i .entry) && (counted count (i .times)
+    && (leb (i .len) lineMost && (fits k (valueIn i) && zeros (drop (i .len) (i .value)))))))
 
--- an item at place k, counted from 0, of a sheet with that count; it is filled when it has a value
-unfoldable pub soundItem : ℕ → ℕ → Item → Bool
-soundItem count k i = cond (eqb (i .len) 0) (soundEmpty i) (soundFilled count (k + 1) i)
+-- an item at place k, counted from 0, of that sheet, which has that count; it is filled when it has a value
+unfoldable pub soundItem : ℕ → ℕ → ℕ → Item → Bool
+soundItem sheet count k i = cond (eqb (i .len) 0) (soundEmpty i) (soundFilled sheet count (k + 1) i)
 
 unfoldable pub soundLines : Desk → Bool
 soundLines d = every (λ (k : ℕ) (l : Line). soundLine l) 0 (d .lines)
 
-unfoldable pub soundSheet : Sheet → Bool
-soundSheet s = every (soundItem (s .count)) 0 (s .items)
+-- the sheet of that number; its items go by its own count: "entry counts are per sheet"
+unfoldable pub soundSheet : ℕ → Sheet → Bool
+soundSheet sheet s = every (soundItem sheet (s .count)) 0 (s .items)
+
+abbrev pub soundSheets : Desk → Bool
+soundSheets d = every soundSheet 0 (d .sheets)
 
 -- "A desk is sound when .."
 unfoldable pub soundDesk : Desk → Bool
-soundDesk d = soundLines d && soundSheet (d .sheet)
+soundDesk d = soundLines d && soundSheets d

@@ -1,4 +1,4 @@
--- A sound desk in document 01's words ("What the desk holds").
+-- A sound desk in the words of document 01 ("What the desk holds") and document 02, No. 9.
 -- Assumes nothing.
 use Prim.Native.Nat.{ℕ, _+_, _*_, _≤_, _<_}
 use mathlib.Core.Path.{_≡_}
@@ -12,11 +12,11 @@ use Rattle.line_items.specs.Typed.{lineMost, isTyped}
 use Rattle.line_kinds.specs.Wording.{Passes}
 use Rattle.desk_state.specs.Lines.{typed}
 use Rattle.desk_state.specs.Sheets.{valueIn, itemAt}
-use Rattle.desk_state.specs.Desks.{benchCount, lineAt}
+use Rattle.desk_state.specs.Desks.{benchCount, lineAt, sheetOfBench, sheetAt}
 use Rattle.desk_state.specs.declared.line.Line.{Line}
 use Rattle.desk_state.specs.declared.sheet.Item.{Item}
 use Rattle.desk_state.specs.declared.desk.Desk.{Desk}
-use Rattle.desk_soundness.specs.SoundLog.{logMost}
+use Rattle.desk_soundness.specs.SoundLog.{logMost, entryCount}
 
 -- ".. are zero"
 abbrev pub AreZero : List ℕ → Type 0
@@ -37,13 +37,14 @@ pub record EmptyItem (i : Item) : Type 0 where
   pub value : AreZero (i .value)
 
 -- "each filled item has bench 0 to 3, an entry number from 1 to the count and a value of the form below, bytes 32 to 126, that passes its kind and makes, after
--- its name and one space, a line of at most 80 (200) bytes .. unused bytes are zero"; the item is k, one of the ten. Document 02, No. 7: the number of accepted
--- entries that named it "is 1 to the entry count where filled"
-pub record FilledItem (count k : ℕ) (i : Item) : Type 0 where
+-- its name and one space, a line of at most 80 (200) bytes .. unused bytes are zero"; the item is k, one of the sheet's. Document 02, No. 7: the number of accepted
+-- entries that named it "is 1 to the entry count where filled"; No. 9: "A filled item's bench is one of its sheet's"
+pub record FilledItem (sheet count k : ℕ) (i : Item) : Type 0 where
   pub known : k ≤ itemCount
   pub some : 1 ≤ i .len
   pub most : i .len ≤ lineMost
   pub bench : i .bench < benchCount
+  pub camp : sheetOfBench (i .bench) ≡ sheet
   pub first : 1 ≤ i .entry
   pub last : i .entry ≤ count
   pub once : 1 ≤ i .times
@@ -54,17 +55,18 @@ pub record FilledItem (count k : ℕ) (i : Item) : Type 0 where
   pub line : length (itemRow k .name) + 1 + length (valueIn i) ≤ lineMost
   pub unused : AreZero (drop (i .len) (i .value))
 
-pub data SoundItem (count k : ℕ) (i : Item) : Type 0 where
-  empty : EmptyItem i → SoundItem count k i
-  filled : FilledItem count k i → SoundItem count k i
+pub data SoundItem (sheet count k : ℕ) (i : Item) : Type 0 where
+  empty : EmptyItem i → SoundItem sheet count k i
+  filled : FilledItem sheet count k i → SoundItem sheet count k i
 
--- "A desk is sound when each line .., each filled item .., empty items .."
+-- "A desk is sound when each line .., each filled item .., empty items .."; document 02, No. 9: on both sheets, each with its own count
 pub record Sound (d : Desk) : Type 0 where
   pub lines : (bench : ℕ) → bench < length (d .lines) → SoundLine (lineAt d bench)
-  pub items : (k : ℕ) → 1 ≤ k → k ≤ length (d .sheet .items) → SoundItem (d .sheet .count) k (itemAt (d .sheet) k)
+  pub items : (s : ℕ) → s < length (d .sheets) → (k : ℕ) → 1 ≤ k → k ≤ length (sheetAt d s .items) → SoundItem s (sheetAt d s .count) k (itemAt (sheetAt d s) k)
 
--- "For key calls also: the log is at most 65,536 bytes long, used is not more than its length, and six times the count is not more than used"
+-- "For key calls also: the log is at most 65,536 bytes long, used is not more than its length, and six times the count is not more than used"; document 02, No. 9:
+-- "six times the sum of both counts"
 pub record SoundWith (d : Desk) (len used : ℕ) : Type 0 where
   pub most : len ≤ logMost
   pub within : used ≤ len
-  pub counted : 6 * d .sheet .count ≤ used
+  pub counted : 6 * entryCount d ≤ used

@@ -1,24 +1,28 @@
-// The test of soundness of a desk in lent memory (document 01, "What the desk holds").
+// The test of soundness of a desk in lent memory (document 01, "What the desk holds"; document 02, No. 9).
 ghost use mathlib.Core.Path.{_≡_};
-ghost use Prim.Native.Nat.{_<_};
+ghost use Prim.Native.Nat.{ℕ, _*_, _<_};
+ghost use mathlib.Core.List.{List};
+ghost use lib.Dec.{leb};
 ghost use lib.ListN.{length};
 ghost use Rattle.line_items.specs.Typed.{lineMost};
 ghost use Rattle.line_items.specs.Items.{itemCount};
-ghost use Rattle.desk_state.specs.declared.desk.Desk.{Desk};
-ghost use Rattle.desk_memory.specs.Memory.{itemNumbers, sheetTexts, sheetNumbers, Sized, lineFrom, itemFrom, sheetFrom, deskOf};
-ghost use Rattle.desk_soundness.specs.Sound.{soundLine, soundEmpty, counted, soundFilled, soundItem, soundLines, soundSheet};
-ghost use Rattle.desk_soundness.specs.SoundLog.{soundLog};
+ghost use Rattle.desk_memory.specs.Memory.{itemNumbers, sheetTexts, sheetNumbers, numbersLength, Sized, lineFrom, itemFrom, sheetFrom, deskOf, usedOf};
+ghost use Rattle.desk_soundness.specs.Sound.{soundLine, soundEmpty, counted, soundFilled, soundItem, soundLines, soundSheet, soundSheets};
+ghost use Rattle.desk_soundness.specs.SoundLog.{entryCount, soundLog};
 ghost use Rattle.desk_soundness.specs.SoundMemory.{soundMemory, soundForKeys};
 use desk_memory::BENCH_AT;
 use desk_memory::COUNT_AT;
 use desk_memory::ENTRY_AT;
 use desk_memory::ITEM_NUMBERS;
 use desk_memory::LEN_AT;
-use desk_memory::SHEETS_AT;
-use desk_memory::TEXTS;
+use desk_memory::SHEET_NUMBERS;
 use desk_memory::TIMES_AT;
 use desk_memory::USED_AT;
+use desk_memory::sheet_numbers;
+use desk_memory::sheet_texts;
 use desk_state::desk::BENCH_COUNT;
+use desk_state::desk::BENCHES_EACH;
+use desk_state::desk::SHEET_COUNT;
 use line_items::FIRST_TYPED;
 use line_items::ITEM_COUNT;
 use line_items::LAST_TYPED;
@@ -69,12 +73,15 @@ fn is_counted(count: usize, n: usize) -> bool
     n <= count
 }
 
-// Whether the filled item k of a sheet with that count is sound.
-fn is_sound_filled(count: usize, k: usize, value: &[u8], numbers: &[usize]) -> bool
+// Whether the filled item k of a sheet, which has that count, is sound.
+fn is_sound_filled(sheet: usize, count: usize, k: usize, value: &[u8], numbers: &[usize]) -> bool
     requires { ⌜ (length (now value) ≡ lineMost) × (length (now numbers) ≡ itemNumbers) ⌝ }
-    ensures { λ r. ⌜ r ≡ soundFilled count k (itemFrom (now (value .entry)) (now (numbers .entry))) ⌝ }
+    ensures { λ r. ⌜ r ≡ soundFilled sheet count k (itemFrom (now (value .entry)) (now (numbers .entry))) ⌝ }
 {
     if BENCH_COUNT <= numbers[BENCH_AT] {
+        return false;
+    }
+    if numbers[BENCH_AT] / BENCHES_EACH != sheet {
         return false;
     }
     if !is_counted(count, numbers[ENTRY_AT]) {
@@ -94,14 +101,14 @@ fn is_sound_filled(count: usize, k: usize, value: &[u8], numbers: &[usize]) -> b
     }
 }
 
-fn is_sound_item(count: usize, k: usize, value: &[u8], numbers: &[usize]) -> bool
+fn is_sound_item(sheet: usize, count: usize, k: usize, value: &[u8], numbers: &[usize]) -> bool
     requires { ⌜ (k < itemCount) × (length (now value) ≡ lineMost) × (length (now numbers) ≡ itemNumbers) ⌝ }
-    ensures { λ r. ⌜ r ≡ soundItem count k (itemFrom (now (value .entry)) (now (numbers .entry))) ⌝ }
+    ensures { λ r. ⌜ r ≡ soundItem sheet count k (itemFrom (now (value .entry)) (now (numbers .entry))) ⌝ }
 {
     if numbers[LEN_AT] == 0 {
         is_sound_empty(value, numbers)
     } else {
-        is_sound_filled(count, k + 1, value, numbers)
+        is_sound_filled(sheet, count, k + 1, value, numbers)
     }
 }
 
@@ -121,10 +128,10 @@ fn are_sound_lines(texts: &[u8], numbers: &[usize]) -> bool
     true
 }
 
-// Whether the sheet in a block is sound.
-fn is_sound_sheet(texts: &[u8], numbers: &[usize]) -> bool
+// Whether the sheet of that number, in its block, is sound.
+fn is_sound_sheet(sheet: usize, texts: &[u8], numbers: &[usize]) -> bool
     requires { ⌜ (length (now texts) ≡ sheetTexts) × (length (now numbers) ≡ sheetNumbers) ⌝ }
-    ensures { λ r. ⌜ r ≡ soundSheet (sheetFrom (now (texts .entry)) (now (numbers .entry))) ⌝ }
+    ensures { λ r. ⌜ r ≡ soundSheet sheet (sheetFrom (now (texts .entry)) (now (numbers .entry))) ⌝ }
 {
     let count = numbers[COUNT_AT];
     let mut i = 0;
@@ -133,10 +140,24 @@ fn is_sound_sheet(texts: &[u8], numbers: &[usize]) -> bool
         let end = at + LINE_MOST;
         let from = i * ITEM_NUMBERS;
         let to = from + ITEM_NUMBERS;
-        if !is_sound_item(count, i, &texts[at..end], &numbers[from..to]) {
+        if !is_sound_item(sheet, count, i, &texts[at..end], &numbers[from..to]) {
             return false;
         }
         i += 1;
+    }
+    true
+}
+
+fn are_sound_sheets(texts: &[u8], numbers: &[usize]) -> bool
+    requires { ⌜ Sized (now texts) (now numbers) ⌝ }
+    ensures { λ r. ⌜ r ≡ soundSheets (deskOf (now (texts .entry)) (now (numbers .entry))) ⌝ }
+{
+    let mut s = 0;
+    while s < SHEET_COUNT {
+        if !is_sound_sheet(s, sheet_texts(texts, s), sheet_numbers(numbers, s)) {
+            return false;
+        }
+        s += 1;
     }
     true
 }
@@ -149,26 +170,43 @@ pub fn is_sound(texts: &[u8], numbers: &[usize]) -> bool
         return false;
     }
     if are_sound_lines(texts, numbers) {
-        is_sound_sheet(&texts[SHEETS_AT..TEXTS], &numbers[BENCH_COUNT..USED_AT])
+        are_sound_sheets(texts, numbers)
     } else {
         false
     }
 }
 
-// Whether a desk of that count goes with a log of len bytes, used of them used.
-fn is_sound_log(count: usize, len: usize, used: usize) -> bool
-    ensures { λ r. ⌜ ((d : Desk) → d .sheet .count ≡ count → r ≡ soundLog d len used) ⌝ }
+// Whether used bytes have room for as many records as the sheets count together, whatever the texts.
+fn are_counted(numbers: &[usize], used: usize) -> bool
+    requires { ⌜ length (now numbers) ≡ numbersLength ⌝ }
+    ensures { λ r. ⌜ ((t : List ℕ) → r ≡ leb (6 * entryCount (deskOf t (now (numbers .entry)))) used) ⌝ }
 {
+    let mut left = used / RECORD_LEAST;
+    let mut s = 0;
+    while s < SHEET_COUNT {
+        let count = numbers[BENCH_COUNT + s * SHEET_NUMBERS + COUNT_AT];
+        if left < count {
+            return false;
+        }
+        left -= count;
+        s += 1;
+    }
+    true
+}
+
+// Whether the desk of these numbers goes with a log of len bytes, whatever its texts.
+fn is_sound_log(numbers: &[usize], len: usize) -> bool
+    requires { ⌜ length (now numbers) ≡ numbersLength ⌝ }
+    ensures { λ r. ⌜ ((t : List ℕ) → r ≡ soundLog (deskOf t (now (numbers .entry))) len (usedOf (now (numbers .entry)))) ⌝ }
+{
+    let used = numbers[USED_AT];
     if LOG_MOST < len {
         return false;
     }
     if len < used {
         return false;
     }
-    if used / RECORD_LEAST < count {
-        return false;
-    }
-    true
+    are_counted(numbers, used)
 }
 
 // Whether memory holds a sound desk that goes with a log of len bytes: what a key call asks.
@@ -176,7 +214,7 @@ pub fn is_sound_for_keys(texts: &[u8], numbers: &[usize], len: usize) -> bool
     ensures { λ r. ⌜ r ≡ soundForKeys (now (texts .entry)) (now (numbers .entry)) len ⌝ }
 {
     if is_sound(texts, numbers) {
-        is_sound_log(numbers[BENCH_COUNT + COUNT_AT], len, numbers[USED_AT])
+        is_sound_log(numbers, len)
     } else {
         false
     }

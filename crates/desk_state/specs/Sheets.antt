@@ -1,4 +1,4 @@
--- The sheet and its items (document 01, "What the desk holds").
+-- A sheet and its items (document 01, "What the desk holds").
 -- Assumes nothing.
 use Prim.Native.Nat.{ℕ, _-_}
 use mathlib.Core.List.{List, []}

@@ -1,5 +1,5 @@
 // What the desk holds (document 01).
-// line: an unfinished line. sheet: items and count. desk: lines and sheet.
+// line: an unfinished line. sheet: items and count. desk: lines and sheets.
 pub mod desk;
 pub mod line;
 pub mod sheet;

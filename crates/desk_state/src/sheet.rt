@@ -1,4 +1,4 @@
-// The sheet: ten items and the count of accepted entries.
+// A sheet: its items and the count of accepted entries.
 use line_items::ITEM_COUNT;
 use line_items::LINE_MOST;
 

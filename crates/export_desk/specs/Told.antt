@@ -8,9 +8,11 @@ use Rattle.desk_memory.specs.Memory.{textsLength, numbersLength, isDesk}
 use Rattle.desk_questions.specs.Report.{Report, reportedAs}
 use Rattle.desk_questions.specs.Who.{Who}
 use Rattle.file_cif.specs.Answers.{Filing}
+use Rattle.desk_hydrogen.specs.Hydrogens.{Proposal}
 use Rattle.export_desk.specs.declared.DeskReported.{DeskReported}
 use Rattle.export_desk.specs.declared.DeskTold.{DeskTold}
 use Rattle.export_desk.specs.declared.DeskFiled.{DeskFiled}
+use Rattle.export_desk.specs.declared.hydrogen.DeskProposed.{DeskProposed}
 
 -- everything that making a desk fresh leaves: the answer's number, and the whole of the memory
 pub record Freshened : Type 0 where
@@ -36,3 +38,7 @@ whoTold r = record { answer = r .answer; entry = r .entry; bench = r .bench; tim
 -- what the writer told, and what the lent bytes then hold
 abbrev pub filingTold : DeskFiled → List ℕ → Filing
 filingTold r out = record { answer = r .answer; count = r .count; out = out }
+
+-- what the hydrogen helper or the check of a count told
+abbrev pub proposalTold : DeskProposed → Proposal
+proposalTold r = record { answer = r .answer; count = r .count }

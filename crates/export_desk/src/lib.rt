@@ -1,11 +1,17 @@
 // The desk for C programs: include/desk.h declares these functions.
+// hydrogen: the hydrogen helper and the check of a count.
 ghost use mathlib.Core.Path.{_≡_};
 ghost use Rattle.desk_keys.specs.Lent.{KeyLent};
 ghost use Rattle.desk_questions.specs.Report.{reportLent};
 ghost use Rattle.desk_questions.specs.Who.{whoLent};
 ghost use Rattle.file_cif.specs.Answers.{fileLent};
 ghost use Rattle.export_desk.specs.Told.{freshened, freshLent, reportTold, whoTold, filingTold};
+
+pub mod hydrogen;
+
 use rows::Rows;
+
+pub mod reader;
 
 // The number of the answer, and the rows.
 #[repr(C)]
@@ -56,12 +62,17 @@ pub extern "C" fn desk_key(
     desk_answers::answer_number(desk_keys::key(texts, numbers, log, bench, byte))
 }
 
-// The twelve rows of the sheet.
+// The rows of a sheet in a profile.
 #[no_mangle]
-pub extern "C" fn desk_report(texts: &[u8], numbers: &[usize]) -> DeskReported
-    ensures { λ r. ⌜ reportTold r ≡ reportLent (now (texts .entry)) (now (numbers .entry)) ⌝ }
+pub extern "C" fn desk_report(
+    texts: &[u8],
+    numbers: &[usize],
+    sheet: u64,
+    profile: u64,
+) -> DeskReported
+    ensures { λ r. ⌜ reportTold r ≡ reportLent (now (texts .entry)) (now (numbers .entry)) sheet profile ⌝ }
 {
-    let reported = desk_questions::report::report(texts, numbers);
+    let reported = desk_questions::report::report(texts, numbers, sheet, profile);
     let answer = reported.answer;
     let rows = reported.rows;
     DeskReported {
@@ -70,12 +81,12 @@ pub extern "C" fn desk_report(texts: &[u8], numbers: &[usize]) -> DeskReported
     }
 }
 
-// Who typed an item.
+// Who typed an item of a sheet.
 #[no_mangle]
-pub extern "C" fn desk_who(texts: &[u8], numbers: &[usize], item: u64) -> DeskTold
-    ensures { λ r. ⌜ whoTold r ≡ whoLent (now (texts .entry)) (now (numbers .entry)) item ⌝ }
+pub extern "C" fn desk_who(texts: &[u8], numbers: &[usize], sheet: u64, item: u64) -> DeskTold
+    ensures { λ r. ⌜ whoTold r ≡ whoLent (now (texts .entry)) (now (numbers .entry)) sheet item ⌝ }
 {
-    let told = desk_questions::who::who(texts, numbers, item);
+    let told = desk_questions::who::who(texts, numbers, sheet, item);
     let answer = told.answer;
     DeskTold {
         entry: told.entry,
@@ -85,17 +96,18 @@ pub extern "C" fn desk_who(texts: &[u8], numbers: &[usize], item: u64) -> DeskTo
     }
 }
 
-// The sheet as a CIF file, at the start of out.
+// A sheet as a CIF file, at the start of out.
 #[no_mangle]
 pub extern "C" fn desk_file(
     texts: &[u8],
     numbers: &[usize],
+    sheet: u64,
     name: &[u8],
     out: &mut [u8],
 ) -> DeskFiled
-    ensures { λ r. ⌜ filingTold r (now (out .exit)) ≡ fileLent (now (texts .entry)) (now (numbers .entry)) (now (name .entry)) (now (out .entry)) ⌝ }
+    ensures { λ r. ⌜ filingTold r (now (out .exit)) ≡ fileLent (now (texts .entry)) (now (numbers .entry)) sheet (now (name .entry)) (now (out .entry)) ⌝ }
 {
-    let filed = file_cif::file::write_file(texts, numbers, name, out);
+    let filed = file_cif::file::write_file(texts, numbers, sheet, name, out);
     let answer = filed.answer;
     DeskFiled {
         count: filed.count,

@@ -1,4 +1,4 @@
--- What writing the file answers and leaves, for every desk, block name and lent bytes (document 02, No. 1).
+-- What writing the file of a sheet answers and leaves, for every desk, sheet number, block name and lent bytes (document 02, No. 1 and 9).
 -- Assumes nothing.
 use Prim.Native.Nat.{ℕ}
 use mathlib.Core.Bool.{cond}
@@ -6,6 +6,7 @@ use mathlib.Core.List.{List, _++_}
 use lib.Dec.{leb}
 use lib.ListN.{length, drop}
 use Rattle.desk_soundness.specs.Sound.{soundDesk}
+use Rattle.desk_state.specs.Desks.{isSheet, sheetAt}
 use Rattle.desk_state.specs.declared.desk.Desk.{Desk}
 use Rattle.desk_memory.specs.Memory.{isDesk, deskOf}
 use Rattle.file_block_name.specs.Block.{isBlockName}
@@ -35,11 +36,13 @@ wholeFile file out = record { answer = 0; count = length file; out = file ++ dro
 abbrev pub fileWithin : List ℕ → List ℕ → Filing
 fileWithin file out = cond (leb (length file) (length out)) (wholeFile file out) (noFile 10 out)
 
--- "Refusal numbers .. each given exactly when its condition is the first that applies"
-unfoldable pub fileStep : Desk → List ℕ → List ℕ → Filing
-fileStep d name out =
-    cond (soundDesk d) (cond (isBlockName name) (fileWithin (fileOf name (d .sheet)) out) (noFile 11 out)) (noFile 2 out)
+-- "Refusal numbers .. each given exactly when its condition is the first that applies"; No. 9: "12, no such sheet, before 2"
+unfoldable pub fileStep : Desk → ℕ → List ℕ → List ℕ → Filing
+fileStep d sheet name out =
+    cond (isSheet sheet)
+    (cond (soundDesk d) (cond (isBlockName name) (fileWithin (fileOf name (sheetAt d sheet)) out) (noFile 11 out)) (noFile 2 out))
+    (noFile 12 out)
 
 -- the same of the desk in lent memory; memory that is no desk is unsound
-unfoldable pub fileLent : List ℕ → List ℕ → List ℕ → List ℕ → Filing
-fileLent t n name out = cond (isDesk t n) (fileStep (deskOf t n) name out) (noFile 2 out)
+unfoldable pub fileLent : List ℕ → List ℕ → ℕ → List ℕ → List ℕ → Filing
+fileLent t n sheet name out = cond (isDesk t n) (fileStep (deskOf t n) sheet name out) (cond (isSheet sheet) (noFile 2 out) (noFile 12 out))

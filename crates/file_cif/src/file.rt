@@ -11,10 +11,7 @@ ghost use Rattle.file_cif.specs.Answers.{filingOf, fileLent};
 use crate::length::lines_length;
 use desk_answers::FileAnswer;
 use desk_memory::LEN_AT;
-use desk_memory::SHEETS_AT;
-use desk_memory::TEXTS;
-use desk_memory::USED_AT;
-use desk_state::desk::BENCH_COUNT;
+use desk_state::desk::SHEET_COUNT;
 use line_items::ITEM_COUNT;
 
 // The answer, and how many bytes were written.
@@ -43,7 +40,7 @@ fn put_filled(out: &mut [u8], at: usize, k: usize, value: &[u8]) -> usize
     let space = at + line_items::name_length(k + 1);
     let start = space + 1;
     let end = start + value.len();
-    line_items::copy_name(out, at, k + 1);
+    line_names::copy_name(out, at, k + 1);
     text_copies::copy_in(out, space, b" ");
     text_copies::copy_in(out, start, value);
     text_copies::copy_in(out, end, b"\n");
@@ -86,18 +83,22 @@ fn put_file(out: &mut [u8], name: &[u8], texts: &[u8], numbers: &[usize])
     put_items(out, HEAD + n, texts, numbers);
 }
 
-// Writes the sheet of the desk in memory as a CIF file at the start of out and says how many bytes it is; with a refusal, nothing.
-pub fn write_file(texts: &[u8], numbers: &[usize], name: &[u8], out: &mut [u8]) -> Filed
-    ensures { λ r. ⌜ filingOf r (now (out .exit)) ≡ fileLent (now (texts .entry)) (now (numbers .entry)) (now (name .entry)) (now (out .entry)) ⌝ }
+// Writes a sheet of the desk in memory as a CIF file at the start of out and says how many bytes it is; with a refusal, nothing.
+pub fn write_file(texts: &[u8], numbers: &[usize], sheet: u64, name: &[u8], out: &mut [u8]) -> Filed
+    ensures { λ r. ⌜ filingOf r (now (out .exit)) ≡ fileLent (now (texts .entry)) (now (numbers .entry)) sheet (now (name .entry)) (now (out .entry)) ⌝ }
 {
+    if SHEET_COUNT as u64 <= sheet {
+        return refuse(FileAnswer::NoSheet);
+    }
     if !desk_soundness::is_sound(texts, numbers) {
         return refuse(FileAnswer::Unsound);
     }
     if !file_block_name::is_block_name(name) {
         return refuse(FileAnswer::BadBlockName);
     }
-    let sheet_texts = &texts[SHEETS_AT..TEXTS];
-    let sheet_numbers = &numbers[BENCH_COUNT..USED_AT];
+    let at = sheet as usize;
+    let sheet_texts = desk_memory::sheet_texts(texts, at);
+    let sheet_numbers = desk_memory::sheet_numbers(numbers, at);
     let count = HEAD + name.len() + lines_length(sheet_texts, sheet_numbers);
     if out.len() < count {
         return refuse(FileAnswer::NoRoom);

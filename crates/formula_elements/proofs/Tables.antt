@@ -6,14 +6,10 @@ use Prim.Native.Nat.{ℕ, _+_, _*_, _<_}
 use native.Mathlib.Omega.{arith}
 use lib.ListN.{length, getD}
 use Rattle.text.proofs.Tables.{agree}
-use Rattle.formula_elements.specs.Elements.{sameSymbol, placeOf, symbols, elementOf, isElement, notMetals, weights}
+use Rattle.formula_elements.specs.Elements.{sameSymbol, placeOf, symbols, elementCount, elementOf, isElement, notMetals, weights}
 use Rattle.formula_elements.specs.declared.Place.the-variants.{At, Nowhere}
 use Rattle.formula_elements.proofs.Places.{place-within, place-is}
 use Rattle.formula_elements.proofs.Weights.{symbolsIn}
-
--- how many elements there are
-abbrev pub elementCount : ℕ
-elementCount = 118
 
 -- each symbol is found at its own place
 pub symbol-own : (k : ℕ) → k < elementCount → elementOf (getD symbols (2 * k) 0) (getD symbols (2 * k + 1) 0) ≡ At k

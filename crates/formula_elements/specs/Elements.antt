@@ -38,6 +38,10 @@ symbols =
     bytes
     "H HeLiBeB C N O F NeNaMgAlSiP S ClArK CaScTiV CrMnFeCoNiCuZnGaGeAsSeBrKrRbSrY ZrNbMoTcRuRhPdAgCdInSnSbTeI XeCsBaLaCePrNdPmSmEuGdTbDyHoErTmYbLuHfTaW ReOsIrPtAuHgTlPbBiPoAtRnFrRaAcThPaU NpPuAmCmBkCfEsFmMdNoLrRfDbSgBhHsMtDsRgCnNhFlMcLvTsOg"
 
+-- how many elements there are
+abbrev pub elementCount : ℕ
+elementCount = 118
+
 -- the element of a symbol, counted from 0
 unfoldable pub elementOf : ℕ → ℕ → Place
 elementOf a b = placeOf symbols a b

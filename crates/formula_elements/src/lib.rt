@@ -15,6 +15,9 @@ pub enum Weight {
     NoWeight,
 }
 
+// How many elements there are.
+pub const ELEMENT_COUNT: usize = 118;
+
 // The 118 symbols of the periodic table, in its order.
 const SYMBOLS: [u8; 236] =
     *b"H HeLiBeB C N O F NeNaMgAlSiP S ClArK CaScTiV CrMnFeCoNiCuZnGaGeAsSeBrKr\
@@ -80,7 +83,7 @@ fn find(table: &[u8], a: u8, b: u8) -> Place
 }
 
 // The element of a symbol, counted from 0 in the order of the periodic table.
-fn find_element(a: u8, b: u8) -> Place
+pub fn find_element(a: u8, b: u8) -> Place
     ensures { λ r. ⌜ r ≡ elementOf a b ⌝ }
 {
     find(&SYMBOLS, a, b)

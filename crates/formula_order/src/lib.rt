@@ -24,7 +24,7 @@ fn rank_of(carbon: bool, a: u8, b: u8) -> u32
 }
 
 // A number that is smaller the earlier a symbol stands: by rank, then first byte, then second.
-fn key_of(carbon: bool, a: u8, b: u8) -> u32
+pub fn key_of(carbon: bool, a: u8, b: u8) -> u32
     ensures { λ r. ⌜ r ≡ orderKey carbon a b ⌝ }
 {
     (rank_of(carbon, a, b) * 256 + a as u32) * 256 + b as u32

@@ -32,7 +32,7 @@ written-of [] a z l m = absurd (omega arith)
 written-of (d ∷ ds) a z l m =
     simp (ne-eqb (suc (length ds)) 0 (long (length ds)), a, ne-eqb d 48 z, le-leb 1 (valueOf (d ∷ ds)) l, le-leb (valueOf (d ∷ ds)) mostCount m)
 
-count-of : {ds : List ℕ} {n : ℕ} → CountText ds n → countOf ds ≡ Times n
+pub count-of : {ds : List ℕ} {n : ℕ} → CountText ds n → countOf ds ≡ Times n
 unfolding countOf
 count-of none = refl
 count-of (written ds a z l m) = written-of ds a z l m
@@ -83,7 +83,7 @@ count-by ds n true e q =
     subst (CountText ds) worth (written ds (a .0) (eqb-false _ _ (not-true _ (b .0))) (leb-true _ _ (c .0)) (leb-true _ _ (c .1)))
 count-by ds n false e q = let z : _≡_ {A = ℕ} 0 1 = cc in absurd (omega arith)
 
-count-is : (ds : List ℕ) (n : ℕ) → countOf ds ≡ Times n → CountText ds n
+pub count-is : (ds : List ℕ) (n : ℕ) → countOf ds ≡ Times n → CountText ds n
 unfolding countOf
 count-is [] n e = let worth : 1 ≡ n = cc in subst (CountText []) worth none
 count-is (d ∷ ds) n e =

@@ -34,7 +34,7 @@ fn between_at(s: &[u8], at: usize, lo: u8, hi: u8) -> bool
 }
 
 // The count that s writes; no text means 1.
-pub(crate) fn read_count(s: &[u8]) -> Count
+pub fn read_count(s: &[u8]) -> Count
     ensures { λ r. ⌜ r ≡ countOf (now (s .entry)) ⌝ }
 {
     if s.len() == 0 {
@@ -63,7 +63,7 @@ fn with_count(a: u8, b: u8, c: Count) -> Term
 }
 
 // The term that s is.
-pub(crate) fn read_term(s: &[u8]) -> Term
+pub fn read_term(s: &[u8]) -> Term
     ensures { λ r. ⌜ r ≡ termOf (now (s .entry)) ⌝ }
 {
     if !between_at(s, 0, b'A', b'Z') {

@@ -6,6 +6,7 @@ use Prim.Native.Nat.{ℕ, zero, suc, _+_, _≤_, _<_}
 use native.Mathlib.Omega.{arith}
 use borrow.Author.Tests.{le-leb, lt-leb}
 use Rattle.text.proofs.Tables.{nowhere-above}
+use Rattle.text.proofs.Arms.{Others, past}
 use lib.ListN.{length}
 use Rattle.line_items.specs.Items.{items, itemCount, nameMost, itemRow, nameOf}
 
@@ -21,17 +22,16 @@ pub name-of : (item : ℕ) → 1 ≤ item → item ≤ itemCount → nameOf item
 unfolding nameOf
 name-of item some known = simp (le-leb 1 item some, le-leb item itemCount known)
 
--- no arm of the items 1 to n was taken
-abbrev pub Others : ℕ → ℕ → Type 0
-Others item zero = Unit {0}
-Others item (suc n) = Others item n × (item ≡ suc n → ⊥)
+-- below the first item and above the last there is no name
+pub none-below : (item : ℕ) → item < 1 → nameOf item ≡ []
+unfolding nameOf
+none-below item h = simp (lt-leb 1 item h)
 
-pub past : (item n : ℕ) → 1 ≤ item → Others item n → n < item
-past item zero some none = some
-past item (suc n) some none = let h = past item n some (none .0) in let other = none .1 in omega arith
+pub none-above : (item : ℕ) → itemCount < item → nameOf item ≡ []
+unfolding nameOf
+none-above item h = let some : 1 ≤ item = omega arith in simp (le-leb 1 item some, lt-leb item itemCount h)
 
 -- where no arm was taken there is no name
-pub no-name : (item : ℕ) → Others item itemCount → nameOf item ≡ []
-unfolding nameOf
-no-name zero none = refl
-no-name (suc j) none = simp (le-leb 1 (suc j) (omega arith), lt-leb (suc j) itemCount (past (suc j) itemCount (omega arith) none))
+pub no-name : (item : ℕ) → Others item 1 itemCount → nameOf item ≡ []
+no-name zero none = none-below zero (omega arith)
+no-name (suc j) none = none-above (suc j) (past (suc j) 1 itemCount (omega arith) none)

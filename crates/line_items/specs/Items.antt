@@ -1,4 +1,4 @@
--- The ten items, their names and kinds (document 01, "What the desk holds").
+-- The items, their names and kinds (document 01, "What the desk holds"; document 02, No. 11: "New number items 11 to 18", No. 12: "text item 19").
 -- Assumes nothing.
 use Prim.Native.Nat.{ℕ, suc, _-_, _≤_}
 use Prim.Native.String.{String}
@@ -34,15 +34,24 @@ items =
     row "_refine_ls_wR_factor_obs" Number ∷
     row "_refine_ls_shift/su_max" Number ∷
     row "_refine_ls_shift/esd_max" Number ∷
-    row "_reflns_threshold_expression" Text ∷ []
+    row "_reflns_threshold_expression" Text ∷
+    row "_diffrn_reflns_number" Number ∷
+    row "_reflns_number_total" Number ∷
+    row "_reflns_number_gt" Number ∷
+    row "_diffrn_reflns_av_R_equivalents" Number ∷
+    row "_exptl_crystal_size_max" Number ∷
+    row "_exptl_crystal_size_mid" Number ∷
+    row "_exptl_crystal_size_min" Number ∷
+    row "_diffrn_radiation_wavelength" Number ∷
+    row "_chemical_formula_moiety" Text ∷ []
 
 -- how many items there are
 abbrev pub itemCount : ℕ
-itemCount = 10
+itemCount = 19
 
 -- the longest name has so many bytes
 abbrev pub nameMost : ℕ
-nameMost = 28
+nameMost = 31
 
 -- no row of the table
 abbrev pub noRow : ItemRow

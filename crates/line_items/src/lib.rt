@@ -1,10 +1,7 @@
-// The ten items and their names (document 01, "What the desk holds").
+// The items and their names (document 01, "What the desk holds"; document 02, No. 11 and 12).
 ghost use mathlib.Core.Path.{_≡_};
-ghost use Prim.Native.Nat.{ℕ, _≤_};
 ghost use lib.ListN.{length};
-ghost use Rattle.text_copies.specs.Copy.{copied};
-ghost use Rattle.text_equality.specs.Same.{sameFolded};
-ghost use Rattle.line_items.specs.Items.{itemCount, nameOf, itemOf, IsName};
+ghost use Rattle.line_items.specs.Items.{nameOf};
 
 // The longest line.
 pub const LINE_MOST: usize = 200;
@@ -27,28 +24,46 @@ pub enum Named {
     Unknown,
 }
 
-pub const ITEM_COUNT: usize = 10;
+pub const ITEM_COUNT: usize = 19;
 
-// The table of names. A name is lent from it where it is compared or copied; `match` has the items' numbers.
-const FORMULA_SUM: [u8; 21] = *b"_chemical_formula_sum";
+// The table of names. A name is lent from it where it is compared (`line_lookup`) or copied (`line_names`); a `match` has the items' numbers.
+pub const FORMULA_SUM: [u8; 21] = *b"_chemical_formula_sum";
 
-const FORMULA_WEIGHT: [u8; 24] = *b"_chemical_formula_weight";
+pub const FORMULA_WEIGHT: [u8; 24] = *b"_chemical_formula_weight";
 
-const REQUESTED_CATEGORY: [u8; 24] = *b"_publ_requested_category";
+pub const REQUESTED_CATEGORY: [u8; 24] = *b"_publ_requested_category";
 
-const R_FACTOR_GT: [u8; 22] = *b"_refine_ls_R_factor_gt";
+pub const R_FACTOR_GT: [u8; 22] = *b"_refine_ls_R_factor_gt";
 
-const R_FACTOR_OBS: [u8; 23] = *b"_refine_ls_R_factor_obs";
+pub const R_FACTOR_OBS: [u8; 23] = *b"_refine_ls_R_factor_obs";
 
-const WR_FACTOR_REF: [u8; 24] = *b"_refine_ls_wR_factor_ref";
+pub const WR_FACTOR_REF: [u8; 24] = *b"_refine_ls_wR_factor_ref";
 
-const WR_FACTOR_OBS: [u8; 24] = *b"_refine_ls_wR_factor_obs";
+pub const WR_FACTOR_OBS: [u8; 24] = *b"_refine_ls_wR_factor_obs";
 
-const SHIFT_SU_MAX: [u8; 23] = *b"_refine_ls_shift/su_max";
+pub const SHIFT_SU_MAX: [u8; 23] = *b"_refine_ls_shift/su_max";
 
-const SHIFT_ESD_MAX: [u8; 24] = *b"_refine_ls_shift/esd_max";
+pub const SHIFT_ESD_MAX: [u8; 24] = *b"_refine_ls_shift/esd_max";
 
-const THRESHOLD_EXPRESSION: [u8; 28] = *b"_reflns_threshold_expression";
+pub const THRESHOLD_EXPRESSION: [u8; 28] = *b"_reflns_threshold_expression";
+
+pub const DIFFRN_NUMBER: [u8; 21] = *b"_diffrn_reflns_number";
+
+pub const NUMBER_TOTAL: [u8; 20] = *b"_reflns_number_total";
+
+pub const NUMBER_GT: [u8; 17] = *b"_reflns_number_gt";
+
+pub const R_EQUIVALENTS: [u8; 31] = *b"_diffrn_reflns_av_R_equivalents";
+
+pub const SIZE_MAX: [u8; 23] = *b"_exptl_crystal_size_max";
+
+pub const SIZE_MID: [u8; 23] = *b"_exptl_crystal_size_mid";
+
+pub const SIZE_MIN: [u8; 23] = *b"_exptl_crystal_size_min";
+
+pub const WAVELENGTH: [u8; 28] = *b"_diffrn_radiation_wavelength";
+
+pub const FORMULA_MOIETY: [u8; 24] = *b"_chemical_formula_moiety";
 
 // The length of an item's name; 0 where there is no such item.
 pub fn name_length(item: usize) -> usize
@@ -65,57 +80,15 @@ pub fn name_length(item: usize) -> usize
         8 => SHIFT_SU_MAX.len(),
         9 => SHIFT_ESD_MAX.len(),
         10 => THRESHOLD_EXPRESSION.len(),
+        11 => DIFFRN_NUMBER.len(),
+        12 => NUMBER_TOTAL.len(),
+        13 => NUMBER_GT.len(),
+        14 => R_EQUIVALENTS.len(),
+        15 => SIZE_MAX.len(),
+        16 => SIZE_MID.len(),
+        17 => SIZE_MIN.len(),
+        18 => WAVELENGTH.len(),
+        19 => FORMULA_MOIETY.len(),
         _ => 0,
-    }
-}
-
-// Whether s is the name of an item, without regard to the case of A to Z. They are compared in place.
-fn is_name(item: usize, s: &[u8]) -> bool
-    requires { ⌜ (1 ≤ item) × (item ≤ itemCount) ⌝ }
-    ensures { λ r. ⌜ r ≡ sameFolded (now (s .entry)) (nameOf item) ⌝ }
-{
-    match item {
-        1 => text_equality::same_folded(s, &FORMULA_SUM),
-        2 => text_equality::same_folded(s, &FORMULA_WEIGHT),
-        3 => text_equality::same_folded(s, &REQUESTED_CATEGORY),
-        4 => text_equality::same_folded(s, &R_FACTOR_GT),
-        5 => text_equality::same_folded(s, &R_FACTOR_OBS),
-        6 => text_equality::same_folded(s, &WR_FACTOR_REF),
-        7 => text_equality::same_folded(s, &WR_FACTOR_OBS),
-        8 => text_equality::same_folded(s, &SHIFT_SU_MAX),
-        9 => text_equality::same_folded(s, &SHIFT_ESD_MAX),
-        10 => text_equality::same_folded(s, &THRESHOLD_EXPRESSION),
-        _ => false,
-    }
-}
-
-// The item of a name, the first whose name it is.
-pub fn item_named(s: &[u8]) -> Named
-    ensures { λ r. ⌜ r ≡ itemOf (now (s .entry)) ⌝ }
-{
-    for item in 1..=ITEM_COUNT {
-        if is_name(item, s) {
-            return Named::Item(item);
-        }
-    }
-    Named::Unknown
-}
-
-// Copies an item's name into out from a place on, where it fits; else, and where there is no such item, nothing.
-pub fn copy_name(out: &mut [u8], at: usize, item: usize)
-    ensures { λ _. ⌜ now (out .exit) ≡ copied (now (out .entry)) at (nameOf item) ⌝ }
-{
-    match item {
-        1 => text_copies::copy_in(out, at, &FORMULA_SUM),
-        2 => text_copies::copy_in(out, at, &FORMULA_WEIGHT),
-        3 => text_copies::copy_in(out, at, &REQUESTED_CATEGORY),
-        4 => text_copies::copy_in(out, at, &R_FACTOR_GT),
-        5 => text_copies::copy_in(out, at, &R_FACTOR_OBS),
-        6 => text_copies::copy_in(out, at, &WR_FACTOR_REF),
-        7 => text_copies::copy_in(out, at, &WR_FACTOR_OBS),
-        8 => text_copies::copy_in(out, at, &SHIFT_SU_MAX),
-        9 => text_copies::copy_in(out, at, &SHIFT_ESD_MAX),
-        10 => text_copies::copy_in(out, at, &THRESHOLD_EXPRESSION),
-        _ => (),
     }
 }

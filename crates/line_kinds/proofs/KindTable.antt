@@ -18,7 +18,7 @@ letterOf Number = 110
 letterOf Category = 99
 
 unfoldable pub letters : List ℕ
-letters = bytes "tncnnnnnnt"
+letters = bytes "tncnnnnnntnnnnnnnnt"
 
 letter : ℕ → ℕ
 letter k = letterOf (itemRow (k + 1) .kind)

@@ -12,7 +12,7 @@ use line_items::LINE_MOST;
 use number_decimal::Reading;
 
 // The kinds of the items: t text, n number, c category.
-const KINDS: [u8; 10] = *b"tncnnnnnnt";
+const KINDS: [u8; 19] = *b"tncnnnnnntnnnnnnnnt";
 
 // The kind of item k + 1.
 fn kind_at(k: usize) -> Kind

@@ -47,7 +47,7 @@ fn classify_typed(s: &[u8]) -> Class
     let Split::Parts(name, start) = split_line(s) else {
         return Class::BadForm;
     };
-    let Named::Item(item) = line_items::item_named(&s[..name]) else {
+    let Named::Item(item) = line_lookup::item_named(&s[..name]) else {
         return Class::UnknownName;
     };
     if line_kinds::passes_kind(item, &s[start..]) {

@@ -18,7 +18,7 @@ unfolding concat rowNames
 flat = concat rowNames
 
 unfoldable pub starts : List ℕ
-starts = 0 ∷ 9 ∷ 18 ∷ 26 ∷ 35 ∷ 44 ∷ 52 ∷ 61 ∷ 69 ∷ 78 ∷ 86 ∷ 95 ∷ 103 ∷ []
+starts = 0 ∷ 9 ∷ 18 ∷ 26 ∷ 35 ∷ 44 ∷ 52 ∷ 61 ∷ 69 ∷ 78 ∷ 86 ∷ 95 ∷ 103 ∷ 106 ∷ 109 ∷ 112 ∷ 115 ∷ 118 ∷ 121 ∷ 124 ∷ 127 ∷ 130 ∷ 133 ∷ 136 ∷ 139 ∷ 142 ∷ []
 
 pub name-part : (k : ℕ) → k < rowCount → take (getD starts (k + 1) 0 - getD starts k 0) (drop (getD starts k 0) flat) ≡ rowName (k + 1)
 unfolding starts flat rowNames
@@ -28,9 +28,9 @@ pub starts-ordered : (k : ℕ) → k < rowCount → getD starts k 0 ≤ getD sta
 unfolding starts
 starts-ordered = nowhere-above (λ (k : ℕ). getD starts k 0) (λ (k : ℕ). getD starts (k + 1) 0) rowCount refl
 
-pub starts-within : (k : ℕ) → k < rowCount → getD starts (k + 1) 0 ≤ 103
+pub starts-within : (k : ℕ) → k < rowCount → getD starts (k + 1) 0 ≤ 142
 unfolding starts
-starts-within = nowhere-above (λ (k : ℕ). getD starts (k + 1) 0) (λ (k : ℕ). 103) rowCount refl
+starts-within = nowhere-above (λ (k : ℕ). getD starts (k + 1) 0) (λ (k : ℕ). 142) rowCount refl
 
 pub name-short : (k : ℕ) → k < rowCount → length (rowName (k + 1)) ≤ rowNameMost
 unfolding rowNames

@@ -14,6 +14,11 @@ pub row-12 : rowLine 12 (record { level = 2; reason = 1 }) ≡ line (bytes "12 R
 unfolding rowNames lastDigits
 row-12 = refl
 
+-- document 02, No. 11
+pub row-13 : rowLine 13 (record { level = 2; reason = 1 }) ≡ line (bytes "13 R13 C 1" ∷ [])
+unfolding rowNames lastDigits
+row-13 = refl
+
 pub item-4 : printedItem 4 (filled 0 1 1 (bytes "0.16")) ≡ line (bytes "ITEM 04 bench 0 entry 1 0.16" ∷ [])
 unfolding printedItem lastDigits
 item-4 = refl

@@ -8,6 +8,7 @@ use lib.ListN.{length, getD}
 use Rattle.text.specs.Quote.{bytes}
 use Rattle.text_copies.specs.Each.{linesFrom}
 use Rattle.desk_state.specs.Sheets.{valueIn}
+use Rattle.desk_state.specs.Desks.{sheetAt}
 use Rattle.desk_state.specs.declared.sheet.Item.{Item}
 use Rattle.desk_state.specs.declared.desk.Desk.{Desk}
 use Rattle.desk_memory.specs.Memory.{isDesk, deskOf}
@@ -40,7 +41,7 @@ abbrev pub line : List (List ℕ) → List ℕ
 line [] = 10 ∷ []
 line (t ∷ ts) = t ++ line ts
 
--- the names of the twelve rows; the first is row 1
+-- the names of the rows; the first is row 1. Document 02, No. 11: "the new rows as R13 to R24", No. 12: "printed R25"
 unfoldable pub rowNames : List (List ℕ)
 rowNames =
     bytes "CHEMS_01s" ∷
@@ -54,7 +55,20 @@ rowNames =
     bytes "RFACR_01g" ∷
     bytes "SHFSU_01" ∷
     bytes "SHFSU_01g" ∷
-    bytes "REFLE_01" ∷ []
+    bytes "REFLE_01" ∷
+    bytes "R13" ∷
+    bytes "R14" ∷
+    bytes "R15" ∷
+    bytes "R16" ∷
+    bytes "R17" ∷
+    bytes "R18" ∷
+    bytes "R19" ∷
+    bytes "R20" ∷
+    bytes "R21" ∷
+    bytes "R22" ∷
+    bytes "R23" ∷
+    bytes "R24" ∷
+    bytes "R25" ∷ []
 
 abbrev pub rowName : ℕ → List ℕ
 rowName k = getD rowNames (k - 1) []
@@ -77,13 +91,18 @@ filledLine k i = line (
 unfoldable pub printedItem : ℕ → Item → List ℕ
 printedItem k i = cond (eqb (i .len) 0) [] (filledLine k i)
 
--- the whole text: a head with the number of rows, the rows of the report, the filled items
-unfoldable pub printedOf : Desk → List ℕ
-printedOf d = line (bytes "REPORT " ∷ twoDigits rowCount ∷ []) ++ (linesFrom rowLine 1 (reportedOf d .rows .rows) ++ linesFrom printedItem 1 (d .sheet .items))
+-- the text of a sheet: a head with the number of rows, the rows of the report, the filled items; document 02, No. 11: "The program prints the single-crystal report"
+unfoldable pub printedOf : Desk → ℕ → List ℕ
+printedOf d sheet =
+    line (bytes "REPORT " ∷ twoDigits rowCount ∷ []) ++ (linesFrom rowLine 1 (reportedOf d sheet 0 .rows .rows) ++ linesFrom printedItem 1 (sheetAt d sheet .items))
 
 -- of the desk in lent memory; nothing for memory that is no desk
-unfoldable pub printedLent : List ℕ → List ℕ → List ℕ
-printedLent t n = cond (isDesk t n) (printedOf (deskOf t n)) []
+unfoldable pub printedLent : List ℕ → List ℕ → ℕ → List ℕ
+printedLent t n sheet = cond (isDesk t n) (printedOf (deskOf t n) sheet) []
+
+-- document 02, No. 9: "The program prints sheet 0 as before, then sheet 1 in the same form"
+abbrev pub printedSheets : List ℕ → List ℕ → List ℕ
+printedSheets t n = printedLent t n 0 ++ printedLent t n 1
 
 -- what the printing of a text answers: how many bytes it is, or that `out` is shorter
 unfoldable pub printedIn : List ℕ → List ℕ → Printed

@@ -1,14 +1,16 @@
-// The printed report (document 01, "Measured examples"): the twelve rows, and the filled items with their benches and entry numbers.
+// The printed report (document 01, "Measured examples"): of each sheet the rows for a single crystal, and the filled items with their benches and entry numbers.
 // page: a text under way.
 ghost use mathlib.Core.Path.{_≡_};
+ghost use mathlib.Core.List.{_++_};
 ghost use Prim.Native.Nat.{_+_, _*_, _≤_, _<_};
 ghost use lib.ListN.{length};
 ghost use Rattle.line_items.specs.Items.{itemCount};
+ghost use Rattle.desk_state.specs.Desks.{sheetCount};
 ghost use Rattle.desk_memory.specs.Memory.{itemIn, sheetFrom};
 ghost use Rattle.rows.specs.Rows.{rowCount};
 ghost use Rattle.text_copies.specs.Each.{linesFrom};
 ghost use Rattle.program_printing.specs.Page.{pageMost, rowNameMost, rowLineMost, printedItemMost, pageText, Adds};
-ghost use Rattle.program_printing.specs.Print.{rowName, levelLetter, rowLine, filledLine, printedItem, printedLent, printedIn};
+ghost use Rattle.program_printing.specs.Print.{rowName, levelLetter, rowLine, filledLine, printedItem, printedLent, printedSheets, printedIn};
 ghost use Rattle.text_copies.specs.Copy.{copied};
 
 mod page;
@@ -22,12 +24,9 @@ use crate::page::put_two_digits;
 use desk_memory::BENCH_AT;
 use desk_memory::ENTRY_AT;
 use desk_memory::LEN_AT;
-use desk_memory::SHEETS_AT;
-use desk_memory::TEXTS;
-use desk_memory::USED_AT;
 use desk_memory::number_at;
 use desk_memory::value_at;
-use desk_state::desk::BENCH_COUNT;
+use desk_state::desk::SHEET_COUNT;
 use line_items::ITEM_COUNT;
 use rows::ROW_COUNT;
 use rows::Row;
@@ -39,11 +38,11 @@ pub enum Printed {
     NoRoom,
 }
 
-// The longest report.
-pub const REPORT_MOST: usize = PAGE_MOST;
+// The longest reports of all sheets.
+pub const REPORTS_MOST: usize = SHEET_COUNT * PAGE_MOST;
 
 // The names of the rows one after the other, where each begins, and the letters of the levels.
-const ROW_NAMES: [u8; 103] = *b"CHEMS_01s\
+const ROW_NAMES: [u8; 142] = *b"CHEMS_01s\
     CHEMS_01o\
     CHEMS_02\
     CHEMW_01r\
@@ -54,9 +53,37 @@ const ROW_NAMES: [u8; 103] = *b"CHEMS_01s\
     RFACR_01g\
     SHFSU_01\
     SHFSU_01g\
-    REFLE_01";
+    REFLE_01\
+    R13R14R15R16R17R18R19R20R21R22R23R24R25";
 
-const STARTS: [usize; 13] = [0, 9, 18, 26, 35, 44, 52, 61, 69, 78, 86, 95, 103];
+const STARTS: [usize; 26] = [
+    0,
+    9,
+    18,
+    26,
+    35,
+    44,
+    52,
+    61,
+    69,
+    78,
+    86,
+    95,
+    103,
+    106,
+    109,
+    112,
+    115,
+    118,
+    121,
+    124,
+    127,
+    130,
+    133,
+    136,
+    139,
+    142,
+];
 
 const LEVEL_LETTERS: [u8; 5] = *b"-GCBA";
 
@@ -162,43 +189,48 @@ fn put_items(p: Page, texts: &[u8], numbers: &[usize]) -> Page
     page
 }
 
-// The page of the report of the desk in lent memory.
-fn report_page(texts: &[u8], numbers: &[usize]) -> Page
-    ensures { λ r. ⌜ (pageText r ≡ printedLent (now (texts .entry)) (now (numbers .entry))) × (r .len ≡ length (printedLent (now (texts .entry)) (now (numbers .entry)))) × (r .len ≤ pageMost) ⌝ }
+// The page of the report of a sheet of the desk in lent memory.
+fn report_page(texts: &[u8], numbers: &[usize], sheet: usize) -> Page
+    requires { ⌜ sheet < sheetCount ⌝ }
+    ensures { λ r. ⌜ (pageText r ≡ printedLent (now (texts .entry)) (now (numbers .entry)) sheet) × (r .len ≡ length (printedLent (now (texts .entry)) (now (numbers .entry)) sheet)) × (r .len ≤ pageMost) ⌝ }
 {
     let empty = crate::page::empty_page();
     if !desk_memory::is_desk(texts, numbers) {
         return empty;
     }
-    let reported = desk_questions::report::report(texts, numbers);
+    let reported = desk_questions::report::report(texts, numbers, sheet as u64, 0);
     let rows = reported.rows;
-    let head = put(empty, b"REPORT 12\n");
+    let head = put(empty, b"REPORT 25\n");
     let with_rows = put_rows(head, rows);
     put_items(
         with_rows,
-        &texts[SHEETS_AT..TEXTS],
-        &numbers[BENCH_COUNT..USED_AT],
+        desk_memory::sheet_texts(texts, sheet),
+        desk_memory::sheet_numbers(numbers, sheet),
     )
 }
 
-// Copies a page out, if there is room for it.
-fn copy_out(p: Page, out: &mut [u8]) -> Printed
-    requires { ⌜ p .len ≤ pageMost ⌝ }
-    ensures { λ r. ⌜ (r ≡ printedIn (now (out .entry)) (pageText p)) × (now (out .exit) ≡ copied (now (out .entry)) 0 (pageText p)) ⌝ }
+// Copies two pages out, one after the other, if there is room for both.
+fn copy_out(p: Page, q: Page, out: &mut [u8]) -> Printed
+    requires { ⌜ (p .len ≤ pageMost) × (q .len ≤ pageMost) ⌝ }
+    ensures { λ r. ⌜ (r ≡ printedIn (now (out .entry)) (pageText p ++ pageText q)) × (now (out .exit) ≡ copied (now (out .entry)) 0 (pageText p ++ pageText q)) ⌝ }
 {
     let n = p.len;
-    if out.len() < n {
+    let m = q.len;
+    if out.len() < n + m {
         return Printed::NoRoom;
     }
-    let bytes = p.bytes;
-    text_copies::copy_in(out, 0, &bytes[..n]);
-    Printed::Bytes(n)
+    let first = p.bytes;
+    text_copies::copy_in(out, 0, &first[..n]);
+    let second = q.bytes;
+    text_copies::copy_in(out, n, &second[..m]);
+    Printed::Bytes(n + m)
 }
 
-// Prints the report of the desk in lent memory at the start of out and says how many bytes it is; with no room for all of it, nothing. REPORT_MOST bytes are always room.
-pub fn print_report(texts: &[u8], numbers: &[usize], out: &mut [u8]) -> Printed
-    ensures { λ r. ⌜ (r ≡ printedIn (now (out .entry)) (printedLent (now (texts .entry)) (now (numbers .entry)))) × (now (out .exit) ≡ copied (now (out .entry)) 0 (printedLent (now (texts .entry)) (now (numbers .entry)))) × (length (printedLent (now (texts .entry)) (now (numbers .entry))) ≤ pageMost) ⌝ }
+// Prints the reports of both sheets of the desk in lent memory at the start of out and says how many bytes they are; with no room for all of it, nothing. REPORTS_MOST bytes are always room.
+pub fn print_reports(texts: &[u8], numbers: &[usize], out: &mut [u8]) -> Printed
+    ensures { λ r. ⌜ (r ≡ printedIn (now (out .entry)) (printedSheets (now (texts .entry)) (now (numbers .entry)))) × (now (out .exit) ≡ copied (now (out .entry)) 0 (printedSheets (now (texts .entry)) (now (numbers .entry)))) × (length (printedSheets (now (texts .entry)) (now (numbers .entry))) ≤ sheetCount * pageMost) ⌝ }
 {
-    let page = report_page(texts, numbers);
-    copy_out(page, out)
+    let first = report_page(texts, numbers, 0);
+    let second = report_page(texts, numbers, 1);
+    copy_out(first, second, out)
 }

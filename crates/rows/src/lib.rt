@@ -1,8 +1,13 @@
-// A row of the report, rows without an alert, and when the value of an item is missing (document 01, "The twelve rows").
+// A row of the report, rows without an alert, and when the value of an item is missing (document 01, "The twelve rows"; document 02, No. 11: rows 13 to 24, No. 12: row 25).
 ghost use mathlib.Core.Path.{_≡_};
 ghost use Rattle.rows.specs.Rows.{rowOf, noRows, missing};
 
-pub const ROW_COUNT: usize = 12;
+pub const ROW_COUNT: usize = 25;
+
+// The profiles are 0, single-crystal, and 1, powder.
+pub const PROFILE_COUNT: u64 = 2;
+
+pub const POWDER: u64 = 1;
 
 // Level 0 none, 1 General, 2 C, 3 B, 4 A. Reason 0 judged, 1 an item missing, 2 not judgeable.
 #[repr(C)]

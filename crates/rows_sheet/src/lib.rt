@@ -1,2 +1,2 @@
-// The alert rows of document 01, "The twelve rows": all twelve of a sheet.
+// The alert rows of documents 01, "The twelve rows", and 02, No. 11 and 12: all rows of a sheet.
 pub mod sheet_rows;

@@ -90,8 +90,8 @@ fn put_numbers(numbers: &[usize]) {
     }
 }
 
-fn report(texts: &[u8], numbers: &[usize]) {
-    let told = export_desk::desk_report(texts, numbers);
+fn report(texts: &[u8], numbers: &[usize], sheet: u64, profile: u64) {
+    let told = export_desk::desk_report(texts, numbers, sheet, profile);
     put_byte(told.answer);
     let rows = told.rows;
     let mut i = 0;
@@ -103,8 +103,8 @@ fn report(texts: &[u8], numbers: &[usize]) {
     }
 }
 
-fn who(texts: &[u8], numbers: &[usize], item: u64) {
-    let told = export_desk::desk_who(texts, numbers, item);
+fn who(texts: &[u8], numbers: &[usize], sheet: u64, item: u64) {
+    let told = export_desk::desk_who(texts, numbers, sheet, item);
     put_byte(told.answer);
     put_byte(told.bench);
     put_wide(told.entry as u64);
@@ -120,9 +120,9 @@ fn call(texts: &mut [u8], numbers: &mut [usize], log: &mut [u8]) {
         let answer = export_desk::desk_key(texts, numbers, log, n, byte);
         put_byte(answer);
     } else if kind == REPORT {
-        report(texts, numbers);
+        report(texts, numbers, n, byte as u64);
     } else {
-        who(texts, numbers, n);
+        who(texts, numbers, byte as u64, n);
     }
 }
 
@@ -134,9 +134,10 @@ fn calls(count: usize, texts: &mut [u8], numbers: &mut [usize], log: &mut [u8]) 
     }
 }
 
-// The file of a desk, and all that was lent.
+// Reads which sheet is meant and writes its file, and all that was lent.
 fn file(texts: &[u8], numbers: &[usize], log: &[u8], name: &[u8], out: &mut [u8]) {
-    let filed = export_desk::desk_file(texts, numbers, name, out);
+    let sheet = read_byte();
+    let filed = export_desk::desk_file(texts, numbers, sheet as u64, name, out);
     put_wide(filed.count as u64);
     put_byte(filed.answer);
     io::write_all(STDOUT_FILENO, out);

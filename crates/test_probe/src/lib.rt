@@ -79,7 +79,7 @@ pub extern "C" fn probe_line(t: &[u8]) -> ProbeLine
 pub extern "C" fn probe_item(name: &[u8]) -> u64
     ensures { λ r. ⌜ r ≡ itemTold (itemOf (now (name .entry))) ⌝ }
 {
-    let Named::Item(item) = line_items::item_named(name) else {
+    let Named::Item(item) = line_lookup::item_named(name) else {
         return 0;
     };
     item as u64

@@ -26,12 +26,14 @@ use Rattle.rows_weight.specs.WeightRows.{weighedOf, ratioLevel, row4, farApart,
 use Rattle.rows_graded.specs.GradedRows.{gradedRow, oldNameRow}
 use Rattle.rows_threshold.specs.Threshold.{hasShape, multiplierOf, thresholdLevel, thresholdRow, row12}
 use Rattle.desk_soundness.specs.Sound.{every, soundLine, soundEmpty, counted, soundFilled, soundItem, soundLines, soundSheet, soundDesk}
-use Rattle.desk_soundness.specs.SoundLog.{soundLog}
+use Rattle.desk_soundness.specs.SoundLog.{countsOf, soundLog}
 use Rattle.line_categories.specs.Categories.{isCategory}
 use Rattle.line_kinds.specs.Kinds.{passes, fits}
-use Rattle.desk_keys.specs.Key.{stored, openTo, storedIfOpen, keyStep, keyOf}
+use Rattle.desk_state.specs.Desks.{sheetOfBench}
+use Rattle.desk_entries.specs.Entry.{openTo}
+use Rattle.desk_keys.specs.Key.{stored, storedIfOpen, keyStep, keyOf}
 use Rattle.theorem_examples.specs.Table.{Example, sheetWith, answerOf, examples}
 
 pub examples-hold : map (λ (e : Example). answerOf (e .asked)) examples ≡ map (λ (e : Example). e .answer) examples
-unfolding sheetWith answerOf examples between other runOf all hasAt lower sameBy beginsFolded valueFrom closes isTail sizeOf unsignedOf readingOf isNumber mayBegin isReserved isBare isQuotedBy isQuoted isValue isUnassigned textOf items findFrom isCategory passes splitOf classOf kindAt isCount countOf termOf cut some sameSymbol placeOf symbols elementOf isElement notMetals isMetal weights weightIn weightOf allRecognised rank orderKey rising inOrder hasTerm formulaClass total sumOf bounds judgedOf gradeOf gradedOf appended erased missing row1 row2 row3 weighedOf ratioLevel row4 farApart isWeighedCategory row5 gradedRow oldNameRow hasShape multiplierOf thresholdLevel thresholdRow row12 every soundLine soundEmpty counted soundFilled soundItem soundLines soundSheet soundDesk soundLog fits stored openTo storedIfOpen keyStep keyOf
+unfolding sheetWith answerOf examples between other runOf all hasAt lower sameBy beginsFolded valueFrom closes isTail sizeOf unsignedOf readingOf isNumber mayBegin isReserved isBare isQuotedBy isQuoted isValue isUnassigned textOf items findFrom isCategory passes splitOf classOf kindAt isCount countOf termOf cut some sameSymbol placeOf symbols elementOf isElement notMetals isMetal weights weightIn weightOf allRecognised rank orderKey rising inOrder hasTerm formulaClass total sumOf bounds judgedOf gradeOf gradedOf appended erased missing row1 row2 row3 weighedOf ratioLevel row4 farApart isWeighedCategory row5 gradedRow oldNameRow hasShape multiplierOf thresholdLevel thresholdRow row12 every soundLine soundEmpty counted soundFilled soundItem soundLines soundSheet soundDesk countsOf soundLog fits sheetOfBench stored openTo storedIfOpen keyStep keyOf
 examples-hold = refl

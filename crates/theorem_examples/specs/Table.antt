@@ -1,5 +1,5 @@
 -- The examples that document 01 marks with [P], as one table ("Measured examples"), with those of document 02's requests, one of document 01's
--- "Errors a good programmer makes here", and two sequences in which an item has an owner (document 02, No. 8).
+-- "Errors a good programmer makes here", two sequences in which an item has an owner (document 02, No. 8), and one of both sheets (No. 9).
 -- `examples-hold`, in proofs/Hold.antt, is the one statement about it.
 -- Assumes nothing.
 use Prim.Native.Nat.{ℕ, _-_}
@@ -20,7 +20,8 @@ use Rattle.rows.specs.declared.Row.{Row}
 use Rattle.rows.specs.declared.Rows.{Rows}
 use Rattle.rows_levels.specs.Bounds.{gradedOf, gradedNumber, gradedLevel}
 use Rattle.rows_levels.specs.declared.Graded.{Graded}
-use Rattle.theorem_sequences.specs.Calls.{Call, key, ask, typing, Reply, keyed, reported, told, State}
+use Rattle.theorem_work.specs.Calls.{Call, key, ask, typing, Reply, keyed, reported, told}
+use Rattle.theorem_sequences.specs.Calls.{State}
 use Rattle.theorem_sequences.specs.Sequences.{deskAnswers, stateAfter}
 
 -- a value typed for an item
@@ -75,7 +76,7 @@ enterAnswers (p ∷ ps) = enterAnswer (p .0) (p .1) ++ enterAnswers ps
 -- what the desk's definitions answer: the sum, the level and reason of a row, the wall screen's answer and level, the used bytes of a log of 64, the answers of Enters
 unfoldable pub answerOf : Asked → List ℕ
 answerOf (sum formula) = summed (sumOf (bytes formula))
-answerOf (row n values) = rowNumbers (getD (rowsOf (record { items = sheetWith values; count = 1 }) .rows) (n - 1) (rowOf 9 9))
+answerOf (row n values) = rowNumbers (getD (rowsOf 0 (record { items = sheetWith values; count = 1 }) .rows) (n - 1) (rowOf 9 9))
 answerOf (graded n value) = gradedNumbers (gradedOf n (bytes value))
 answerOf (played cs) = usedBytes (stateAfter rowsOf noRows (replicate 64 0) cs)
 answerOf (enters len cs) = enterAnswers (deskAnswers rowsOf noRows (replicate len 0) cs)
@@ -145,4 +146,8 @@ examples =
     (0 ∷ 7 ∷ 9 ∷ 8 ∷ []) ∷
     -- the owner may write its item again: both records are bench 0's
     example (played (entering "_refine_ls_R_factor_gt ?" ++ (enteringAt 1 "_refine_ls_R_factor_gt 1" ++ entering "_refine_ls_R_factor_gt 2")))
-    (7 ∷ 0 ∷ 1 ∷ 0 ∷ 0 ∷ 4 ∷ 63 ∷ 7 ∷ 0 ∷ 1 ∷ 0 ∷ 0 ∷ 4 ∷ 50 ∷ []) ∷ []
+    (7 ∷ 0 ∷ 1 ∷ 0 ∷ 0 ∷ 4 ∷ 63 ∷ 7 ∷ 0 ∷ 1 ∷ 0 ∷ 0 ∷ 4 ∷ 50 ∷ []) ∷
+    -- document 02, No. 9: "Benches 0 and 1 fill sheet 0, benches 2 and 3 sheet 1", "ownership .. per sheet": item 4 of each sheet is of the first of its two benches
+    -- to enter it; the log is shared, and with 14 bytes it is full after two records, so that for bench 3 8 would apply too, and 9 stands before it
+    example (enters 14 (entering "_refine_ls_R_factor_gt 1" ++ (enteringAt 1 "_refine_ls_R_factor_gt 1" ++ (enteringAt 2 "_refine_ls_R_factor_gt 1" ++ enteringAt 3 "_refine_ls_R_factor_gt 1"))))
+    (0 ∷ 9 ∷ 0 ∷ 9 ∷ []) ∷ []

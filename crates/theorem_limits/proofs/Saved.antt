@@ -1,12 +1,13 @@
 -- "A desk saved by the old build is not taken over" (document 02, No. 6): its memory has another length.
 -- Assumes nothing.
-use mathlib.Core.Path.{_≡_, ap}
-use mathlib.Core.Bool.{false, cond, _&&_}
+use mathlib.Core.Path.{_≡_, refl, ap, _∙_}
+use mathlib.Core.Bool.{Bool, true, false, cond, _&&_}
 use mathlib.Core.List.{List}
 use Prim.Native.Nat.{ℕ}
 use lib.Dec.{eqb}
 use lib.ListN.{length}
-use Rattle.rows.specs.Rows.{noRows}
+use Rattle.desk_state.specs.Desks.{isSheet}
+use Rattle.rows.specs.Rows.{isProfile, noRows}
 use Rattle.desk_memory.specs.Memory.{textsLength, numbersLength, isDesk, deskOf}
 use Rattle.desk_questions.specs.Report.{Report, reportedAs, reportedOf, reportLent}
 use Rattle.desk_questions.specs.Who.{nobody, whoOf, whoLent}
@@ -17,25 +18,28 @@ no-desk : (t n : List ℕ) → SavedBefore t n → isDesk t n ≡ false
 unfolding isDesk
 no-desk t n s = ap (λ (m : ℕ). eqb m textsLength && eqb (length n) numbersLength) (s .texts)
 
-no-report : (t n : List ℕ) → isDesk t n ≡ false → reportLent t n ≡ reportedAs 2 noRows
-unfolding reportLent
-no-report t n e = simp e
+-- a choice between two refusals is a refusal with the number that is chosen
+chosen : {A : Type 0} (f : ℕ → A) (b : Bool) (x y : ℕ) → cond b (f x) (f y) ≡ f (cond b x y)
+chosen f true x y = refl
+chosen f false x y = refl
 
-no-who : (t n : List ℕ) (item : ℕ) → isDesk t n ≡ false → whoLent t n item ≡ nobody 2
-unfolding whoLent
-no-who t n item e = simp e
+module _ (t n : List ℕ) (e : isDesk t n ≡ false) (sheet : ℕ) where
+  no-report : (profile : ℕ) → reportLent t n sheet profile ≡ reportedAs (cond (isSheet sheet) (cond (isProfile profile) 2 21) 12) noRows
+  unfolding reportLent
+  no-report profile =
+      let f : ℕ → Report = λ a. reportedAs a noRows in
+      simp e (ap (λ (r : Report). cond (isSheet sheet) r (f 12)) (chosen f (isProfile profile) 2 21) ∙ chosen f (isSheet sheet) (cond (isProfile profile) 2 21) 12)
 
-no-file : (t n name out : List ℕ) → isDesk t n ≡ false → fileLent t n name out ≡ noFile 2 out
-unfolding fileLent
-no-file t n name out e = simp e
+  no-who : (item : ℕ) → whoLent t n sheet item ≡ nobody (cond (isSheet sheet) 2 12)
+  unfolding whoLent
+  no-who item = simp e (chosen nobody (isSheet sheet) 2 12)
 
--- every call answers 2 and changes nothing
+  no-file : (name out : List ℕ) → fileLent t n sheet name out ≡ noFile (cond (isSheet sheet) 2 12) out
+  unfolding fileLent
+  no-file name out = simp e (chosen (λ (a : ℕ). noFile a out) (isSheet sheet) 2 12)
+
+-- every call answers 2, or 12 where there is no such sheet and 21 where there is no such profile, and changes nothing
 pub saved-not-taken : (t n : List ℕ) → SavedBefore t n → NotTaken t n
 saved-not-taken t n s =
     let e = no-desk t n s in
-    record {
-      key = λ k. k .no-desk e;
-      report = no-report t n e;
-      who = λ item. no-who t n item e;
-      file = λ name out. no-file t n name out e;
-    }
+    record { key = λ k. k .no-desk e; report = no-report t n e; who = no-who t n e; file = no-file t n e }

@@ -12,8 +12,8 @@ use Rattle.line_reader.specs.Line.{splitOf, splitClass}
 use Rattle.line_reader.specs.declared.line.Class.{Class}
 use Rattle.line_reader.specs.declared.line.Class.the-variants.{BadForm}
 use Rattle.desk_log.specs.Record.{recordFits, recordLength}
-use Rattle.desk_state.specs.Desks.{benchCount}
-use Rattle.rows.specs.Rows.{noRows}
+use Rattle.desk_state.specs.Desks.{benchCount, isSheet}
+use Rattle.rows.specs.Rows.{isProfile, noRows}
 use Rattle.desk_keys.specs.Key.{After}
 use Rattle.desk_keys.specs.Lent.{KeyLent}
 use Rattle.desk_questions.specs.Report.{reportedAs, reportLent}
@@ -37,10 +37,10 @@ pub record SavedBefore (t n : List ℕ) : Type 0 where
   pub texts : length t ≡ (4 + 10) * oldMost
   pub numbers : length n ≡ 36
 
--- "A desk saved by the old build is not taken over": every call answers 2 (a key of no bench 1), and changes nothing
+-- "A desk saved by the old build is not taken over": every call answers 2 (a key of no bench 1; document 02, No. 9: of no sheet 12; No. 11: of no profile 21), and changes nothing
 pub record NotTaken (t n : List ℕ) : Type 0 where
   pub key : {log t′ n′ log′ : List ℕ} {bench byte a : ℕ} → KeyLent t n log bench byte a t′ n′ log′
       → (a ≡ cond (ltb bench benchCount) 2 1) × (t′ ≡ t) × (n′ ≡ n) × (log′ ≡ log)
-  pub report : reportLent t n ≡ reportedAs 2 noRows
-  pub who : (item : ℕ) → whoLent t n item ≡ nobody 2
-  pub file : (name out : List ℕ) → fileLent t n name out ≡ noFile 2 out
+  pub report : (sheet profile : ℕ) → reportLent t n sheet profile ≡ reportedAs (cond (isSheet sheet) (cond (isProfile profile) 2 21) 12) noRows
+  pub who : (sheet item : ℕ) → whoLent t n sheet item ≡ nobody (cond (isSheet sheet) 2 12)
+  pub file : (sheet : ℕ) (name out : List ℕ) → fileLent t n sheet name out ≡ noFile (cond (isSheet sheet) 2 12) out

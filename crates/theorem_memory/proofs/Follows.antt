@@ -9,16 +9,19 @@ use Rattle.rows.specs.Rows.{noRows}
 use Rattle.rows.specs.declared.Rows.{Rows}
 use Rattle.rows_sheet.specs.Sheet.{rowsOf}
 use Rattle.desk_state.specs.Sheets.{itemAt}
+use Rattle.desk_state.specs.Desks.{sheetAt}
 use Rattle.desk_state.specs.declared.desk.Desk.{Desk}
 use Rattle.desk_memory.specs.Memory.{isDesk, deskOf}
 use Rattle.desk_memory.proofs.Desks.{zeros-fresh, still-desk}
 use Rattle.desk_keys.specs.Key.{After}
 use Rattle.desk_questions.specs.Report.{Report, reportLent, reportedOf}
 use Rattle.desk_questions.specs.Who.{Who, whoLent, whoOf}
-use Rattle.theorem_sequences.specs.Calls.{Call, Reply, keyed, reported, told, State, stateOf, freshState, left, step, answered, final}
-use Rattle.theorem_sequences.specs.Logged.{recordsNaming}
+use Rattle.theorem_work.specs.Calls.{Call, Reply, keyed, reported, told, answered, final}
+use Rattle.theorem_work.specs.Work.{entriesOf}
+use Rattle.theorem_work.specs.Logged.{recordsNaming}
+use Rattle.theorem_work.specs.Owning.{OneOwner}
+use Rattle.theorem_sequences.specs.Calls.{State, stateOf, freshState, left, step}
 use Rattle.theorem_sequences.specs.Sequences.{workAfter}
-use Rattle.theorem_sequences.specs.Owning.{OneOwner}
 use Rattle.theorem_sequences.proofs.Desk.{desk-sequences, desk-one-owner, report-is}
 use Rattle.theorem_memory.specs.Runs.{Memory, stateIn, freshMemory, Lends, a-key, a-report, a-who, Run, done, call, MemorySequence}
 
@@ -36,11 +39,11 @@ one {m = m} {m′ = m′} d (a-key k) = record {
   kept = still-desk (m .texts) (m .numbers) (m′ .texts) (m′ .numbers) (k .same-length .0) (k .same-length .1) ∙ d;
   is = sym (ap (λ (x : After). (keyed (x .answer), left x)) (k .desk d));
 }
-one {m = m} d (a-report {r = r} e) =
-    let q : r ≡ reportedOf (deskOf (m .texts) (m .numbers)) = e ∙ simp d in
-    record { kept = d; is = ap (λ (x : Reply Rows). (x, stateIn m)) (report-is (deskOf (m .texts) (m .numbers)) ∙ sym (ap (λ (x : Report). reported (x .answer) (x .rows)) q)) }
-one {m = m} d (a-who {item = item} {r = r} e) =
-    let q : r ≡ whoOf (deskOf (m .texts) (m .numbers)) item = e ∙ simp d in
+one {m = m} d (a-report {sheet = sheet} {profile = profile} {r = r} e) =
+    let q : r ≡ reportedOf (deskOf (m .texts) (m .numbers)) sheet profile = e ∙ simp d in
+    record { kept = d; is = ap (λ (x : Reply Rows). (x, stateIn m)) (report-is (deskOf (m .texts) (m .numbers)) sheet profile ∙ sym (ap (λ (x : Report). reported (x .answer) (x .rows)) q)) }
+one {m = m} d (a-who {sheet = sheet} {item = item} {r = r} e) =
+    let q : r ≡ whoOf (deskOf (m .texts) (m .numbers)) sheet item = e ∙ simp d in
     record { kept = d; is = ap (λ (x : Who). (told x, stateIn m)) (sym q) }
 
 -- all calls
@@ -75,7 +78,9 @@ memory-demand-3 log {cs} run =
       answers = sym (r .0) ∙ ap (λ (s : State). answered (step rowsOf noRows) s cs) e;
       state = state;
       sequences = all;
-      logged = λ k some known. subst⁻¹ (λ (s : State). itemAt (s .desk .sheet) k .times ≡ recordsNaming k (take (s .used) (s .log))) state (all .logged k some known);
-      one-owner = λ k some known.
-          subst⁻¹ (λ (s : State). OneOwner (workAfter rowsOf noRows log cs .entries) k (itemAt (s .desk .sheet) k)) state (desk-one-owner log cs k some known);
+      logged = λ sheet k on some known.
+          subst⁻¹ (λ (s : State). itemAt (sheetAt (s .desk) sheet) k .times ≡ recordsNaming sheet k (take (s .used) (s .log))) state (all .logged sheet k on some known);
+      one-owner = λ sheet k on some known.
+          subst⁻¹ (λ (s : State). OneOwner (entriesOf sheet (workAfter rowsOf noRows log cs .entries)) k (itemAt (sheetAt (s .desk) sheet) k)) state
+          (desk-one-owner log cs sheet k on some known);
     }

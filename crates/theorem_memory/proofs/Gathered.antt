@@ -7,8 +7,9 @@ use Rattle.rows.specs.declared.Rows.{Rows}
 use Rattle.desk_memory.specs.Memory.{deskOf, usedOf}
 use Rattle.desk_memory.proofs.Desks.{zeros-fresh, desk-sized}
 use Rattle.desk_memory.proofs.Whole.{same-texts, same-numbers}
-use Rattle.theorem_sequences.specs.Calls.{Call, Reply, State}
-use Rattle.theorem_sequences.specs.Gather.{gather, gatherAnswered}
+use Rattle.theorem_work.specs.Calls.{Call, Reply}
+use Rattle.theorem_work.specs.Gather.{gather, gatherAnswered}
+use Rattle.theorem_sequences.specs.Calls.{State}
 use Rattle.theorem_memory.specs.Runs.{Memory, stateIn, freshMemory, Run, MemoryGathered}
 use Rattle.theorem_memory.proofs.Follows.{IsDesk, run-kept, memory-demand-3}
 

@@ -3,3 +3,4 @@ pub mod Follows
 pub mod Gathered
 pub mod Kept
 pub mod Trips
+pub mod Camps

@@ -3,10 +3,11 @@
 use mathlib.Core.Path.{_≡_}
 use mathlib.Core.Bool.{true}
 use mathlib.Core.List.{List, [], _∷_}
-use Prim.Native.Nat.{ℕ, _≤_}
+use Prim.Native.Nat.{ℕ, _≤_, _<_}
 use lib.ListN.{length, take, replicate}
 use Rattle.line_items.specs.Items.{itemCount}
 use Rattle.desk_state.specs.Sheets.{itemAt}
+use Rattle.desk_state.specs.Desks.{sheetCount, sheetOfBench, lineAt, sheetAt}
 use Rattle.rows.specs.Rows.{noRows}
 use Rattle.rows.specs.declared.Rows.{Rows}
 use Rattle.rows_sheet.specs.Sheet.{rowsOf}
@@ -16,10 +17,13 @@ use Rattle.desk_keys.specs.Lent.{KeyLent}
 use Rattle.desk_questions.specs.Report.{Report, reportLent}
 use Rattle.desk_questions.specs.Who.{Who, whoLent}
 use Rattle.desk_session.specs.Lent.{held}
-use Rattle.theorem_sequences.specs.Calls.{Call, key, ask, report, who, Reply, keyed, reported, told, State}
-use Rattle.theorem_sequences.specs.Gather.{gatherAnswered}
-use Rattle.theorem_sequences.specs.Logged.{recordsNaming}
-use Rattle.theorem_sequences.specs.Owning.{OneOwner}
+use Rattle.theorem_work.specs.Calls.{Call, key, ask, report, who, Reply, keyed, reported, told}
+use Rattle.theorem_work.specs.Gather.{gatherAnswered}
+use Rattle.theorem_work.specs.Work.{entriesOf}
+use Rattle.theorem_work.specs.Camps.{answersOf}
+use Rattle.theorem_work.specs.Logged.{recordsNaming}
+use Rattle.theorem_work.specs.Owning.{OneOwner}
+use Rattle.theorem_sequences.specs.Calls.{State}
 use Rattle.theorem_sequences.specs.Sequences.{Sequences, deskAnswers, stateAfter, workAfter}
 
 -- what is lent to a call
@@ -40,8 +44,9 @@ freshMemory log = record { texts = replicate textsLength 0; numbers = replicate 
 pub data Lends : Call → Memory → Reply Rows → Memory → Type 0 where
   a-key : {m m′ : Memory} {bench byte a : ℕ} → KeyLent (m .texts) (m .numbers) (m .log) bench byte a (m′ .texts) (m′ .numbers) (m′ .log)
       → Lends (key bench byte) m (keyed a) m′
-  a-report : {m : Memory} {r : Report} → r ≡ reportLent (m .texts) (m .numbers) → Lends (ask report) m (reported (r .answer) (r .rows)) m
-  a-who : {m : Memory} {item : ℕ} {r : Who} → r ≡ whoLent (m .texts) (m .numbers) item → Lends (ask (who item)) m (told r) m
+  a-report : {m : Memory} {sheet profile : ℕ} {r : Report} → r ≡ reportLent (m .texts) (m .numbers) sheet profile
+      → Lends (ask (report sheet profile)) m (reported (r .answer) (r .rows)) m
+  a-who : {m : Memory} {sheet item : ℕ} {r : Who} → r ≡ whoLent (m .texts) (m .numbers) sheet item → Lends (ask (who sheet item)) m (told r) m
 
 -- calls, "Each call gets the desk and log as the last one left them"
 pub data Run : Memory → List Call → List (Call × Reply Rows) → Memory → Type 0 where
@@ -54,16 +59,25 @@ pub record MemorySequence (log : List ℕ) (cs : List Call) (ps : List (Call × 
   pub answers : ps ≡ deskAnswers rowsOf noRows log cs
   pub state : stateIn m ≡ stateAfter rowsOf noRows log cs
   pub sequences : Sequences rowsOf noRows log cs
-  -- document 02, No. 7: "on any desk grown from a fresh one, its records in the used log", of the bytes that are lent
-  pub logged : (k : ℕ) → 1 ≤ k → k ≤ itemCount → itemAt (stateIn m .desk .sheet) k .times ≡ recordsNaming k (take (stateIn m .used) (m .log))
+  -- document 02, No. 7: "on any desk grown from a fresh one, its records in the used log", of the bytes that are lent; No. 9: its own
+  -- sheet's records
+  pub logged : (sheet k : ℕ) → sheet < sheetCount → 1 ≤ k → k ≤ itemCount
+      → itemAt (sheetAt (stateIn m .desk) sheet) k .times ≡ recordsNaming sheet k (take (stateIn m .used) (m .log))
   -- document 02, No. 8: each item that is lent is nobody's and empty, or holds its one owner
-  pub one-owner : (k : ℕ) → 1 ≤ k → k ≤ itemCount → OneOwner (workAfter rowsOf noRows log cs .entries) k (itemAt (stateIn m .desk .sheet) k)
+  pub one-owner : (sheet k : ℕ) → sheet < sheetCount → 1 ≤ k → k ≤ itemCount
+      → OneOwner (entriesOf sheet (workAfter rowsOf noRows log cs .entries)) k (itemAt (sheetAt (stateIn m .desk) sheet) k)
 
 -- demand 3 in bytes: calls run from zeros and a log, and the same calls gathered, from zeros and an equal log; every call gets the answer that it got before, and
 -- all bytes of desk and log are equal
 pub record MemoryGathered (ps : List (Call × Reply Rows)) (m : Memory) (qs : List (Call × Reply Rows)) (m′ : Memory) : Type 0 where
   pub gathered-answers : qs ≡ gatherAnswered ps
   pub gathered-memory : m′ ≡ m
+
+-- document 02, No. 9, of two runs from zeros and equal logs: "that camp's answers, sheet and lines are equal", in what the memory then holds
+pub record MemorySameForCamp (camp : ℕ) (ps : List (Call × Reply Rows)) (m : Memory) (qs : List (Call × Reply Rows)) (m′ : Memory) : Type 0 where
+  pub answers : answersOf camp ps ≡ answersOf camp qs
+  pub sheet : sheetAt (stateIn m .desk) camp ≡ sheetAt (stateIn m′ .desk) camp
+  pub lines : (bench : ℕ) → sheetOfBench bench ≡ camp → lineAt (stateIn m .desk) bench ≡ lineAt (stateIn m′ .desk) bench
 
 -- soundness is kept by a key call, for questions and for key calls
 pub record MemoryKept (t n log t′ n′ log′ : List ℕ) : Type 0 where

@@ -19,7 +19,6 @@ use Rattle.line_reader.specs.declared.line.Class.{Class}
 use Rattle.line_reader.specs.declared.line.Class.the-variants as class
 use Rattle.desk_log.specs.Record.{recordLength}
 use Rattle.desk_state.specs.Lines.{typed}
-use Rattle.desk_state.specs.Sheets.{itemAt}
 use Rattle.desk_state.specs.Desks.{benchCount, noLine, lineAt}
 use Rattle.desk_soundness.specs.Sound.{soundDesk}
 use Rattle.desk_soundness.specs.Wording.{Sound, SoundLine}
@@ -30,7 +29,8 @@ use Rattle.desk_state.specs.declared.line.Line.{Line}
 use Rattle.desk_state.specs.declared.sheet.Item.{Item}
 use Rattle.desk_state.specs.declared.desk.Desk.{Desk}
 use Rattle.desk_memory.specs.Memory.{isDesk, deskOf, usedOf}
-use Rattle.desk_keys.specs.Key.{After, stored, openTo, storedIfOpen, enteredAs, keyStep, keyOf}
+use Rattle.desk_entries.specs.Entry.{openTo, ownItem}
+use Rattle.desk_keys.specs.Key.{After, stored, storedIfOpen, enteredAs, keyStep, keyOf}
 use Rattle.desk_keys.specs.Lent.{KeyLent}
 use Rattle.theorem_refusals.specs.Table.{Answers, from}
 use Rattle.theorem_refusals.specs.KeyNumber.{enterNumber, byteNumber, keyNumber}
@@ -173,7 +173,7 @@ module _ (d : Desk) (used : ℕ) (log : List ℕ) (bench byte : ℕ) where
   l = lineAt d bench
 
   abbrev may : ℕ → Bool
-  may item = openTo (itemAt (d .sheet) item) bench
+  may item = openTo (ownItem d bench item) bench
 
   number-class : (c : Class) → enteredAs c d used log bench (typed l) .answer ≡ enterNumber c (typed l) may (length log - used)
   unfolding storedIfOpen stored
@@ -192,8 +192,8 @@ module _ (d : Desk) (used : ℕ) (log : List ℕ) (bench byte : ℕ) where
   pub key-table : Answers (deskTable d used log bench byte) (keyOf d used log bench byte .answer)
   key-table =
       subst⁻¹ (Answers (deskTable d used log bench byte)) number-is
-      (number-answers (Sound d × SoundWith d (length log) used) (typed l) (l .len) (λ item. HeldByAnother bench (itemAt (d .sheet) item)) (length log - used) bench byte
-      (soundDesk d && soundLog d (length log) used) (both-so (desk-so d) (log-so d (length log) used)) may (λ item. open-so (itemAt (d .sheet) item) bench)
+      (number-answers (Sound d × SoundWith d (length log) used) (typed l) (l .len) (λ item. HeldByAnother bench (ownItem d bench item)) (length log - used) bench byte
+      (soundDesk d && soundLog d (length log) used) (both-so (desk-so d) (log-so d (length log) used)) may (λ item. open-so (ownItem d bench item) bench)
       (λ h. line-ready d bench (h .0)))
 
 -- ---- the same of the desk in lent memory
@@ -206,7 +206,7 @@ module _ (t n log : List ℕ) (bench byte : ℕ) where
   line = typed (lineAt d bench)
 
   abbrev lentMay : ℕ → Bool
-  lentMay item = openTo (itemAt (d .sheet) item) bench
+  lentMay item = openTo (ownItem d bench item) bench
 
   module _ {a : ℕ} {t′ n′ log′ : List ℕ} (h : KeyLent t n log bench byte a t′ n′ log′) where
     lent-by : (b : Bool) → isDesk t n ≡ b
@@ -218,7 +218,7 @@ module _ (t n log : List ℕ) (bench byte : ℕ) where
     pub lent-key-table : Answers (lentTable t n log bench byte) a
     lent-key-table =
         subst⁻¹ (Answers (lentTable t n log bench byte)) (lent-by (isDesk t n) refl)
-        (number-answers (SoundLent t n × SoundWith d (length log) (usedOf n)) line (lineAt d bench .len) (λ item. HeldByAnother bench (itemAt (d .sheet) item)) (length log - usedOf n) bench byte
+        (number-answers (SoundLent t n × SoundWith d (length log) (usedOf n)) line (lineAt d bench .len) (λ item. HeldByAnother bench (ownItem d bench item)) (length log - usedOf n) bench byte
         ((isDesk t n && soundDesk d) && soundLog d (length log) (usedOf n)) (both-so (lent-so t n) (log-so d (length log) (usedOf n)))
-        lentMay (λ item. open-so (itemAt (d .sheet) item) bench)
+        lentMay (λ item. open-so (ownItem d bench item) bench)
         (λ s. line-ready d bench (s .0 .1)))

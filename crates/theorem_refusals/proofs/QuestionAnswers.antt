@@ -1,14 +1,16 @@
 -- Report and Who answer by their tables.
 -- Assumes nothing.
-use mathlib.Core.Path.{_≡_, refl, ap, _∙_, subst⁻¹}
+use mathlib.Core.Path.{_≡_, refl, ap, ap₂, _∙_, subst⁻¹}
 use mathlib.Core.Bool.{Bool, true, false, cond, _&&_}
 use mathlib.Core.Logic.{_↔_}
 use mathlib.Core.List.{List}
 use Prim.Native.Nat.{ℕ}
-use borrow.Author.Tests.{leb-true, le-leb}
+use borrow.Author.Tests.{leb-true, le-leb, ltb-true, lt-ltb}
 use lib.Dec.{leb, eqb}
 use Rattle.text.proofs.Bools.{and-both}
 use Rattle.line_items.specs.Items.{itemCount, isItem}
+use Rattle.desk_state.specs.Desks.{sheetCount, isSheet}
+use Rattle.rows.specs.Rows.{profileCount, isProfile}
 use Rattle.desk_memory.specs.Memory.{isDesk, deskOf}
 use Rattle.desk_soundness.specs.Sound.{soundDesk}
 use Rattle.desk_soundness.specs.Wording.{Sound}
@@ -20,28 +22,38 @@ use Rattle.theorem_refusals.specs.Table.{Answers}
 use Rattle.theorem_refusals.specs.Key.{SoundLent}
 use Rattle.theorem_refusals.specs.Questions.{reportTable, whoTable}
 use Rattle.theorem_refusals.proofs.Firsts.{First, this, next, answers, fails}
-use Rattle.theorem_refusals.proofs.Sounds.{desk-so, lent-so, cond-both}
+use Rattle.theorem_refusals.proofs.Sounds.{desk-so, lent-so, sheet-both}
 
 -- the numbers by tests, whatever says that the desk is sound
-module _ (Sound : Type 0) (sound : Bool) (is-sound : (sound ≡ true) ↔ Sound) where
-  report-by : (b : Bool) → sound ≡ b → First (reportTable Sound) (cond b 0 2)
-  report-by true e = next (λ n. n (is-sound .0 e)) refl
-  report-by false e = this (λ h. fails e (is-sound .1 h)) refl
+module _ (Sound : Type 0) (sound : Bool) (is-sound : (sound ≡ true) ↔ Sound) (sheet : ℕ) where
+  module _ (profile : ℕ) where
+    report-by : (a b c : Bool) → isSheet sheet ≡ a → isProfile profile ≡ b → sound ≡ c → First (reportTable Sound sheet profile) (cond a (cond b (cond c 0 2) 21) 12)
+    report-by true true true s p e = next (λ n. n (ltb-true sheet sheetCount s)) (next (λ n. n (ltb-true profile profileCount p)) (next (λ n. n (is-sound .0 e)) refl))
+    report-by true true false s p e =
+        next (λ n. n (ltb-true sheet sheetCount s)) (next (λ n. n (ltb-true profile profileCount p)) (this (λ h. fails e (is-sound .1 h)) refl))
+    report-by true false c s p e = next (λ n. n (ltb-true sheet sheetCount s)) (this (λ h. fails p (lt-ltb profile profileCount h)) refl)
+    report-by false b c s p e = this (λ h. fails s (lt-ltb sheet sheetCount h)) refl
 
-  report-number : Answers (reportTable Sound) (cond sound 0 2)
-  report-number = answers (reportTable Sound) (cond sound 0 2) refl (report-by sound refl)
+    report-number : Answers (reportTable Sound sheet profile) (cond (isSheet sheet) (cond (isProfile profile) (cond sound 0 2) 21) 12)
+    report-number =
+        answers (reportTable Sound sheet profile) (cond (isSheet sheet) (cond (isProfile profile) (cond sound 0 2) 21) 12) refl
+        (report-by (isSheet sheet) (isProfile profile) sound refl refl refl)
 
   module _ (item : ℕ) where
-    who-by : (b c : Bool) → sound ≡ b → isItem item ≡ c → First (whoTable Sound item) (cond b (cond c 0 6) 2)
-    who-by true true e f =
+    who-by : (a b c : Bool) → isSheet sheet ≡ a → sound ≡ b → isItem item ≡ c → First (whoTable Sound sheet item) (cond a (cond b (cond c 0 6) 2) 12)
+    who-by true true true s e f =
         let h = and-both (leb 1 item) (leb item itemCount) f in
-        next (λ n. n (is-sound .0 e)) (next (λ n. n (leb-true 1 item (h .0), leb-true item itemCount (h .1))) refl)
-    who-by true false e f =
-        next (λ n. n (is-sound .0 e)) (this (λ h. fails f (simp (le-leb 1 item (h .0), le-leb item itemCount (h .1)))) refl)
-    who-by false c e f = this (λ h. fails e (is-sound .1 h)) refl
+        next (λ n. n (ltb-true sheet sheetCount s)) (next (λ n. n (is-sound .0 e)) (next (λ n. n (leb-true 1 item (h .0), leb-true item itemCount (h .1))) refl))
+    who-by true true false s e f =
+        next (λ n. n (ltb-true sheet sheetCount s)) (next (λ n. n (is-sound .0 e))
+        (this (λ h. fails f (simp (le-leb 1 item (h .0), le-leb item itemCount (h .1)))) refl))
+    who-by true false c s e f = next (λ n. n (ltb-true sheet sheetCount s)) (this (λ h. fails e (is-sound .1 h)) refl)
+    who-by false b c s e f = this (λ h. fails s (lt-ltb sheet sheetCount h)) refl
 
-    who-number : Answers (whoTable Sound item) (cond sound (cond (isItem item) 0 6) 2)
-    who-number = answers (whoTable Sound item) (cond sound (cond (isItem item) 0 6) 2) refl (who-by sound (isItem item) refl refl)
+    who-number : Answers (whoTable Sound sheet item) (cond (isSheet sheet) (cond sound (cond (isItem item) 0 6) 2) 12)
+    who-number =
+        answers (whoTable Sound sheet item) (cond (isSheet sheet) (cond sound (cond (isItem item) 0 6) 2) 12) refl
+        (who-by (isSheet sheet) sound (isItem item) refl refl refl)
 
 -- ---- Report
 
@@ -49,13 +61,14 @@ report-cond : (b : Bool) (x y : Report) → cond b x y .answer ≡ cond b (x .an
 report-cond true x y = refl
 report-cond false x y = refl
 
-report-is : (d : Desk) → reportedOf d .answer ≡ cond (soundDesk d) 0 2
+report-is : (d : Desk) (sheet profile : ℕ) → reportedOf d sheet profile .answer ≡ cond (isSheet sheet) (cond (isProfile profile) (cond (soundDesk d) 0 2) 21) 12
 unfolding reportedOf
-report-is d = report-cond (soundDesk d) _ _
+report-is d sheet profile = simp report-cond
 
--- "on an unsound desk it gives 2"
-pub report-table : (d : Desk) → Answers (reportTable (Sound d)) (reportedOf d .answer)
-report-table d = subst⁻¹ (Answers (reportTable (Sound d))) (report-is d) (report-number (Sound d) (soundDesk d) (desk-so d))
+-- "12, no such sheet, before 2"; "21, no such profile, after 12 and before 2"; "on an unsound desk it gives 2"
+pub report-table : (d : Desk) (sheet profile : ℕ) → Answers (reportTable (Sound d) sheet profile) (reportedOf d sheet profile .answer)
+report-table d sheet profile =
+    subst⁻¹ (Answers (reportTable (Sound d) sheet profile)) (report-is d sheet profile) (report-number (Sound d) (soundDesk d) (desk-so d) sheet profile)
 
 -- ---- Who
 
@@ -72,35 +85,49 @@ told-accepted i = who-cond (eqb (i .len) 0) _ _ ∙ same (eqb (i .len) 0)
     same true = refl
     same false = refl
 
-who-is : (d : Desk) (item : ℕ) → whoOf d item .answer ≡ cond (soundDesk d) (cond (isItem item) 0 6) 2
+who-is : (d : Desk) (sheet item : ℕ) → whoOf d sheet item .answer ≡ cond (isSheet sheet) (cond (soundDesk d) (cond (isItem item) 0 6) 2) 12
 unfolding whoOf
-who-is d item = simp (who-cond, told-accepted)
+who-is d sheet item = simp (who-cond, told-accepted)
 
--- "2 if unsound, else 6 if not 1 to 10"
-pub who-table : (d : Desk) (item : ℕ) → Answers (whoTable (Sound d) item) (whoOf d item .answer)
-who-table d item = subst⁻¹ (Answers (whoTable (Sound d) item)) (who-is d item) (who-number (Sound d) (soundDesk d) (desk-so d) item)
+-- "12, no such sheet, before 2"; "2 if unsound, else 6 if not 1 to 10"
+pub who-table : (d : Desk) (sheet item : ℕ) → Answers (whoTable (Sound d) sheet item) (whoOf d sheet item .answer)
+who-table d sheet item = subst⁻¹ (Answers (whoTable (Sound d) sheet item)) (who-is d sheet item) (who-number (Sound d) (soundDesk d) (desk-so d) sheet item)
 
 -- ---- the same of the desk in lent memory
 
-module _ (t n : List ℕ) where
+module _ (t n : List ℕ) (sheet : ℕ) where
   abbrev d : Desk
   d = deskOf t n
 
   abbrev sound : Bool
   sound = isDesk t n && soundDesk d
 
-  lent-report-is : reportLent t n .answer ≡ cond sound 0 2
-  unfolding reportLent
-  lent-report-is = report-cond (isDesk t n) _ _ ∙ ap (λ (a : ℕ). cond (isDesk t n) a 2) (report-is d) ∙ cond-both (isDesk t n) (soundDesk d) 0 2
+  module _ (profile : ℕ) where
+    lent-report-is : reportLent t n sheet profile .answer ≡ cond (isSheet sheet) (cond (isProfile profile) (cond sound 0 2) 21) 12
+    unfolding reportLent
+    lent-report-is =
+        report-cond (isDesk t n) _ _
+        ∙ ap₂ (λ (a b : ℕ). cond (isDesk t n) a b) (report-is d sheet profile)
+        (report-cond (isSheet sheet) _ _ ∙ ap (λ (a : ℕ). cond (isSheet sheet) a 12) (report-cond (isProfile profile) _ _))
+        ∙ go (isSheet sheet)
+      where
+        go : (s : Bool)
+            → _≡_ {A = ℕ} (cond (isDesk t n) (cond s (cond (isProfile profile) (cond (soundDesk d) 0 2) 21) 12) (cond s (cond (isProfile profile) 2 21) 12))
+            (cond s (cond (isProfile profile) (cond sound 0 2) 21) 12)
+        go true = sheet-both (isDesk t n) (isProfile profile) (soundDesk d) 0 2 21
+        go false = sheet-both (isDesk t n) false (soundDesk d) 0 2 12
 
-  pub lent-report-table : Answers (reportTable (SoundLent t n)) (reportLent t n .answer)
-  lent-report-table = subst⁻¹ (Answers (reportTable (SoundLent t n))) lent-report-is (report-number (SoundLent t n) sound (lent-so t n))
+    pub lent-report-table : Answers (reportTable (SoundLent t n) sheet profile) (reportLent t n sheet profile .answer)
+    lent-report-table =
+        subst⁻¹ (Answers (reportTable (SoundLent t n) sheet profile)) lent-report-is (report-number (SoundLent t n) sound (lent-so t n) sheet profile)
 
   module _ (item : ℕ) where
-    lent-who-is : whoLent t n item .answer ≡ cond sound (cond (isItem item) 0 6) 2
+    lent-who-is : whoLent t n sheet item .answer ≡ cond (isSheet sheet) (cond sound (cond (isItem item) 0 6) 2) 12
     unfolding whoLent
     lent-who-is =
-        who-cond (isDesk t n) _ _ ∙ ap (λ (a : ℕ). cond (isDesk t n) a 2) (who-is d item) ∙ cond-both (isDesk t n) (soundDesk d) (cond (isItem item) 0 6) 2
+        who-cond (isDesk t n) _ _
+        ∙ ap₂ (λ (a b : ℕ). cond (isDesk t n) a b) (who-is d sheet item) (who-cond (isSheet sheet) _ _)
+        ∙ sheet-both (isDesk t n) (isSheet sheet) (soundDesk d) (cond (isItem item) 0 6) 2 12
 
-    pub lent-who-table : Answers (whoTable (SoundLent t n) item) (whoLent t n item .answer)
-    lent-who-table = subst⁻¹ (Answers (whoTable (SoundLent t n) item)) lent-who-is (who-number (SoundLent t n) sound (lent-so t n) item)
+    pub lent-who-table : Answers (whoTable (SoundLent t n) sheet item) (whoLent t n sheet item .answer)
+    lent-who-table = subst⁻¹ (Answers (whoTable (SoundLent t n) sheet item)) lent-who-is (who-number (SoundLent t n) sound (lent-so t n) sheet item)

@@ -24,7 +24,7 @@ desk-so d = (sound-is d, sound-taken d)
 pub lent-so : (t n : List ℕ) → ((isDesk t n && soundDesk (deskOf t n)) ≡ true) ↔ SoundLent t n
 lent-so t n = both-so (desk-sized t n, sized-desk t n) (desk-so (deskOf t n))
 
--- what is the same with either test failed
-pub cond-both : (a b : Bool) (x y : ℕ) → cond a (cond b x y) y ≡ cond (a && b) x y
-cond-both true b x y = refl
-cond-both false b x y = refl
+-- of a sheet that is there, what is the same with either test failed; z where it is not
+pub sheet-both : (a s b : Bool) (x y z : ℕ) → cond a (cond s (cond b x y) z) (cond s y z) ≡ cond s (cond (a && b) x y) z
+sheet-both true s b x y z = refl
+sheet-both false s b x y z = refl

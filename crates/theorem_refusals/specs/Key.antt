@@ -1,4 +1,4 @@
--- The table of a key call, row by row in the words of document 01 ("Keys and their refusals") and of document 02, No. 8. That it is what a key call answers
+-- The table of a key call, row by row in the words of document 01 ("Keys and their refusals") and of document 02, No. 8 and 9. That it is what a key call answers
 -- is `key-table`, of a desk in lent memory `lent-key-table` (proofs/KeyAnswers.antt).
 -- Assumes nothing.
 use Prim.Native.Nat.{ℕ, _-_, _≤_, _<_}
@@ -8,10 +8,10 @@ use lib.ListN.{length}
 use Rattle.line_items.specs.Typed.{lineMost}
 use Rattle.desk_log.specs.Record.{recordLength}
 use Rattle.desk_state.specs.Lines.{typed}
-use Rattle.desk_state.specs.Sheets.{itemAt}
 use Rattle.desk_state.specs.Desks.{benchCount, lineAt}
 use Rattle.desk_memory.specs.Memory.{Sized, deskOf, usedOf}
 use Rattle.desk_soundness.specs.Wording.{Sound, SoundWith}
+use Rattle.desk_entries.specs.Entry.{ownItem}
 use Rattle.desk_state.specs.declared.sheet.Item.{Item}
 use Rattle.desk_state.specs.declared.desk.Desk.{Desk}
 use Rattle.theorem_refusals.specs.Table.{Refusal, _when_}
@@ -47,7 +47,7 @@ module _ (Sound : Type 0) (line : List ℕ) (size : ℕ) (OfAnother : ℕ → Ty
       4 when (Appends byte × (size ≡ lineMost)) ∷
       -- "Enter: the line is not of the form below (the empty line too)"
       5 when Enter (BadForm line) ∷
-      -- "Enter: the name is none of the ten"
+      -- "Enter: the name is none of the ten"; document 02, No. 11 and 12: of the nineteen
       6 when Enter (UnknownName line) ∷
       -- "Enter: the value fails its item's kind"
       7 when Enter (WrongKind line) ∷
@@ -60,11 +60,11 @@ module _ (Sound : Type 0) (line : List ℕ) (size : ℕ) (OfAnother : ℕ → Ty
 abbrev pub HeldByAnother : ℕ → Item → Type 0
 HeldByAnother bench i = (1 ≤ i .len) × (i .bench ≡ bench → ⊥)
 
--- the table of a key call on a desk
+-- the table of a key call on a desk; the item is of the bench's own sheet (document 02, No. 9: "ownership and entry counts are per sheet")
 abbrev pub deskTable : Desk → ℕ → List ℕ → ℕ → ℕ → List Refusal
 deskTable d used log bench byte =
     keyTable (Sound d × SoundWith d (length log) used) (typed (lineAt d bench)) (lineAt d bench .len)
-    (λ item. HeldByAnother bench (itemAt (d .sheet) item)) (length log - used) bench byte
+    (λ item. HeldByAnother bench (ownItem d bench item)) (length log - used) bench byte
 
 -- memory of another length than a desk's is no desk, and so not a sound one
 abbrev pub SoundLent : List ℕ → List ℕ → Type 0
@@ -74,4 +74,4 @@ SoundLent t n = Sized t n × Sound (deskOf t n)
 abbrev pub lentTable : List ℕ → List ℕ → List ℕ → ℕ → ℕ → List Refusal
 lentTable t n log bench byte =
     keyTable (SoundLent t n × SoundWith (deskOf t n) (length log) (usedOf n)) (typed (lineAt (deskOf t n) bench)) (lineAt (deskOf t n) bench .len)
-    (λ item. HeldByAnother bench (itemAt (deskOf t n .sheet) item)) (length log - usedOf n) bench byte
+    (λ item. HeldByAnother bench (ownItem (deskOf t n) bench item)) (length log - usedOf n) bench byte

@@ -17,15 +17,15 @@ use Rattle.line_items.specs.Typed.{lineMost}
 use Rattle.line_kinds.specs.Kinds.{fits}
 use Rattle.desk_log.proofs.Records.{record-length}
 use Rattle.desk_state.specs.Sheets.{emptyItem, noItem, valueIn}
-use Rattle.desk_state.specs.Desks.{benchCount}
+use Rattle.desk_state.specs.Desks.{benchCount, sheetOfBench}
 use Rattle.desk_soundness.specs.Sound.{every, zeros, counted, soundFilled, soundItem}
 use Rattle.desk_soundness.specs.SoundLog.{logMost}
 use Rattle.desk_state.specs.declared.sheet.Item.{Item}
-use Rattle.theorem_sequences.specs.Calls.{key, typing}
-use Rattle.theorem_sequences.specs.Work.{Entry, recordsOf, lastOf}
-use Rattle.theorem_sequences.proofs.Choices.{cond-keeps}
+use Rattle.theorem_work.specs.Calls.{key, typing}
+use Rattle.theorem_work.specs.Work.{Entry, recordsOf, lastOf}
+use Rattle.theorem_work.proofs.Choices.{cond-keeps}
 use Rattle.theorem_sequences.proofs.LineLaws.{typed-lineOf}
-use Rattle.theorem_sequences.proofs.OwnerLaws.{OneBench}
+use Rattle.theorem_work.proofs.OwnerLaws.{OneBench}
 use Rattle.file_cif.specs.File.{itemLine}
 use Rattle.theorem_round_trip.specs.RoundTrip.{recordRoom, roomFor, filledCount}
 use Rattle.theorem_round_trip.proofs.Plays.{map-append, workOf, entryOf, Plays, plays-none, plays-then, line-plays}
@@ -40,13 +40,14 @@ withItems bench k [] es = es
 withItems bench k (i ∷ is) es = withItems bench (suc k) is (withItem bench k i es)
 
 -- the value of a filled item fits it
-pub filled-fits : (n j : ℕ) (i : Item) → eqb (i .len) 0 ≡ false → soundItem n j i ≡ true → fits (suc j) (valueIn i) ≡ true
+pub filled-fits : (s n j : ℕ) (i : Item) → eqb (i .len) 0 ≡ false → soundItem s n j i ≡ true → fits (suc j) (valueIn i) ≡ true
 unfolding soundItem soundFilled
-filled-fits n j i e h =
+filled-fits s n j i e h =
     let rest = zeros (drop (i .len) (i .value)) in
-    let g : soundFilled n (j + 1) i ≡ true = rw e at h in
+    let g : soundFilled s n (j + 1) i ≡ true = rw e at h in
     let g1 = and-both (ltb (i .bench) benchCount) _ g .1 in
-    let g2 = and-both (counted n (i .entry)) _ g1 .1 in
+    let camp = and-both (eqb (sheetOfBench (i .bench)) s) _ g1 .1 in
+    let g2 = and-both (counted n (i .entry)) _ camp .1 in
     let g3 = and-both (counted n (i .times)) _ g2 .1 in
     let g4 = and-both (leb (i .len) lineMost) _ g3 .1 in
     ap (λ (k : ℕ). fits k (valueIn i)) (sym (add-one j)) ∙ and-both (fits (j + 1) (valueIn i)) rest g4 .0
@@ -65,8 +66,8 @@ item-room bench k i es = go (eqb (i .len) 0) refl
 item-alone : (bench k : ℕ) (i : Item) (es : List Entry) → OneBench bench es → OneBench bench (withItem bench k i es)
 item-alone bench k i es alone = cond-keeps (OneBench bench) (eqb (i .len) 0) es (entryOf bench k (valueIn i) ∷ es) (λ e. alone) (λ e. (refl, alone))
 
-module _ (len bench : ℕ) (there : bench < benchCount) (small : len ≤ logMost) (n : ℕ) where
-  item-plays : (i : Item) (j : ℕ) (es : List Entry) → OneBench bench es → j < itemCount → soundItem n j i ≡ true
+module _ (len bench : ℕ) (there : bench < benchCount) (small : len ≤ logMost) (s n : ℕ) where
+  item-plays : (i : Item) (j : ℕ) (es : List Entry) → OneBench bench es → j < itemCount → soundItem s n j i ≡ true
       → length (recordsOf es) + recordRoom i ≤ len
       → Plays len (workOf bench [] es) (typing bench (itemLine (suc j) i)) (workOf bench [] (withItem bench (suc j) i es))
   unfolding itemLine
@@ -74,14 +75,14 @@ module _ (len bench : ℕ) (there : bench < benchCount) (small : len ≤ logMost
     where
       go : (t : Bool) → eqb (i .len) 0 ≡ t → Plays len (workOf bench [] es) (typing bench (itemLine (suc j) i)) (workOf bench [] (withItem bench (suc j) i es))
       go true e = rw e (plays-none len (workOf bench [] es))
-      go false e = rw e (line-plays len bench there small (suc j) (valueIn i) es alone (omega arith) known (filled-fits n j i e h) (rw e at room))
+      go false e = rw e (line-plays len bench there small (suc j) (valueIn i) es alone (omega arith) known (filled-fits s n j i e h) (rw e at room))
 
-  pub items-play : (is : List Item) (j : ℕ) (es : List Entry) → OneBench bench es → j + length is ≤ itemCount → every (soundItem n) j is ≡ true → length (recordsOf es) + roomFor is ≤ len
+  pub items-play : (is : List Item) (j : ℕ) (es : List Entry) → OneBench bench es → j + length is ≤ itemCount → every (soundItem s n) j is ≡ true → length (recordsOf es) + roomFor is ≤ len
       → Plays len (workOf bench [] es) (typing bench (linesFrom itemLine (suc j) is)) (workOf bench [] (withItems bench (suc j) is es))
   unfolding every linesFrom
   items-play [] j es alone known h room = plays-none len (workOf bench [] es)
   items-play (i ∷ is) j es alone known h room =
-      let k = and-both (soundItem n j i) (every (soundItem n) (suc j) is) h in
+      let k = and-both (soundItem s n j i) (every (soundItem s n) (suc j) is) h in
       let fs = withItem bench (suc j) i es in
       let m = item-room bench (suc j) i es in
       let first = item-plays i j es alone (omega arith) (k .0) (omega arith) in
@@ -89,6 +90,10 @@ module _ (len bench : ℕ) (there : bench < benchCount) (small : len ≤ logMost
       rw (map-append (key bench) (itemLine (suc j) i) (linesFrom itemLine (suc (suc j)) is))
       (plays-then len (typing bench (itemLine (suc j) i)) (typing bench (linesFrom itemLine (suc (suc j)) is)) (workOf bench [] es) (workOf bench [] fs)
       (workOf bench [] (withItems bench (suc (suc j)) is fs)) first rest)
+
+pub items-alone : (bench k : ℕ) (is : List Item) (es : List Entry) → OneBench bench es → OneBench bench (withItems bench k is es)
+items-alone bench k [] es alone = alone
+items-alone bench k (i ∷ is) es alone = items-alone bench (suc k) is (withItem bench k i es) (item-alone bench k i es alone)
 
 -- ---- the count
 

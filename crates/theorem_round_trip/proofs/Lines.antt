@@ -14,6 +14,7 @@ use Rattle.text_copies.specs.Each.{linesFrom}
 use Rattle.text.proofs.Bools.{and-both}
 use Rattle.text.proofs.Runs.{all-append, all-lack, run-append, run-none}
 use Rattle.desk_soundness.specs.Sound.{soundDesk}
+use Rattle.desk_state.specs.Desks.{isSheet, sheetAt}
 use Rattle.desk_state.specs.declared.desk.Desk.{Desk}
 use Rattle.file_block_name.specs.Block.{blockMost, isBlockByte, isBlockName}
 use Rattle.file_cif.specs.File.{itemLine, fileOf}
@@ -47,28 +48,31 @@ not-refused true x a out n e = (refl, refl)
 not-refused false x a out n e = absurd (n e)
 
 -- what is known where the file was written
-pub record IsWritten (d : Desk) (name : List ℕ) (a : Filing) : Type 0 where
+pub record IsWritten (d : Desk) (sheet : ℕ) (name : List ℕ) (a : Filing) : Type 0 where
   pub sound : soundDesk d ≡ true
   pub block : isBlockName name ≡ true
-  pub file : filedBytes a ≡ fileOf name (d .sheet)
+  pub file : filedBytes a ≡ fileOf name (sheetAt d sheet)
 
-pub is-written : (d : Desk) (name out : List ℕ) → fileStep d name out .answer ≡ 0 → IsWritten d name (fileStep d name out)
+pub is-written : (d : Desk) (sheet : ℕ) (name out : List ℕ) → fileStep d sheet name out .answer ≡ 0 → IsWritten d sheet name (fileStep d sheet name out)
 unfolding fileStep
-is-written d name out h =
-    let file = fileOf name (d .sheet) in
+is-written d sheet name out h =
+    let file = fileOf name (sheetAt d sheet) in
     let second = cond (isBlockName name) (fileWithin file out) (noFile 11 out) in
-    let s = not-refused (soundDesk d) second 2 out (λ e. omega arith) h in
-    let h1 = ap (λ (a : Filing). a .answer) (sym (s .1)) ∙ h in
+    let on = not-refused (isSheet sheet) (cond (soundDesk d) second (noFile 2 out)) 12 out (λ e. omega arith) h in
+    let h0 = ap (λ (a : Filing). a .answer) (sym (on .1)) ∙ h in
+    let s = not-refused (soundDesk d) second 2 out (λ e. omega arith) h0 in
+    let h1 = ap (λ (a : Filing). a .answer) (sym (s .1)) ∙ h0 in
     let b = not-refused (isBlockName name) (fileWithin file out) 11 out (λ e. omega arith) h1 in
     let h2 = ap (λ (a : Filing). a .answer) (sym (b .1)) ∙ h1 in
     let r = not-refused (leb (length file) (length out)) (wholeFile file out) 10 out (λ e. omega arith) h2 in
     record {
       sound = s .0;
       block = b .0;
-      file = ap filedBytes (s .1 ∙ b .1 ∙ r .1) ∙ take-at file (drop (length file) out) (length file) refl;
+      file = ap filedBytes (on .1 ∙ s .1 ∙ b .1 ∙ r .1) ∙ take-at file (drop (length file) out) (length file) refl;
     }
 
 -- the item lines of a written file
-pub written-lines : (d : Desk) (name : List ℕ) (a : Filing) → IsWritten d name a → itemLines (filedBytes a) ≡ linesFrom itemLine 1 (d .sheet .items)
+pub written-lines : (d : Desk) (sheet : ℕ) (name : List ℕ) (a : Filing) → IsWritten d sheet name a → itemLines (filedBytes a) ≡ linesFrom itemLine 1 (sheetAt d sheet .items)
 unfolding fileOf
-written-lines d name a w = ap itemLines (w .file) ∙ after-line (bytes "data_" ++ name) (linesFrom itemLine 1 (d .sheet .items)) (block-line name (w .block))
+written-lines d sheet name a w =
+    ap itemLines (w .file) ∙ after-line (bytes "data_" ++ name) (linesFrom itemLine 1 (sheetAt d sheet .items)) (block-line name (w .block))

@@ -25,12 +25,13 @@ use Rattle.desk_log.specs.Record.{recordLength}
 use Rattle.desk_state.specs.Desks.{benchCount}
 use Rattle.desk_soundness.specs.SoundLog.{logMost}
 use Rattle.rows_sheet.specs.Sheet.{rowsOf}
+use Rattle.rows.specs.Rows.{noRows}
 use Rattle.rows.specs.declared.Rows.{Rows}
-use Rattle.theorem_sequences.specs.Calls.{Call, key, Reply, keyed, answered, final, typing}
-use Rattle.theorem_sequences.specs.Work.{Entry, Work, typedBy, recordsOf, tableAnswer, textAfter, withEntryOf, entriesAfter, workStep}
-use Rattle.theorem_sequences.proofs.Choices.{and-true-true}
-use Rattle.theorem_sequences.proofs.OwnerLaws.{OneBench, one-bench-may}
-use Rattle.theorem_sequences.proofs.Gathering.{answered-append, final-append}
+use Rattle.theorem_work.specs.Calls.{Call, key, Reply, keyed, answered, final, typing}
+use Rattle.theorem_work.specs.Work.{Entry, Work, typedBy, recordsOf, tableAnswer, textAfter, withEntryOf, entriesAfter, workStep}
+use Rattle.theorem_work.proofs.Choices.{and-true-true}
+use Rattle.theorem_work.proofs.OwnerLaws.{OneBench, one-bench-may, one-bench-sheet}
+use Rattle.theorem_work.proofs.Gathering.{answered-append, final-append}
 use Rattle.file_cif.specs.File.{ended, itemText}
 use Rattle.theorem_round_trip.proofs.Fitting.{fitting}
 
@@ -50,7 +51,7 @@ entryOf bench k v = record { bench = bench; item = k; value = v; line = itemText
 
 module _ (len : ℕ) where
   abbrev play : Call → Work → Reply Rows × Work
-  play = workStep rowsOf len
+  play = workStep rowsOf noRows len
 
   abbrev said : Work → List Call → List (Reply Rows)
   said w cs = map (λ p. p .1) (answered play w cs)
@@ -126,7 +127,7 @@ module _ (len : ℕ) where
     enter-plays p k s es alone c room =
         let u = length (recordsOf es) in
         key-plays p [] es (record { bench = bench; item = k; value = drop s p; line = p } ∷ es) 10
-        (rw (lt-ltb bench benchCount there, le-leb len logMost small, c, one-bench-may es k bench alone, le-leb (recordLength (drop s p)) (len - u) (omega arith)))
+        (rw (lt-ltb bench benchCount there, le-leb len logMost small, c, one-bench-sheet es bench alone, one-bench-may es k bench alone, le-leb (recordLength (drop s p)) (len - u) (omega arith)))
         refl
         (ap (λ (x : Class). withEntryOf x bench p es) c)
 

@@ -17,18 +17,18 @@ use Rattle.theorem_round_trip.specs.RoundTrip.{recordRoom, roomFor}
 use Rattle.theorem_round_trip.proofs.Fitting.{fitting}
 use Rattle.theorem_round_trip.proofs.Items.{filled-fits}
 
-item-most : (n j : ℕ) (i : Item) → soundItem n j i ≡ true → recordRoom i ≤ headLength + lineMost
-item-most n j i h = go (eqb (i .len) 0) refl
+item-most : (s n j : ℕ) (i : Item) → soundItem s n j i ≡ true → recordRoom i ≤ headLength + lineMost
+item-most s n j i h = go (eqb (i .len) 0) refl
   where
     go : (t : Bool) → eqb (i .len) 0 ≡ t → recordRoom i ≤ headLength + lineMost
     go true e = rw e (omega arith)
-    go false e = let g = fitting (suc j) (valueIn i) (filled-fits n j i e h) in rw e (omega (arith, g .short))
+    go false e = let g = fitting (suc j) (valueIn i) (filled-fits s n j i e h) in rw e (omega (arith, g .short))
 
-pub room-most : (n j : ℕ) (is : List Item) → every (soundItem n) j is ≡ true → roomFor is ≤ (headLength + lineMost) * length is
+pub room-most : (s n j : ℕ) (is : List Item) → every (soundItem s n) j is ≡ true → roomFor is ≤ (headLength + lineMost) * length is
 unfolding every
-room-most n j [] h = omega arith
-room-most n j (i ∷ is) h =
-    let k = and-both (soundItem n j i) (every (soundItem n) (suc j) is) h in
-    let first = item-most n j i (k .0) in
-    let rest = room-most n (suc j) is (k .1) in
+room-most s n j [] h = omega arith
+room-most s n j (i ∷ is) h =
+    let k = and-both (soundItem s n j i) (every (soundItem s n) (suc j) is) h in
+    let first = item-most s n j i (k .0) in
+    let rest = room-most s n (suc j) is (k .1) in
     omega arith

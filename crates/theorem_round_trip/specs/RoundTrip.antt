@@ -1,8 +1,9 @@
 -- The round trip of the CIF file (document 02, No. 1): "Type the item lines into a fresh desk from one bench, with room in the log, and every value is
--- there again." `RoundTrip d file bench log` is the claim about a desk and its file; that it holds of every file that is written is `round-trip`, in
--- proofs/Trip.antt. The file's bytes are read in specs/File.antt of file_cif, the calls and the fresh desk in specs/Calls.antt of theorem_sequences.
+-- there again." `RoundTrip s file bench log` is the claim about a sheet and its file; that it holds of every file that is written is `round-trip`, in
+-- proofs/Trip.antt. Document 02, No. 9: the file is one sheet's, and the bench fills its own. The file's bytes are read in specs/File.antt of file_cif, the calls
+-- in specs/Calls.antt of theorem_work, the fresh desk in that of theorem_sequences.
 -- Assumes nothing.
-use Prim.Native.Nat.{ℕ, _+_, _≤_}
+use Prim.Native.Nat.{ℕ, _+_, _≤_, _<_}
 use mathlib.Core.Path.{_≡_}
 use mathlib.Core.Bool.{cond}
 use mathlib.Core.List.{List, [], _∷_, map}
@@ -11,14 +12,16 @@ use lib.ListN.{length, take, drop, replicate}
 use Rattle.text.specs.Run.{runOf, other}
 use Rattle.line_items.specs.Items.{itemCount}
 use Rattle.desk_state.specs.Sheets.{itemAt, valueIn}
+use Rattle.desk_state.specs.Desks.{sheetCount, sheetOfBench, sheetAt}
 use Rattle.desk_state.specs.declared.sheet.Item.{Item}
-use Rattle.desk_state.specs.declared.desk.Desk.{Desk}
+use Rattle.desk_state.specs.declared.sheet.Sheet.{Sheet}
 use Rattle.desk_log.specs.Record.{recordLength}
 use Rattle.rows.specs.Rows.{noRows}
 use Rattle.rows_sheet.specs.Sheet.{rowsOf}
 use Rattle.rows.specs.declared.Rows.{Rows}
 use Rattle.file_cif.specs.Answers.{Filing}
-use Rattle.theorem_sequences.specs.Calls.{Call, typing, Reply, keyed, State}
+use Rattle.theorem_work.specs.Calls.{Call, typing, Reply, keyed}
+use Rattle.theorem_sequences.specs.Calls.{State}
 use Rattle.theorem_sequences.specs.Sequences.{deskAnswers, stateAfter}
 
 -- "the item lines": all that follows a file's first line, which byte 10 ends
@@ -54,10 +57,15 @@ replies log cs = map (λ p. p .1) (deskAnswers rowsOf noRows log cs)
 abbrev pub endOf : List ℕ → List Call → State
 endOf log cs = stateAfter rowsOf noRows log cs
 
-pub record RoundTrip (d : Desk) (file : List ℕ) (bench : ℕ) (log : List ℕ) : Type 0 where
+-- the bench's own sheet after these calls
+abbrev pub ownSheet : List ℕ → ℕ → List Call → Sheet
+ownSheet log bench cs = sheetAt (endOf log cs .desk) (sheetOfBench bench)
+
+pub record RoundTrip (s : Sheet) (file : List ℕ) (bench : ℕ) (log : List ℕ) : Type 0 where
   -- every key is accepted, each line's Enter among them
   pub accepted : replies log (lineKeys bench file) ≡ replicate (length (lineKeys bench file)) (keyed 0)
   -- "every value is there again", and an item that was empty is empty
-  pub values : (k : ℕ) → 1 ≤ k → k ≤ itemCount → valueIn (itemAt (endOf log (lineKeys bench file) .desk .sheet) k) ≡ valueIn (itemAt (d .sheet) k)
+  pub values : (k : ℕ) → 1 ≤ k → k ≤ itemCount → valueIn (itemAt (ownSheet log bench (lineKeys bench file)) k) ≡ valueIn (itemAt s k)
   -- one entry for each filled item, and no other
-  pub count : endOf log (lineKeys bench file) .desk .sheet .count ≡ filledCount (d .sheet .items)
+  pub count : ownSheet log bench (lineKeys bench file) .count ≡ filledCount (s .items)
+  pub elsewhere : (other : ℕ) → other < sheetCount → (sheetOfBench bench ≡ other → ⊥) → sheetAt (endOf log (lineKeys bench file) .desk) other .count ≡ 0

@@ -1,15 +1,14 @@
 -- Desk and log follow the work, call by call: they are a function of it.
 -- Assumes nothing.
-use mathlib.Core.Path.{_≡_, refl, sym, ap, ap₂, _∙_}
+use mathlib.Core.Path.{_≡_, refl, sym, ap, _∙_}
 use mathlib.Core.Bool.{Bool, true, false, cond, _&&_, and-true}
 use mathlib.Core.List.{List, [], _∷_, _++_, map, append-assoc}
-use Prim.Native.Nat.{ℕ, zero, suc, _+_, _-_, _*_, _≤_, _<_}
-use native.Mathlib.Nat.{add-zero, add-suc, suc-add, zero-add}
-use native.Mathlib.Numerals.{add-one}
+use Prim.Native.Nat.{ℕ, suc, _+_, _-_, _*_, _≤_, _<_}
+use native.Mathlib.Nat.{zero-add}
 use native.Mathlib.Omega.{arith}
-use borrow.Author.Tests.{ltb-true, ltb-false, leb-true, le-leb, ne-eqb, eq-eqb, eqb-true}
+use borrow.Author.Tests.{ltb-true, leb-true, le-leb, ne-eqb, eqb-true}
 use lib.Dec.{ltb, leb, eqb}
-use lib.ListN.{length, getD, take, drop, set, length-append, length-drop, length-map, List·getD-eq-default}
+use lib.ListN.{length, take, drop, set, length-append, length-drop, length-map}
 use lib.Seq.{take-at, drop-append-add, drop-drop}
 use Rattle.text.specs.Run.{between}
 use Rattle.text.proofs.Bools.{and-both}
@@ -22,35 +21,41 @@ use Rattle.line_reader.proofs.Entries.{entry-is}
 use Rattle.desk_log.specs.Record.{recordLength, recordOf}
 use Rattle.desk_log.proofs.Records.{record-length}
 use Rattle.desk_state.specs.Lines.{typed, lineOf, emptyLine, appended, erased}
-use Rattle.desk_state.specs.Sheets.{filled, noItem, itemAt}
-use Rattle.desk_state.specs.Desks.{benchCount, noLine, lineAt}
-use Rattle.desk_soundness.specs.Sound.{soundItem, soundSheet, soundLines, soundDesk}
-use Rattle.desk_soundness.specs.SoundLog.{logMost, soundLog}
+use Rattle.desk_state.specs.Sheets.{noItem, itemAt}
+use Rattle.desk_state.specs.Desks.{benchCount, sheetCount, sheetOfBench, isSheet, noLine, lineAt, noSheet, sheetAt}
+use Rattle.rows.specs.Rows.{isProfile}
+use Rattle.desk_soundness.specs.Sound.{soundItem, soundSheet, soundLines, soundSheets, soundDesk}
+use Rattle.desk_soundness.specs.SoundLog.{logMost, countsOf, entryCount, soundLog}
 use Rattle.desk_state.specs.declared.line.Line.{Line}
 use Rattle.desk_state.specs.declared.sheet.Item.{Item}
 use Rattle.desk_state.specs.declared.sheet.Sheet.{Sheet}
 use Rattle.desk_state.specs.declared.desk.Desk.{Desk}
 use Rattle.desk_soundness.proofs.Everys.{every-each}
-use Rattle.desk_keys.specs.Key.{After, refused, edited, entered, stored, openTo, storedIfOpen, enteredAs, keyStep, keyOf}
+use Rattle.desk_entries.specs.Entry.{openTo, ownItem}
+use Rattle.desk_keys.specs.Key.{After, refused, edited, entered, stored, storedIfOpen, enteredAs, keyStep, keyOf}
 use Rattle.desk_questions.specs.Who.{Who, nobody, toldOf, whoOf}
-use Rattle.theorem_sequences.specs.Calls.{report, who, Call, key, ask, keyed, reported, told, State, left, reportOf, step}
+use Rattle.theorem_work.specs.Calls.{Call, key, ask, report, who, Reply, keyed, reported, told}
+use Rattle.theorem_sequences.specs.Calls.{State, left, reportOf, step}
 use Rattle.theorem_refusals.specs.KeyNumber.{enterNumber, byteNumber}
-use Rattle.theorem_sequences.specs.Work.{Entry, Work, typedBy, recordsOf, timesOf, lastOf, itemsFrom, sheetOf, mayWrite, tableAnswer, accepts, editedText, withEntryOf, entriesAfter, keyAnswer, keyWork, lastTold, whoLast, workStep}
+use Rattle.theorem_work.specs.Work.{Entry, Work, typedBy, recordsOf, entriesOf, timesOf, lastOf, sheetOf, mayWrite, tableAnswer, accepts, editedText, keyAnswer, keyWork, lastTold, whoLast, whoOn, reportOn, workStep}
 use Rattle.theorem_sequences.specs.Shaped.{Shaped}
-use Rattle.theorem_sequences.proofs.Choices.{cond-sim, cond-true, cond-keeps}
+use Rattle.theorem_work.proofs.Choices.{cond-sim, cond-true}
 use Rattle.theorem_sequences.proofs.Lists.{map-set, getD-map}
 use Rattle.theorem_sequences.proofs.LineLaws.{sound-canonical, typed-lineOf, appended-lineOf, erased-lineOf, shorter}
 use Rattle.theorem_sequences.proofs.ItemLaws.{filled-some}
 use Rattle.theorem_sequences.proofs.Kept.{Keeps, key-keeps, line-sound}
-use Rattle.theorem_sequences.proofs.WorkLaws.{refused-work}
-use Rattle.theorem_sequences.proofs.Times.{held-times, six, Fitting}
-use Rattle.theorem_sequences.proofs.OwnerLaws.{Rightful, open-to, key-rightful}
-use Rattle.theorem_sequences.proofs.Simulation.{Follows}
+use Rattle.theorem_work.proofs.WorkLaws.{refused-work}
+use Rattle.desk_entries.proofs.Camps.{sheet-in}
+use Rattle.theorem_work.proofs.Times.{six, both-counts}
+use Rattle.theorem_work.proofs.Grown.{Grown, key-grown}
+use Rattle.theorem_sequences.proofs.HeldOwners.{open-to}
+use Rattle.theorem_sequences.proofs.Sheets.{item-at, sheetsOf, sheet-at, sheets-more}
+use Rattle.theorem_work.proofs.Simulation.{Follows}
 
 -- ---- the desk, the used number and the log of a work
 
 abbrev pub deskOf : Work → Desk
-deskOf w = record { lines = map lineOf (w .typed); sheet = sheetOf (w .entries) }
+deskOf w = record { lines = map lineOf (w .typed); sheets = sheetsOf (w .entries) }
 
 abbrev pub logOf : List ℕ → List Entry → List ℕ
 logOf log es = recordsOf es ++ drop (length (recordsOf es)) log
@@ -67,8 +72,7 @@ pub record Good (log : List ℕ) (w : Work) : Type 0 where
   pub shape : Shaped (deskOf w)
   pub sound : soundDesk (deskOf w) ≡ true
   pub room : length (recordsOf (w .entries)) ≤ length log
-  pub fitting : Fitting (w .entries)
-  pub rightful : Rightful (w .entries)
+  pub grown : Grown w
 
 pub log-length : (log : List ℕ) (es : List Entry) → length (recordsOf es) ≤ length log → length (logOf log es) ≡ length log
 log-length log es h = simp (length-append, length-drop) (omega arith)
@@ -76,62 +80,33 @@ log-length log es h = simp (length-append, length-drop) (omega arith)
 -- of the log's part of soundness only its length is in question
 pub log-sound : (log : List ℕ) (w : Work) → Good log w
     → soundLog (deskOf w) (length (logOf log (w .entries))) (length (recordsOf (w .entries))) ≡ leb (length log) logMost
-unfolding soundLog
+unfolding soundLog countsOf
 log-sound log w g =
     let u = length (recordsOf (w .entries)) in
-    rw (log-length log (w .entries) (g .room), le-leb u (length log) (g .room), le-leb (6 * length (w .entries)) u (six (w .entries)))
+    let counted : 6 * entryCount (deskOf w) ≤ u = omega (arith, both-counts (w .entries) (g .grown .benches), six (w .entries)) in
+    rw (log-length log (w .entries) (g .room), le-leb u (length log) (g .room), le-leb (6 * entryCount (deskOf w)) u counted)
     (and-true (leb (length log) logMost))
 
--- ---- the sheet
+-- ---- the sheets
 
-items-same : (n k : ℕ) (f g : ℕ → Item) → ((i : ℕ) → k ≤ i → f i ≡ g i) → itemsFrom f k n ≡ itemsFrom g k n
-items-same zero k f g h = refl
-items-same (suc n) k f g h = ap₂ (λ x xs. x ∷ xs) (h k (omega arith)) (items-same n (suc k) f g (λ i p. h i (omega arith)))
-
-items-set : (n k j : ℕ) (f g : ℕ → Item) → ((i : ℕ) → (i ≡ k + j → ⊥) → f i ≡ g i) → set (itemsFrom f k n) j (g (k + j)) ≡ itemsFrom g k n
-items-set zero k j f g h = refl
-items-set (suc n) k zero f g h = ap₂ (λ x xs. x ∷ xs) (ap g (add-zero k)) (items-same n (suc k) f g (λ i p. h i (omega arith)))
-items-set (suc n) k (suc j) f g h =
-    ap₂ (λ x xs. x ∷ xs) (h k (omega arith))
-    (ap (λ m. set (itemsFrom f (suc k) n) j (g m)) (add-suc k j ∙ sym (suc-add k j))
-    ∙ items-set n (suc k) j f g (λ i p. h i (λ q. p (omega arith))))
-
-items-at : (n k j : ℕ) (f : ℕ → Item) → j < n → getD (itemsFrom f k n) j noItem ≡ f (k + j)
-items-at zero k j f h = absurd (let z : j < 0 = h in omega arith)
-items-at (suc n) k zero f h = ap f (sym (add-zero k))
-items-at (suc n) k (suc j) f h = items-at n (suc k) j f (omega arith) ∙ ap f (suc-add k j ∙ sym (add-suc k j))
-
--- a sheet of entries holds, at each item, the last that names it
-pub item-at : (es : List Entry) (k : ℕ) → 1 ≤ k → k ≤ itemCount → itemAt (sheetOf es) k ≡ lastOf es k
-item-at es k some known = items-at itemCount 1 (k - 1) (lastOf es) (omega arith) ∙ ap (lastOf es) (let e : 1 + (k - 1) ≡ k = omega arith in e)
-
-sheet-more : (e : Entry) (es : List Entry) → 1 ≤ e .item → e .item ≤ itemCount
-    → set (sheetOf es .items) (e .item - 1) (filled (e .bench) (length es + 1) (itemAt (sheetOf es) (e .item) .times + 1) (e .value)) ≡ sheetOf (e ∷ es) .items
-sheet-more e es some known =
-    let held : itemAt (sheetOf es) (e .item) .times ≡ timesOf es (e .item) = ap (λ (i : Item). i .times) (item-at es (e .item) some known) ∙ held-times es (e .item) in
-    let new : ℕ → Item = λ n. filled (e .bench) (length es + 1) n (e .value) in
-    let at : 1 + (e .item - 1) ≡ e .item = omega arith in
-    let other : (i : ℕ) → (i ≡ 1 + (e .item - 1) → ⊥) → lastOf es i ≡ lastOf (e ∷ es) i = λ i n. rw (ne-eqb i (e .item) (λ p. n (omega arith))) in
-    let here : new (timesOf es (e .item) + 1) ≡ lastOf (e ∷ es) (1 + (e .item - 1))
-    = rw (at, eq-eqb (e .item) (e .item) refl, add-one (length es), add-one (timesOf es (e .item))) in
-    ap (λ m. set (sheetOf es .items) (e .item - 1) (new (m + 1))) held ∙ ap (λ x. set (sheetOf es .items) (e .item - 1) x) here ∙ items-set itemCount 1 (e .item - 1) (lastOf es) (lastOf (e ∷ es)) other
-
--- which is a sound item
-pub item-sound : (log : List ℕ) (w : Work) → Good log w → (item : ℕ) → 1 ≤ item → item ≤ itemCount
-    → (itemAt (sheetOf (w .entries)) item ≡ lastOf (w .entries) item) × (soundItem (length (w .entries)) (item - 1) (lastOf (w .entries) item) ≡ true)
+-- each sheet holds, at each item, the last of its own entries that names it, which is a sound item
+pub item-sound : (log : List ℕ) (w : Work) → Good log w → (s item : ℕ) → s < sheetCount → 1 ≤ item → item ≤ itemCount
+    → (itemAt (sheetAt (deskOf w) s) item ≡ lastOf (entriesOf s (w .entries)) item)
+    × (soundItem s (length (entriesOf s (w .entries))) (item - 1) (lastOf (entriesOf s (w .entries)) item) ≡ true)
 unfolding soundDesk soundSheet
-item-sound log w g item some known =
-    let s = sheetOf (w .entries) in
-    let at = item-at (w .entries) item some known in
-    let within : item - 1 < length (s .items) = omega (arith, g .shape .items) in
-    let sound = every-each (soundItem (s .count)) (s .items) 0 (item - 1) noItem (and-both (soundLines (deskOf w)) (soundSheet s) (g .sound) .1) within in
-    (at, rw (zero-add (item - 1), at) at sound)
+item-sound log w g s item on some known =
+    let es = entriesOf s (w .entries) in
+    let at = item-at es item some known in
+    let on-desk = sheet-at (w .entries) s on in
+    let sheet : soundSheet (0 + s) (sheetAt (deskOf w) s) ≡ true = every-each soundSheet (sheetsOf (w .entries)) 0 s noSheet (and-both (soundLines (deskOf w)) (soundSheets (deskOf w)) (g .sound) .1) on in
+    let own : soundSheet s (sheetOf es) ≡ true = rw (zero-add s, on-desk) at sheet in
+    let sound = every-each (soundItem s (length es)) (sheetOf es .items) 0 (item - 1) noItem own (omega arith) in
+    (ap (λ (x : Sheet). itemAt x item) on-desk ∙ at, rw (zero-add (item - 1), at) at sound)
 
 -- ---- equal parts make equal wholes
 
-desk-eq : {ls ms : List Line} {is js : List Item} {n m : ℕ} → ls ≡ ms → is ≡ js → n ≡ m
-    → _≡_ {A = Desk} (record { lines = ls; sheet = record { items = is; count = n } }) (record { lines = ms; sheet = record { items = js; count = m } })
-desk-eq p q r = cc
+desk-eq : {ls ms : List Line} {ss ts : List Sheet} → ls ≡ ms → ss ≡ ts → _≡_ {A = Desk} (record { lines = ls; sheets = ss }) (record { lines = ms; sheets = ts })
+desk-eq p q = cc
 
 after-eq : {a : ℕ} {d e : Desk} {u v : ℕ} {l m : List ℕ} → d ≡ e → u ≡ v → l ≡ m
     → _≡_ {A = After} (record { answer = a; desk = d; used = u; log = l }) (record { answer = a; desk = e; used = v; log = m })
@@ -144,18 +119,6 @@ log-more r v log n e =
     rw (take-at r (drop (length r) log) (length r) refl, drop-append-add r (drop (length r) log) n, drop-drop, length-append, e, append-assoc)
 
 -- ---- a key
-
--- a line is no longer than a record's length can tell
-fitting-more : (a bench byte : ℕ) (t : List ℕ) (es : List Entry) → length t ≤ lineMost → Fitting es → Fitting (entriesAfter a bench byte t es)
-fitting-more a bench byte t es short f =
-    cond-keeps Fitting (accepts a) (cond (eqb byte 10) (withEntryOf (classOf t) bench t es) es) es
-    (λ p. cond-keeps Fitting (eqb byte 10) (withEntryOf (classOf t) bench t es) es (λ q. of-class (classOf t)) (λ q. f)) (λ p. f)
-  where
-    of-class : (c : Class) → Fitting (withEntryOf c bench t es)
-    of-class class.BadForm = f
-    of-class class.UnknownName = f
-    of-class class.WrongKind = f
-    of-class (class.Entry item start) = (simp length-drop (omega arith), f)
 
 -- Enter's byte is none of the others
 enter-byte : (byte : ℕ) (t : List ℕ) → eqb byte 10 ≡ true → editedText byte t ≡ []
@@ -185,7 +148,7 @@ module _ (log : List ℕ) (w : Work) (bench byte : ℕ) where
   D = deskOf w
 
   abbrev may : ℕ → Bool
-  may item = mayWrite (w .entries) item bench
+  may item = mayWrite (entriesOf (sheetOfBench bench) (w .entries)) item bench
 
   -- everything that a key leaves, by the work and the answer
   abbrev afterOf : ℕ → After
@@ -197,9 +160,9 @@ module _ (log : List ℕ) (w : Work) (bench byte : ℕ) where
   -- an accepted key other than Enter
   edited-follows : (l : Line) (s : List ℕ) → eqb byte 10 ≡ false → editedText byte t ≡ s → l ≡ lineOf s → edited D U L bench l ≡ afterOf 0
   edited-follows l s plain text e =
-      rw (plain, text) (after-eq (desk-eq (ap (λ (x : Line). set (map lineOf (w .typed)) bench x) e ∙ map-set lineOf (w .typed) bench s) refl refl) refl refl)
+      rw (plain, text) (after-eq (desk-eq (ap (λ (x : Line). set (map lineOf (w .typed)) bench x) e ∙ map-set lineOf (w .typed) bench s) refl) refl refl)
 
-  module _ (room : U ≤ length log) (enter-key : eqb byte 10 ≡ true) where
+  module _ (room : U ≤ length log) (b : bench < benchCount) (enter-key : eqb byte 10 ≡ true) where
     stored-follows : (item start : ℕ) → classOf t ≡ class.Entry item start
         → stored D U L bench item (drop start t) ≡ afterOf (cond (leb (recordLength (drop start t)) (length log - U)) 0 8)
     unfolding stored
@@ -218,13 +181,13 @@ module _ (log : List ℕ) (w : Work) (bench byte : ℕ) where
         ap (λ (k : ℕ). cond (leb n (k - U)) next (refused 8 D U L)) (log-length log es room)
         ∙ cond-sim (λ (x : After). x) afterOf (leb n (length log - U)) next (refused 8 D U L) 0 8
         (λ p. rw (enter-key, enter-byte byte t enter-key, e) (after-eq
-        (desk-eq (map-set lineOf (w .typed) bench []) (sheet-more new es (entry-is t item start e .some) (entry-is t item start e .known)) (add-one (length es)))
+        (desk-eq (map-set lineOf (w .typed) bench []) (sheets-more new es b (entry-is t item start e .some) (entry-is t item start e .known)))
         (ap (λ (k : ℕ). U + k) (sym m) ∙ sym (length-append (recordsOf es) (recordOf bench item v)))
         (log-more (recordsOf es) (recordOf bench item v) log n m)))
         (λ p. refused-follows 8 refl)
 
     -- the item is not another bench's, by desk and by entries
-    open-follows : ((item : ℕ) → 1 ≤ item → item ≤ itemCount → openTo (itemAt (D .sheet) item) bench ≡ may item) → (item start : ℕ) → classOf t ≡ class.Entry item start
+    open-follows : ((item : ℕ) → 1 ≤ item → item ≤ itemCount → openTo (ownItem D bench item) bench ≡ may item) → (item start : ℕ) → classOf t ≡ class.Entry item start
         → storedIfOpen D U L bench item (drop start t) ≡ afterOf (enterNumber (class.Entry item start) t may (length log - U))
     unfolding storedIfOpen
     open-follows same item start e =
@@ -234,7 +197,7 @@ module _ (log : List ℕ) (w : Work) (bench byte : ℕ) where
         ∙ cond-sim (λ (x : After). x) afterOf (may item) next (refused 9 D U L) (cond (leb (recordLength (drop start t)) (length log - U)) 0 8) 9
         (λ p. stored-follows item start e) (λ p. refused-follows 9 refl)
 
-    enter-follows : ((item : ℕ) → 1 ≤ item → item ≤ itemCount → openTo (itemAt (D .sheet) item) bench ≡ may item) → (c : Class) → classOf t ≡ c
+    enter-follows : ((item : ℕ) → 1 ≤ item → item ≤ itemCount → openTo (ownItem D bench item) bench ≡ may item) → (c : Class) → classOf t ≡ c
         → enteredAs c D U L bench t ≡ afterOf (enterNumber c t may (length log - U))
     enter-follows same class.BadForm e = refused-follows 5 refl
     enter-follows same class.UnknownName e = refused-follows 6 refl
@@ -243,10 +206,12 @@ module _ (log : List ℕ) (w : Work) (bench byte : ℕ) where
 
   module _ (g : Good log w) where
     -- each item of the desk is the last entry's, and sound
-    item-open : (item : ℕ) → 1 ≤ item → item ≤ itemCount → openTo (itemAt (D .sheet) item) bench ≡ may item
-    item-open item some known =
-        let x = item-sound log w g item some known in
-        ap (λ (i : Item). openTo i bench) (x .0) ∙ open-to (w .entries) (length (w .entries)) (item - 1) item bench (g .rightful) (x .1)
+    item-open : bench < benchCount → (item : ℕ) → 1 ≤ item → item ≤ itemCount → openTo (ownItem D bench item) bench ≡ may item
+    item-open b item some known =
+        let s = sheetOfBench bench in
+        let es = entriesOf s (w .entries) in
+        let x = item-sound log w g s item (sheet-in bench b) some known in
+        ap (λ (i : Item). openTo i bench) (x .0) ∙ open-to es s (length es) (item - 1) item bench (g .grown .rightful s) (x .1)
 
     module _ (b : bench < benchCount) where
       four : bench < length (w .typed)
@@ -279,7 +244,7 @@ module _ (log : List ℕ) (w : Work) (bench byte : ℕ) where
           (λ z.
           ap (λ (l : Line). enteredAs (classOf (typed l)) D U L bench (typed l)) line-is
           ∙ ap (λ (x : List ℕ). enteredAs (classOf x) D U L bench x) (typed-lineOf t)
-          ∙ enter-follows (g .room) z item-open (classOf t) refl)
+          ∙ enter-follows (g .room) b z (item-open b) (classOf t) refl)
           (λ z. refused-follows 3 refl))))
 
     -- the desk, which tests the soundness of everything, answers by the table, which tests the log's length
@@ -294,17 +259,6 @@ module _ (log : List ℕ) (w : Work) (bench byte : ℕ) where
         ∙ cond-sim same afterOf (leb (length log) logMost) _ _ _ _ (λ n. step-follows (ltb-true bench benchCount b)) (λ n. refused-follows 2 refl))
         (λ b. refused-follows 1 refl)
 
-    -- nothing is typed by a bench that is not there
-    typed-short : length t ≤ lineMost
-    typed-short = go (ltb bench benchCount) refl
-      where
-        go : (x : Bool) → ltb bench benchCount ≡ x → length t ≤ lineMost
-        go true e = short (ltb-true bench benchCount e)
-        go false e =
-            let h = ltb-false bench benchCount e in
-            let z : t ≡ [] = List·getD-eq-default (w .typed) [] (omega (arith, g .shape .lines, length-map (w .typed) lineOf)) in
-            rw z (omega arith)
-
     key-good : Good log (keyWork (keyAnswer (length log) w bench byte) bench byte w)
     key-good =
         let k : Keeps D U L (afterOf (keyAnswer (length log) w bench byte)) = rw key-follows at (key-keeps D U L (g .shape) (g .sound) bench byte) in
@@ -315,58 +269,65 @@ module _ (log : List ℕ) (w : Work) (bench byte : ℕ) where
           shape = k .shape;
           sound = k .sound;
           room = omega (arith, length-append r (drop (length r) log), n);
-          fitting = fitting-more (keyAnswer (length log) w bench byte) bench byte t (w .entries) typed-short (g .fitting);
-          rightful = key-rightful (length log) w bench byte (g .rightful);
+          grown = key-grown (length log) w (g .grown) bench byte;
         }
 
 -- ---- questions
 
-told-last : (es : List Entry) (n k item : ℕ) → soundItem n k (lastOf es item) ≡ true → toldOf (lastOf es item) ≡ lastTold es item
+told-last : (es : List Entry) (s n k item : ℕ) → soundItem s n k (lastOf es item) ≡ true → toldOf (lastOf es item) ≡ lastTold es item
 unfolding toldOf
-told-last [] n k item h = refl
-told-last (e ∷ es) n k item h = go (told-last es n k item) (eqb item (e .item)) refl h
+told-last [] s n k item h = refl
+told-last (e ∷ es) s n k item h = go (told-last es s n k item) (eqb item (e .item)) refl h
   where
-    go : (soundItem n k (lastOf es item) ≡ true → toldOf (lastOf es item) ≡ lastTold es item) → (x : Bool) → eqb item (e .item) ≡ x
-        → soundItem n k (lastOf (e ∷ es) item) ≡ true → toldOf (lastOf (e ∷ es) item) ≡ lastTold (e ∷ es) item
-    go ih true x s = let y = filled-some n k (e .bench) (length es) (suc (timesOf es item)) (e .value) (rw x at s) in rw (x, y)
-    go ih false x s = rw x (ih (rw x at s))
+    go : (soundItem s n k (lastOf es item) ≡ true → toldOf (lastOf es item) ≡ lastTold es item) → (x : Bool) → eqb item (e .item) ≡ x
+        → soundItem s n k (lastOf (e ∷ es) item) ≡ true → toldOf (lastOf (e ∷ es) item) ≡ lastTold (e ∷ es) item
+    go ih true x g = let y = filled-some s n k (e .bench) (length es) (suc (timesOf es item)) (e .value) (rw x at g) in rw (x, y)
+    go ih false x g = rw x (ih (rw x at g))
 
-who-follows : (log : List ℕ) (w : Work) → Good log w → (item : ℕ) → whoOf (deskOf w) item ≡ whoLast (w .entries) item
+who-follows : (log : List ℕ) (w : Work) → Good log w → (sheet item : ℕ) → whoOf (deskOf w) sheet item ≡ whoOn sheet (w .entries) item
 unfolding whoOf
-who-follows log w g item =
-    let s = sheetOf (w .entries) in
+who-follows log w g sheet item =
+    let es = entriesOf sheet (w .entries) in
     let same : Who → Who = λ x. x in
+    cond-sim same same (isSheet sheet) _ (nobody 12) (whoLast es item) (nobody 12)
+    (λ s.
+    let on = ltb-true sheet sheetCount s in
     cond-true (soundDesk (deskOf w)) _ (nobody 2) (g .sound)
-    ∙ cond-sim same same (isItem item) (toldOf (itemAt s item)) (nobody 6) (lastTold (w .entries) item) (nobody 6)
+    ∙ cond-sim same same (isItem item) (toldOf (itemAt (sheetAt (deskOf w) sheet) item)) (nobody 6) (lastTold es item) (nobody 6)
     (λ p.
     let h = and-both (leb 1 item) (leb item itemCount) p in
-    let some = leb-true 1 item (h .0) in
-    let known = leb-true item itemCount (h .1) in
-    let x = item-sound log w g item some known in
-    ap toldOf (x .0) ∙ told-last (w .entries) (s .count) (item - 1) item (x .1))
-    (λ p. refl)
+    let x = item-sound log w g sheet item on (leb-true 1 item (h .0)) (leb-true item itemCount (h .1)) in
+    ap toldOf (x .0) ∙ told-last es sheet (length es) (item - 1) item (x .1))
+    (λ p. refl))
+    (λ s. refl)
 
 -- ---- all calls
 
-module _ {Rows : Type 0} (rowsOf : Sheet → Rows) (noRows : Rows) (log : List ℕ) where
-  report-follows : (w : Work) → Good log w → reportOf rowsOf noRows (deskOf w) ≡ reported 0 (rowsOf (sheetOf (w .entries)))
+module _ {Rows : Type 0} (rowsOf : ℕ → Sheet → Rows) (noRows : Rows) (log : List ℕ) where
+  report-follows : (w : Work) → Good log w → (sheet profile : ℕ) → reportOf rowsOf noRows (deskOf w) sheet profile ≡ reportOn rowsOf noRows sheet profile (w .entries)
   unfolding reportOf
-  report-follows w g = rw (g .sound)
+  report-follows w g sheet profile =
+      let same : Reply Rows → Reply Rows = λ x. x in
+      let rows : Sheet → Reply Rows = λ s. cond (isProfile profile) (reported 0 (rowsOf profile s)) (reported 21 noRows) in
+      cond-sim same same (isSheet sheet) _ (reported 12 noRows) (rows (sheetOf (entriesOf sheet (w .entries)))) (reported 12 noRows)
+      (λ s. ap (λ (x : Reply Rows). cond (isProfile profile) x (reported 21 noRows)) (cond-true (soundDesk (deskOf w)) _ (reported 2 noRows) (g .sound))
+      ∙ ap rows (sheet-at (w .entries) sheet (ltb-true sheet sheetCount s)))
+      (λ s. refl)
 
-  pub desk-follows : Follows (step rowsOf noRows) (workStep rowsOf (length log)) (workState log) (Good log)
+  pub desk-follows : Follows (step rowsOf noRows) (workStep rowsOf noRows (length log)) (workState log) (Good log)
   desk-follows = record { keep = keeps; answer = answers; state = states }
     where
-      keeps : (c : Call) (w : Work) → Good log w → Good log (workStep rowsOf (length log) c w .1)
+      keeps : (c : Call) (w : Work) → Good log w → Good log (workStep rowsOf noRows (length log) c w .1)
       keeps (key bench byte) w g = key-good log w bench byte g
-      keeps (ask report) w g = g
-      keeps (ask (who item)) w g = g
+      keeps (ask (report sheet profile)) w g = g
+      keeps (ask (who sheet item)) w g = g
 
-      answers : (c : Call) (w : Work) → Good log w → step rowsOf noRows c (workState log w) .0 ≡ workStep rowsOf (length log) c w .0
+      answers : (c : Call) (w : Work) → Good log w → step rowsOf noRows c (workState log w) .0 ≡ workStep rowsOf noRows (length log) c w .0
       answers (key bench byte) w g = ap (λ (a : After). keyed (a .answer)) (key-follows log w bench byte g)
-      answers (ask report) w g = report-follows w g
-      answers (ask (who item)) w g = ap told (who-follows log w g item)
+      answers (ask (report sheet profile)) w g = report-follows w g sheet profile
+      answers (ask (who sheet item)) w g = ap told (who-follows log w g sheet item)
 
-      states : (c : Call) (w : Work) → Good log w → step rowsOf noRows c (workState log w) .1 ≡ workState log (workStep rowsOf (length log) c w .1)
+      states : (c : Call) (w : Work) → Good log w → step rowsOf noRows c (workState log w) .1 ≡ workState log (workStep rowsOf noRows (length log) c w .1)
       states (key bench byte) w g = ap left (key-follows log w bench byte g)
-      states (ask report) w g = refl
-      states (ask (who item)) w g = refl
+      states (ask (report sheet profile)) w g = refl
+      states (ask (who sheet item)) w g = refl

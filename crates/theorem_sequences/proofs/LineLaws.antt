@@ -16,7 +16,7 @@ use Rattle.line_items.specs.Typed.{lineMost, isTyped}
 use Rattle.desk_state.specs.Lines.{padded, typed, lineOf, appended, erased}
 use Rattle.desk_soundness.specs.Sound.{zeros, soundLine}
 use Rattle.desk_state.specs.declared.line.Line.{Line}
-use Rattle.theorem_sequences.proofs.Choices.{and-true-true}
+use Rattle.theorem_work.proofs.Choices.{and-true-true}
 
 line-eq : {a b : List ℕ} {n m : ℕ} → a ≡ b → n ≡ m → _≡_ {A = Line} (record { bytes = a; len = n }) (record { bytes = b; len = m })
 line-eq p q = cc

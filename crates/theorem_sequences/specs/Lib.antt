@@ -1,9 +1,5 @@
 pub mod Calls
-pub mod Gather
-pub mod Work
-pub mod Owning
-pub mod WorkTable
-pub mod Logged
 pub mod Shaped
 pub mod Sequences
 pub mod Owner
+pub mod Camps

@@ -8,11 +8,14 @@ use lib.ListN.{take}
 use Rattle.line_items.specs.Items.{IsName}
 use Rattle.line_reader.specs.Wording.{IsLine}
 use Rattle.desk_log.specs.Record.{recordOf}
+use Rattle.desk_state.specs.Desks.{sheetOfBench, sheetAt}
 use Rattle.desk_state.specs.declared.sheet.Sheet.{Sheet}
-use Rattle.theorem_sequences.specs.Calls.{Call, key, ask, who, told, State}
-use Rattle.theorem_sequences.specs.Gather.{own}
-use Rattle.theorem_sequences.specs.Logged.{recordsNaming}
-use Rattle.theorem_sequences.specs.Sequences.{textOf, deskAnswers, stateAfter, answerAfter}
+use Rattle.theorem_work.specs.Calls.{Call, key, ask, who, told}
+use Rattle.theorem_work.specs.Gather.{own}
+use Rattle.theorem_work.specs.Logged.{recordsNaming}
+use Rattle.theorem_work.specs.Entered.{textOf}
+use Rattle.theorem_sequences.specs.Calls.{State}
+use Rattle.theorem_sequences.specs.Sequences.{deskAnswers, stateAfter, answerAfter}
 
 -- the calls before, and the bench's Enter
 abbrev pub entering : List Call → ℕ → List Call
@@ -21,7 +24,7 @@ entering before bench = before ++ (key bench 10 ∷ [])
 abbrev pub usedLog : State → List ℕ
 usedLog s = take (s .used) (s .log)
 
-pub record Owned {Rows : Type 0} (rowsOf : Sheet → Rows) (noRows : Rows) (log : List ℕ) (before : List Call) (bench : ℕ) : Type 0 where
+pub record Owned {Rows : Type 0} (rowsOf : ℕ → Sheet → Rows) (noRows : Rows) (log : List ℕ) (before : List Call) (bench : ℕ) : Type 0 where
   pub name : List ℕ
   pub value : List ℕ
   pub item : ℕ
@@ -30,11 +33,11 @@ pub record Owned {Rows : Type 0} (rowsOf : Sheet → Rows) (noRows : Rows) (log 
   pub named : IsName name item
   -- its record is the next of the used log and names the bench
   pub logged : usedLog (stateAfter rowsOf noRows log (entering before bench)) ≡ usedLog (stateAfter rowsOf noRows log before) ++ recordOf bench item value
-  -- Who, asked next, names the bench, the count as the entry's number, and how many records of the used log name the item
-  pub tells : answerAfter rowsOf noRows log (entering before bench) (ask (who item))
+  -- Who, asked next of the bench's sheet, names the bench, that sheet's count as the entry's number, and how many of its records in the used log name the item
+  pub tells : answerAfter rowsOf noRows log (entering before bench) (ask (who (sheetOfBench bench) item))
       ≡ told (record {
         answer = 0;
-        entry = stateAfter rowsOf noRows log (entering before bench) .desk .sheet .count;
+        entry = sheetAt (stateAfter rowsOf noRows log (entering before bench) .desk) (sheetOfBench bench) .count;
         bench = bench;
-        times = recordsNaming item (usedLog (stateAfter rowsOf noRows log (entering before bench)));
+        times = recordsNaming (sheetOfBench bench) item (usedLog (stateAfter rowsOf noRows log (entering before bench)));
       })

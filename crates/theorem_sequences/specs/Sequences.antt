@@ -1,15 +1,17 @@
 -- Demand 3 (document 01, "Sequences of calls"): the single claim about every sequence of key calls, Report and Who, from a fresh desk and a log of any
 -- length and content. `Sequences log cs` is the claim about the sequence cs; that it holds is `demand-3` (proofs/Demand3.antt) for
--- any rows, and `desk-sequences` (proofs/Desk.antt) for the twelve. The desk is read in
--- specs/Calls.antt, the gathered order in specs/Gather.antt, and what was typed and entered, "the work", in specs/Work.antt.
+-- any rows, and `desk-sequences` (proofs/Desk.antt) for those of the documents. The desk is read in
+-- specs/Calls.antt; in specs/ of theorem_work the gathered order, Gather.antt, and what was typed and entered, "the work", Work.antt.
+-- Document 02, No. 9: "Demand 3 holds over both sheets, with an item's last entry, an entry's number and the count taken among its own sheet's benches": of the
+-- entries of all benches, those of a sheet's benches are `entriesOf sheet`. The log is shared, so its records are those of all, in order.
 --
 -- What it shuts out, and by which part:
 -- - a desk that refuses everything or stays idle: `table`, by which a key is refused exactly when a refusal of document 01's table applies, and `lines`, `items`
 --   and `used-log`, since every accepted key and entry is then on the desk and in the log;
--- - one report for all sheets: `reports`, with the rows of the sheet that the entries before the question make;
+-- - one report for all sheets: `reports`, with the rows of the sheet that the entries before the question make, those of the benches of the sheet that is asked;
 -- - a desk that stores only its first entry: `items`, which asks for the last entry that names an item, and `count`;
--- - an invented entry number: `items` and `tells`, where a number is how many entries there are up to that one, and `entries`, by which these are the
---   Enters to which the desk gave 0;
+-- - an invented entry number, or one that counts the other sheet's entries: `items` and `tells`, where a number is how many entries of the sheet there are up
+--   to that one, and `entries`, by which these are the Enters to which the desk gave 0;
 -- - a number of entries that stays at 1, is another item's, or counts refused Enters: `times` and `logged`, where it is how many entries name the item, and how
 --   many records of the used log do;
 -- - keys of benches that run together: `gathered-answers` and `gathered-state`, by which a bench's answers do not depend on the keys between its own, and
@@ -17,64 +19,33 @@
 -- - an entry under another bench's number, as of the first to type after a refused Enter: `entry`, `used-log` for its record, and `who-next` for the
 --   child who asks whose entry it is; specs/Owner.antt says the three in one sentence;
 -- - an item overwritten by a bench that does not own it, or an owner who is refused (document 02, No. 8): `table`, by which 9 is given exactly when the entries
---   so far give the item to another bench; specs/Owning.antt says whose an item is.
+--   so far of the bench's own sheet give the item to another bench; theorem_work/specs/Owning.antt says whose an item is;
+-- - a sheet that the other camp's benches fill, or whose count, owners or lines they share: all of these, and specs/Camps.antt in one sentence.
 -- Assumes nothing.
-use Prim.Native.Nat.{ℕ, _≤_}
+use Prim.Native.Nat.{ℕ, _≤_, _<_}
 use mathlib.Core.Path.{_≡_}
-use mathlib.Core.Bool.{true, cond, _&&_}
+use mathlib.Core.Bool.{true}
 use mathlib.Core.List.{List, [], _∷_, _++_, map}
-use lib.Dec.{leb, eqb}
-use lib.ListN.{length, take, drop, set}
-use Rattle.line_items.specs.Items.{itemCount, IsName}
-use Rattle.line_reader.specs.Wording.{IsLine}
+use lib.Dec.{leb}
+use lib.ListN.{length, take, drop}
+use Rattle.line_items.specs.Items.{itemCount}
 use Rattle.desk_state.specs.Lines.{lineOf}
 use Rattle.desk_state.specs.Sheets.{itemAt}
+use Rattle.desk_state.specs.Desks.{sheetCount, sheetAt}
+use Rattle.rows.specs.Rows.{profileCount}
 use Rattle.desk_soundness.specs.Sound.{soundDesk}
 use Rattle.desk_soundness.specs.SoundLog.{logMost, soundLog}
 use Rattle.desk_state.specs.declared.sheet.Sheet.{Sheet}
-use Rattle.theorem_sequences.specs.Calls.{Call, key, ask, report, who, Reply, keyed, reported, told, State, freshState, step, answered, final}
-use Rattle.theorem_sequences.specs.Gather.{own, gather, gatherAnswered, Regrouped}
-use Rattle.theorem_sequences.specs.WorkTable.{workTable, FromTable}
-use Rattle.theorem_sequences.specs.Logged.{recordsNaming}
-use Rattle.theorem_sequences.specs.Work.{Entry, Work, noWork, typedBy, recordsOf, timesOf, lastOf, sheetOf, accepts, textAfter, whoLast, workStep}
+use Rattle.desk_questions.specs.Who.{nobody}
+use Rattle.theorem_work.specs.Calls.{Call, key, ask, report, who, Reply, keyed, reported, told, answered, final}
+use Rattle.theorem_work.specs.Gather.{own, gather, gatherAnswered, Regrouped}
+use Rattle.theorem_work.specs.Work.{Entry, Work, noWork, typedBy, recordsOf, entriesOf, timesOf, lastOf, sheetOf, whoLast, workStep}
+use Rattle.theorem_work.specs.WorkTable.{workTable, FromTable}
+use Rattle.theorem_work.specs.Logged.{recordsNaming}
+use Rattle.theorem_work.specs.Entered.{Entered, enteredFirst, enteredBy, textOf}
+use Rattle.theorem_sequences.specs.Calls.{State, freshState, step}
 
--- an Enter of a bench that added an entry: "Its line, name and value, is what its bench had typed"
-pub record Entered (bench : ℕ) (before after : Work) : Type 0 where
-  pub new : Entry
-  pub added : after .entries ≡ new ∷ before .entries
-  pub of-bench : new .bench ≡ bench
-  pub line : new .line ≡ typedBy before bench
-  pub name : List ℕ
-  pub parts : IsLine (new .line) name (new .value)
-  pub item : IsName name (new .item)
-  -- "its Enter empties"
-  pub emptied : after .typed ≡ set (before .typed) bench []
-
--- the bench of a call that is an Enter with answer 0, put before those of earlier calls; of any other call nothing
-abbrev pub enteredFirst : {Rows : Type 0} → Call → Reply Rows → List ℕ → List ℕ
-enteredFirst (key bench byte) (keyed a) bs = cond (eqb byte 10 && accepts a) (bench ∷ bs) bs
-enteredFirst (key bench byte) (reported a rows) bs = bs
-enteredFirst (key bench byte) (told t) bs = bs
-enteredFirst (ask q) r bs = bs
-
--- the benches of the Enters with answer 0, the newest first; bs are those of earlier calls
-abbrev pub enteredBy : {Rows : Type 0} → List ℕ → List (Call × Reply Rows) → List ℕ
-enteredBy bs [] = bs
-enteredBy bs (p ∷ ps) = enteredBy (enteredFirst (p .0) (p .1) bs) ps
-
--- the text t after a call, by that call and its answer
-abbrev pub textOne : {Rows : Type 0} → Call → Reply Rows → List ℕ → List ℕ
-textOne (key bench byte) (keyed a) t = textAfter a byte t
-textOne (key bench byte) (reported a rows) t = t
-textOne (key bench byte) (told x) t = t
-textOne (ask q) r t = t
-
--- the text t after calls with their answers
-abbrev pub textOf : {Rows : Type 0} → List ℕ → List (Call × Reply Rows) → List ℕ
-textOf t [] = t
-textOf t (p ∷ ps) = textOf (textOne (p .0) (p .1) t) ps
-
-module _ {Rows : Type 0} (rowsOf : Sheet → Rows) (noRows : Rows) where
+module _ {Rows : Type 0} (rowsOf : ℕ → Sheet → Rows) (noRows : Rows) where
   -- the desk: each call with its answer, and what a sequence leaves
   abbrev pub deskAnswers : List ℕ → List Call → List (Call × Reply Rows)
   deskAnswers log cs = answered (step rowsOf noRows) (freshState log) cs
@@ -88,10 +59,10 @@ module _ {Rows : Type 0} (rowsOf : Sheet → Rows) (noRows : Rows) where
 
   -- the work: each call with its answer, and what a sequence leaves
   abbrev pub workAnswers : List ℕ → List Call → List (Call × Reply Rows)
-  workAnswers log cs = answered (workStep rowsOf (length log)) noWork cs
+  workAnswers log cs = answered (workStep rowsOf noRows (length log)) noWork cs
 
   abbrev pub workAfter : List ℕ → List Call → Work
-  workAfter log cs = final (workStep rowsOf (length log)) noWork cs
+  workAfter log cs = final (workStep rowsOf noRows (length log)) noWork cs
 
   pub record Sequences (log : List ℕ) (cs : List Call) : Type 0 where
     -- `gather cs` is the sequence with each bench's keys moved directly before its next Enter; "Keys moved to one place keep the order they had"
@@ -126,25 +97,37 @@ module _ {Rows : Type 0} (rowsOf : Sheet → Rows) (noRows : Rows) where
     pub used : stateAfter log cs .used ≡ length (recordsOf (workAfter log cs .entries))
     pub rest-of-log : drop (stateAfter log cs .used) (stateAfter log cs .log) ≡ drop (stateAfter log cs .used) log
     pub log-length : length (stateAfter log cs .log) ≡ length log
-    -- "the count is their number"
-    pub count : stateAfter log cs .desk .sheet .count ≡ length (workAfter log cs .entries)
+    -- of each sheet, "the count is their number", of its own benches' entries
+    pub count : (sheet : ℕ) → sheet < sheetCount → sheetAt (stateAfter log cs .desk) sheet .count ≡ length (entriesOf sheet (workAfter log cs .entries))
     -- "each item holds value, bench and number of the last one that names it, or is empty"
-    pub items : (k : ℕ) → 1 ≤ k → k ≤ itemCount → itemAt (stateAfter log cs .desk .sheet) k ≡ lastOf (workAfter log cs .entries) k
+    pub items : (sheet k : ℕ) → sheet < sheetCount → 1 ≤ k → k ≤ itemCount
+        → itemAt (sheetAt (stateAfter log cs .desk) sheet) k ≡ lastOf (entriesOf sheet (workAfter log cs .entries)) k
     -- document 02, No. 7: "Each filled item shall hold the number of accepted entries that named it"
-    pub times : (k : ℕ) → 1 ≤ k → k ≤ itemCount → itemAt (stateAfter log cs .desk .sheet) k .times ≡ timesOf (workAfter log cs .entries) k
-    -- and that is, "on any desk grown from a fresh one, its records in the used log"
-    pub logged : (k : ℕ) → 1 ≤ k → k ≤ itemCount
-        → itemAt (stateAfter log cs .desk .sheet) k .times ≡ recordsNaming k (take (stateAfter log cs .used) (stateAfter log cs .log))
-    pub all-items : length (stateAfter log cs .desk .sheet .items) ≡ itemCount
+    pub times : (sheet k : ℕ) → sheet < sheetCount → 1 ≤ k → k ≤ itemCount
+        → itemAt (sheetAt (stateAfter log cs .desk) sheet) k .times ≡ timesOf (entriesOf sheet (workAfter log cs .entries)) k
+    -- and that is, "on any desk grown from a fresh one, its records in the used log"; No. 9: "No. 7 counts its own sheet's records"
+    pub logged : (sheet k : ℕ) → sheet < sheetCount → 1 ≤ k → k ≤ itemCount
+        → itemAt (sheetAt (stateAfter log cs .desk) sheet) k .times ≡ recordsNaming sheet k (take (stateAfter log cs .used) (stateAfter log cs .log))
+    pub all-sheets : length (stateAfter log cs .desk .sheets) ≡ sheetCount
+    pub all-items : (sheet : ℕ) → sheet < sheetCount → length (sheetAt (stateAfter log cs .desk) sheet .items) ≡ itemCount
     -- the desk is sound, and sound with its log but for the log's length: what the table of the work tests is all that can give 2
     pub sound : soundDesk (stateAfter log cs .desk) ≡ true
     pub log-sound : soundLog (stateAfter log cs .desk) (length (stateAfter log cs .log)) (stateAfter log cs .used) ≡ leb (length log) logMost
     -- "Report and Who, when not refused, answer by the entries before them", wherever they stand; neither is ever refused with 2
-    pub reports : (before after : List Call) → cs ≡ before ++ (ask report ∷ after)
-        → answerAfter log before (ask report) ≡ reported 0 (rowsOf (sheetOf (workAfter log before .entries)))
-    pub tells : (before after : List Call) (item : ℕ) → cs ≡ before ++ (ask (who item) ∷ after)
-        → answerAfter log before (ask (who item)) ≡ told (whoLast (workAfter log before .entries) item)
-    -- Who, asked next after the whole sequence, names bench and number of the last entry that names the item, and how many entries name it
-    pub who-next : (item : ℕ) → answerAfter log cs (ask (who item)) ≡ told (whoLast (workAfter log cs .entries) item)
-    -- Report, asked next, judges the sheet of all entries
-    pub report-next : answerAfter log cs (ask report) ≡ reported 0 (rowsOf (sheetOf (workAfter log cs .entries)))
+    pub reports : (before after : List Call) (sheet profile : ℕ) → cs ≡ before ++ (ask (report sheet profile) ∷ after) → sheet < sheetCount → profile < profileCount
+        → answerAfter log before (ask (report sheet profile)) ≡ reported 0 (rowsOf profile (sheetOf (entriesOf sheet (workAfter log before .entries))))
+    pub tells : (before after : List Call) (sheet item : ℕ) → cs ≡ before ++ (ask (who sheet item) ∷ after) → sheet < sheetCount
+        → answerAfter log before (ask (who sheet item)) ≡ told (whoLast (entriesOf sheet (workAfter log before .entries)) item)
+    -- document 02, No. 9: "12, no such sheet, before 2, with the report as with 2"
+    pub no-report : (before after : List Call) (sheet profile : ℕ) → cs ≡ before ++ (ask (report sheet profile) ∷ after) → sheetCount ≤ sheet
+        → answerAfter log before (ask (report sheet profile)) ≡ reported 12 noRows
+    -- No. 11: "21, no such profile, after 12 and before 2; with 21 too the report is as with 2"
+    pub no-profile : (before after : List Call) (sheet profile : ℕ) → cs ≡ before ++ (ask (report sheet profile) ∷ after) → sheet < sheetCount → profileCount ≤ profile
+        → answerAfter log before (ask (report sheet profile)) ≡ reported 21 noRows
+    pub no-tell : (before after : List Call) (sheet item : ℕ) → cs ≡ before ++ (ask (who sheet item) ∷ after) → sheetCount ≤ sheet
+        → answerAfter log before (ask (who sheet item)) ≡ told (nobody 12)
+    -- Who, asked next after the whole sequence, names bench and number of the sheet's last entry that names the item, and how many of its entries name it
+    pub who-next : (sheet item : ℕ) → sheet < sheetCount → answerAfter log cs (ask (who sheet item)) ≡ told (whoLast (entriesOf sheet (workAfter log cs .entries)) item)
+    -- Report, asked next, judges the sheet of all entries of its benches
+    pub report-next : (sheet profile : ℕ) → sheet < sheetCount → profile < profileCount
+        → answerAfter log cs (ask (report sheet profile)) ≡ reported 0 (rowsOf profile (sheetOf (entriesOf sheet (workAfter log cs .entries))))

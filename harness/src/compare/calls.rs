@@ -4,11 +4,16 @@ use super::files::file_place;
 use super::{hex, Comparison};
 use crate::boundary::{
     Filed, Memory, Reported, Told, DESK_COUNT_AT, DESK_ITEMS, DESK_ITEMS_AT, DESK_ITEM_NUMBERS,
+    DESK_SHEET_NUMBERS,
 };
+use crate::desks::OF_SHEET;
 use crate::program::{Answer, Call};
 use crate::tally::Question;
-use reference::desk::{EMPTY, ENTER, ERASE, NOT_OWNER, NOT_SOUND, NO_BENCH, NO_SUCH_ITEM};
+use reference::desk::{
+    EMPTY, ENTER, ERASE, NOT_OWNER, NOT_SOUND, NO_BENCH, NO_SUCH_ITEM, NO_SUCH_SHEET,
+};
 use reference::line::ACCEPTED;
+use reference::powder::NO_SUCH_PROFILE;
 use std::fmt::Display;
 
 /// Bytes after the lent ones, which nobody lends.
@@ -52,18 +57,20 @@ impl Comparison<'_> {
         self.equal(both, &tested, &expected, &format_args!("{place}, fresh"))
     }
 
-    /// A file on so many lent bytes. What was written, where nothing was different.
+    /// A sheet's file on so many lent bytes. What was written, where nothing was different.
     pub(super) fn file(
         &mut self,
         both: &Both,
+        sheet: u64,
         block: &[u8],
         room: usize,
         place: &dyn Display,
     ) -> Option<(Filed, Vec<u8>)> {
         let (mut tested_out, mut expected_out) = (pattern(room), pattern(room));
-        let tested = self.tested.file(&both.tested, block, &mut tested_out[..room]);
-        let expected = self.expected.file(&both.expected, block, &mut expected_out[..room]);
-        let place = format_args!("{place}, file, block name {}, {room} bytes", hex(block));
+        let tested = self.tested.file(&both.tested, sheet, block, &mut tested_out[..room]);
+        let expected = self.expected.file(&both.expected, sheet, block, &mut expected_out[..room]);
+        let block = hex(block);
+        let place = format_args!("{place}, file, sheet {sheet}, block name {block}, {room} bytes");
         if !self.equal(both, &tested, &expected, &place) {
             return None;
         }
@@ -72,11 +79,12 @@ impl Comparison<'_> {
             return None;
         }
         self.tally.note(Question::File, file_place(&tested));
+        self.note_sheet(2, sheet, tested.answer);
         Some((tested, tested_out))
     }
 
     /// Holds two answers and both memories equal.
-    fn equal<T: PartialEq + std::fmt::Debug>(
+    pub(super) fn equal<T: PartialEq + std::fmt::Debug>(
         &mut self,
         both: &Both,
         tested: &T,
@@ -107,14 +115,25 @@ impl Comparison<'_> {
                     _ => {}
                 }
             }
-            (_, Answer::Report(Reported { answer, rows })) => {
+            (Call::Report { sheet, profile }, Answer::Report(Reported { answer, rows })) => {
                 self.tally.note(Question::Report, asked_place(*answer));
+                self.note_sheet(0, sheet, *answer);
                 if *answer == ACCEPTED {
-                    self.tally.note_rows(rows);
+                    self.tally.note_rows(profile, rows);
                 }
             }
-            (_, Answer::Who(told)) => self.tally.note(Question::Who, who_place(told)),
+            (Call::Who { sheet, .. }, Answer::Who(told)) => {
+                self.tally.note(Question::Who, who_place(told));
+                self.note_sheet(1, sheet, told.answer);
+            }
             _ => {}
+        }
+    }
+
+    /// Counts a question that was answered, 0 Report, 1 Who or 2 a file, by its sheet.
+    fn note_sheet(&mut self, question: usize, sheet: u64, answer: u8) {
+        if answer == ACCEPTED {
+            self.tally.note(Question::AskedSheet, 2 * question + sheet as usize);
         }
     }
 
@@ -128,15 +147,27 @@ impl Comparison<'_> {
         self.tally.note(Question::KeyAccepted, accepted);
         if byte == ENTER {
             self.tally.note(Question::EntryBench, bench);
-            let mut items =
-                after.numbers[DESK_ITEMS_AT..].chunks(DESK_ITEM_NUMBERS).take(DESK_ITEMS);
-            let item = items.position(|numbers| numbers[1] == after.numbers[DESK_COUNT_AT]);
+            let sheet = bench / OF_SHEET;
+            let item = entered(&after.numbers, sheet);
             self.tally.note(Question::EntryItem, item.unwrap_or(usize::MAX));
             if let Some(place) = item {
-                self.note_entry(after, place + 1);
+                self.note_entry(after, sheet, place + 1);
+                let other = of_sheet(&after.numbers, 1 - sheet)[place][0] > 0;
+                self.tally.note(Question::OnOtherSheet, other.into());
             }
         }
     }
+}
+
+/// The numbers of each item of a sheet: length, entry number, bench and how many entries named it.
+pub(super) fn of_sheet(numbers: &[usize], sheet: usize) -> &[[usize; DESK_ITEM_NUMBERS]] {
+    &numbers[DESK_ITEMS_AT + DESK_SHEET_NUMBERS * sheet..].as_chunks().0[..DESK_ITEMS]
+}
+
+/// The place of the item of a sheet's last entry.
+pub(super) fn entered(numbers: &[usize], sheet: usize) -> Option<usize> {
+    let count = numbers[DESK_COUNT_AT + DESK_SHEET_NUMBERS * sheet];
+    of_sheet(numbers, sheet).iter().position(|held| held[1] == count)
 }
 
 /// Lent bytes and those after them, which nobody lends: such as stand in no file.
@@ -155,11 +186,13 @@ fn line_length(memory: &Memory, call: &Call) -> usize {
     }
 }
 
-/// The place of an answer that is 0 or 2 in its list.
+/// The place of an answer that is 0, 2, 12 or 21 in its list.
 fn asked_place(answer: u8) -> usize {
     match answer {
         ACCEPTED => 0,
         NOT_SOUND => 1,
+        NO_SUCH_SHEET => 2,
+        NO_SUCH_PROFILE => 3,
         _ => usize::MAX,
     }
 }
@@ -170,7 +203,8 @@ pub(super) fn who_place(told: &Told) -> usize {
         (ACCEPTED, NO_BENCH) => 4,
         (ACCEPTED, bench) => bench.into(),
         (NO_SUCH_ITEM, _) => 5,
-        (NOT_SOUND, _) => 6,
+        (NO_SUCH_SHEET, _) => 6,
+        (NOT_SOUND, _) => 7,
         _ => usize::MAX,
     }
 }

@@ -3,13 +3,13 @@
 use super::calls::Both;
 use super::{from_seeds, hex, Comparison, Plan};
 use crate::boundary::{Filed, DESK_FILE};
-use crate::desks::{holding, in_memory, State};
+use crate::desks::{changed_over, holding, in_memory, State, OF_SHEET};
 use crate::files::{self, length, Files};
 use crate::memory::held;
 use crate::program::Program;
 use crate::tally::Question;
 use reference::cif_file::{BAD_BLOCK_NAME, BLOCK_LENGTHS, LINE_END, NO_ROOM};
-use reference::desk::{Desk, LOG_LIMIT, NOT_SOUND, RECORD_HEAD};
+use reference::desk::{Desk, Sheet, BENCHES, LOG_LIMIT, NOT_SOUND, NO_SUCH_SHEET, RECORD_HEAD};
 use reference::line::ACCEPTED;
 use std::fmt::Display;
 
@@ -37,9 +37,9 @@ impl Comparison<'_> {
         self.begin(name);
         let mut files = Files::new(seed);
         for number in 0..count {
-            let (desk, block) = (files.desk(), files.block());
-            let rooms = files.rooms(length(&desk, &block));
-            self.written(&desk, &block, rooms, &format_args!("{name}, sheet {number}"));
+            let (desk, sheet, block) = (files.desk(), files.sheet(), files.block());
+            let rooms = files.rooms(length(&desk, sheet, &block));
+            self.written(&desk, sheet, &block, rooms, &format_args!("{name}, desk {number}"));
         }
     }
 
@@ -48,8 +48,9 @@ impl Comparison<'_> {
         let mut files = Files::new(!seed);
         for number in 0..count {
             let (desk, block) = (files.desk(), files.name_of(1 + number as usize % 32));
-            let rooms = 0..length(&desk, &block) + 3;
-            self.written(&desk, &block, rooms, &format_args!("{name}, sheet {number}"));
+            let (sheet, place) = (number % 2, format_args!("{name}, desk {number}"));
+            let rooms = 0..length(&desk, sheet, &block) + 3;
+            self.written(&desk, sheet, &block, rooms, &place);
         }
     }
 
@@ -57,19 +58,21 @@ impl Comparison<'_> {
     fn names(&mut self, name: &'static str, blocks: impl Iterator<Item = Vec<u8>>) {
         self.begin(name);
         let (empty, filled) = (holding::<&[u8]>([]), holding([(4, "0.16"), (7, "0.2")]));
-        for block in blocks {
-            self.written(&empty, &block, [length(&empty, &block) - 1], &name);
-            self.written(&filled, &block, [length(&filled, &block)], &name);
+        for (block, sheet) in blocks.zip([0, 1].into_iter().cycle()) {
+            self.written(&empty, sheet, &block, [length(&empty, sheet, &block) - 1], &name);
+            self.written(&filled, sheet, &block, [length(&filled, sheet, &block)], &name);
         }
     }
 
+    /// Files of sheet 0 of each desk, every second one after it was made sheet 1.
     fn files(&mut self, name: &'static str, desks: impl IntoIterator<Item = Desk>) {
         self.begin(name);
         let mut files = Files::new(0);
         for (number, desk) in (1..).zip(desks) {
-            let block = files.name_of(1 + number % 32);
-            let rooms = files.rooms(length(&desk, &block));
-            self.written(&desk, &block, rooms, &format_args!("{name}, sheet {number}"));
+            let (block, sheet) = (files.name_of(1 + number % 32), (number % 2) as u64);
+            let desk = if sheet == 0 { desk } else { changed_over(&desk) };
+            let rooms = files.rooms(length(&desk, sheet, &block));
+            self.written(&desk, sheet, &block, rooms, &format_args!("{name}, desk {number}"));
         }
     }
 
@@ -77,14 +80,16 @@ impl Comparison<'_> {
         self.begin(name);
         let mut files = Files::new(seed.rotate_left(48));
         for number in 0..count {
-            let (desk, block, bench) = (files.desk(), files.name_of(1), files.bench());
-            let place = format_args!("{name}, sheet {number}");
-            let Some(file) = self.written(&desk, &block, [DESK_FILE], &place) else {
+            let (desk, block) = (files.desk(), files.name_of(1));
+            let bench = (number + number / 4) as usize % BENCHES;
+            let (sheet, place) = (number % 2, format_args!("{name}, desk {number}"));
+            let Some(file) = self.written(&desk, sheet, &block, [DESK_FILE], &place) else {
                 continue;
             };
             let logs = [Some(0), Some(1), Some(100), None];
             let log = number as usize % logs.len();
-            let fault = typed_back(self.tested, &desk, &file, bench, logs[log]);
+            let typed = &desk.sheets[sheet as usize];
+            let fault = typed_back(self.tested, typed, &file, bench, logs[log]);
             self.group().answers += 1;
             self.tally.note(Question::TypedLog, log);
             self.tally.note(Question::TypedBench, bench);
@@ -94,10 +99,11 @@ impl Comparison<'_> {
         }
     }
 
-    /// A desk's file by both programs, in each room. The last one, where nothing was different.
+    /// A sheet's file by both programs, in each room. The last one, where nothing was different.
     fn written(
         &mut self,
         desk: &Desk,
+        sheet: u64,
         block: &[u8],
         rooms: impl IntoIterator<Item = usize>,
         place: &dyn Display,
@@ -106,8 +112,8 @@ impl Comparison<'_> {
         let both = Both::new(in_memory(desk));
         let mut last = None;
         for room in rooms {
-            last = self.file(&both, block, room, place).map(|(filed, mut out)| {
-                self.note_file(desk, block, room, &filed);
+            last = self.file(&both, sheet, block, room, place).map(|(filed, mut out)| {
+                self.note_file(desk, sheet, block, room, &filed);
                 out.truncate(filed.count);
                 out
             });
@@ -116,7 +122,7 @@ impl Comparison<'_> {
     }
 
     /// Counts what one writing came to.
-    fn note_file(&mut self, desk: &Desk, block: &[u8], room: usize, filed: &Filed) {
+    fn note_file(&mut self, desk: &Desk, sheet: u64, block: &[u8], room: usize, filed: &Filed) {
         let longest = *BLOCK_LENGTHS.end();
         let lengths = [0..=0, 1..=1, 2..=longest - 2, longest - 1..=longest - 1];
         let place = lengths.iter().position(|lengths| lengths.contains(&block.len()));
@@ -125,9 +131,10 @@ impl Comparison<'_> {
         if ![ACCEPTED, NO_ROOM].contains(&filed.answer) {
             return;
         }
-        let filled = desk.items.iter().filter(|item| item.len > 0).count();
+        let items = &desk.sheets[sheet as usize].items;
+        let filled = items.iter().filter(|item| item.len > 0).count();
         self.tally.note(Question::FilledItems, filled);
-        let exact = length(desk, block);
+        let exact = length(desk, sheet, block);
         let place = match room {
             0 => 0,
             _ if room + 1 < exact => 1,
@@ -139,21 +146,21 @@ impl Comparison<'_> {
 
 /// The place of a file's answer in its list.
 pub(super) fn file_place(filed: &Filed) -> usize {
-    let answers = [ACCEPTED, NOT_SOUND, NO_ROOM, BAD_BLOCK_NAME];
+    let answers = [ACCEPTED, NOT_SOUND, NO_ROOM, BAD_BLOCK_NAME, NO_SUCH_SHEET];
     answers.iter().position(|&known| known == filed.answer).unwrap_or(usize::MAX)
 }
 
-/// Types the file's lines after its first into a fresh desk by one bench. The log has exactly
+/// Types the lines of a sheet's file after its first into a fresh desk by one bench. The log has exactly
 /// enough room, or so many bytes more, or none is a log of the limit. What is wrong: a call that is
-/// not accepted, or a value that is not there again.
+/// not accepted, or a value that is not there again on the bench's sheet.
 fn typed_back(
     program: &dyn Program,
-    desk: &Desk,
+    sheet: &Sheet,
     file: &[u8],
     bench: usize,
     more: Option<usize>,
 ) -> Option<String> {
-    let filled = desk.items.iter().filter(|item| item.len > 0);
+    let filled = sheet.items.iter().filter(|item| item.len > 0);
     let records: usize = filled.map(|item| RECORD_HEAD + item.len as usize).sum();
     let mut memory = State::fresh(more.map_or(LOG_LIMIT, |more| records + more), 1).memory();
     let start = 1 + file.iter().position(|&byte| byte == LINE_END)?;
@@ -164,7 +171,8 @@ fn typed_back(
         }
     }
     let (again, used) = held(&memory)?;
-    for (number, (again, typed)) in (1..).zip(again.items.iter().zip(desk.items)) {
+    let again = again.sheets[bench / OF_SHEET].items;
+    for (number, (again, typed)) in (1..).zip(again.iter().zip(sheet.items)) {
         if (again.len, again.value) != (typed.len, typed.value) {
             return Some(format!("item {number} is {}", hex(&again.value)));
         }

@@ -8,7 +8,7 @@ use crate::random::Random;
 use crate::session::{Session, OTHER_BENCHES};
 use crate::tally::Question;
 use reference::desk::{
-    Item, Line, BENCHES, EMPTY, ENTER, ERASE, LINE_FULL, LOG_LIMIT, RECORD_HEAD,
+    sheet_of, Item, Line, BENCHES, EMPTY, ENTER, ERASE, LINE_FULL, LOG_LIMIT, RECORD_HEAD,
 };
 use reference::line::{ACCEPTED, LIMIT, NOT_A_LINE};
 use reference::names::ITEMS;
@@ -130,7 +130,7 @@ impl Comparison<'_> {
     }
 
     /// Enter with each room about what the record takes, after some records and at the log's limit; on an
-    /// empty item, and on one that the bench owns, or another.
+    /// empty item, and on one that the bench owns, or another of its camp, or one of the other.
     fn room(&mut self, name: &'static str) {
         self.begin(name);
         let longest = format!("{} '{}'", ITEMS[0].0, "x".repeat(longest_value(1) - 2));
@@ -150,14 +150,20 @@ impl Comparison<'_> {
                 {
                     let (mut state, bench) = (State::fresh(used + room, 1), room % BENCHES);
                     state.used = used as u64;
-                    state.desk.count = state.used / RECORD_HEAD as u64;
+                    // The counts of both sheets are as large as they may be.
+                    let count = state.used / RECORD_HEAD as u64;
+                    state.desk.sheets[0].count = count.div_ceil(2);
+                    state.desk.sheets[1].count = count / 2;
                     state.desk.lines[bench] = Line::holding(line.as_bytes());
                     let place = format_args!("{name}, {line}, {room} bytes");
                     self.key(&state, bench as u64, ENTER, &place);
-                    for owner in (0..BENCHES as u64).filter(|_| state.desk.count > 0) {
-                        let first = [&b"?"[..], b"."][used % 2];
-                        state.desk.items[item - 1] = Item::holding(first, 1, owner, 1);
-                        self.key(&state, bench as u64, ENTER, &place);
+                    for owner in 0..BENCHES as u64 {
+                        let (first, mut state) = ([&b"?"[..], b"."][used % 2], state.clone());
+                        let sheet = &mut state.desk.sheets[sheet_of(owner)];
+                        if sheet.count > 0 {
+                            sheet.items[item - 1] = Item::holding(first, 1, owner, 1);
+                            self.key(&state, bench as u64, ENTER, &place);
+                        }
                     }
                 }
             }

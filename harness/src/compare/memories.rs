@@ -3,17 +3,20 @@
 
 use super::calls::Both;
 use super::{from_seeds, Comparison, Plan};
-use crate::boundary::{Memory, DESK_FILE, DESK_NUMBERS, DESK_TEXTS};
+use crate::boundary::{Memory, Proposed, DESK_FILE, DESK_NUMBERS, DESK_TEXTS};
 use crate::broken::{each_broken, WAYS};
 use crate::desks::Desks;
-use crate::old_build::{saved, OLD_LIMIT};
+use crate::old_build::{BEFORE_LINES_OF_200, BEFORE_SHEETS, BEFORE_TIMES};
+use crate::powder::OTHER_PROFILES;
 use crate::program::Call;
 use crate::random::Random;
-use crate::session::OTHER_BENCHES;
+use crate::session::{OTHER_BENCHES, OTHER_SHEETS};
 use crate::tally::{Question, CALLS};
-use reference::desk::{BENCHES, EMPTY, ENTER, ERASE, NOT_SOUND, NO_SUCH_BENCH};
-use reference::line::LIMIT;
+use reference::desk::{
+    BENCHES, EMPTY, ENTER, ERASE, NOT_SOUND, NO_SUCH_BENCH, NO_SUCH_SHEET, SHEETS,
+};
 use reference::names::ITEMS;
+use reference::powder::{NO_SUCH_PROFILE, PROFILES};
 use std::fmt::Display;
 
 /// One desk to be broken in every way, and one lent with every other length, for each two thousand
@@ -75,10 +78,12 @@ impl Comparison<'_> {
         self.begin(name);
         let mut desks = Desks::new(seed.rotate_left(56));
         for number in 0..count {
-            for (limit, question) in
-                [(OLD_LIMIT, Question::OldBuild), (LIMIT, Question::OldNumbers)]
-            {
-                let mut saved = saved(&mut desks, limit);
+            for (build, question) in [
+                (BEFORE_LINES_OF_200, Question::OldBuild),
+                (BEFORE_TIMES, Question::OldNumbers),
+                (BEFORE_SHEETS, Question::OneSheet),
+            ] {
+                let mut saved = build.saved(&mut desks);
                 if number == 0 {
                     saved.texts.fill(0);
                     saved.numbers.fill(0);
@@ -98,8 +103,10 @@ impl Comparison<'_> {
             refused.push((at, answer.is_some_and(|answer| answer.number() == number)));
         }
         for (block, room) in [(&b"camp-1"[..], DESK_FILE), (b"camp-1", 0), (b"_", DESK_FILE)] {
-            let filed = self.file(&both, block, room, place);
-            refused.push((5, filed.is_some_and(|(filed, _)| filed.answer == NOT_SOUND)));
+            for (sheet, at, number) in of_sheets(5) {
+                let filed = self.file(&both, sheet, block, room, place);
+                refused.push((at, filed.is_some_and(|(filed, _)| filed.answer == number)));
+            }
         }
         if both.tested != saved || refused.iter().any(|(_, so)| !so) {
             return self.different(|| format!("{place}: a desk of the old build is taken over"));
@@ -124,15 +131,29 @@ impl Comparison<'_> {
         let keys = benches.into_iter().flat_map(|bench| bytes.map(|byte| (bench, byte)));
         let keys = keys.map(|(bench, byte)| (0, Call::Key { bench, byte }));
         let items = [0, 1 + random.below(ITEMS.len()) as u64, random.next()];
-        let questions = items.map(|item| (2, Call::Who { item }));
-        let calls: Vec<_> = [(1, Call::Report)].into_iter().chain(questions).chain(keys).collect();
+        let sheets = [0, 1, random.pick(&OTHER_SHEETS)];
+        let other_profile = random.pick(&OTHER_PROFILES);
+        let questions = sheets.into_iter().flat_map(|sheet| {
+            let who = items.map(|item| (2, Call::Who { sheet, item }));
+            let profiles =
+                [0, 1, other_profile].map(|profile| (1, Call::Report { sheet, profile }));
+            profiles.into_iter().chain(who)
+        });
+        let calls: Vec<_> = questions.chain(keys).collect();
         for (at, call) in calls {
             let answer = self.call(&mut both, &call, place);
             refused[at] |= answer.is_some_and(|answer| answer.number() == NOT_SOUND);
         }
+        for sheet in sheets {
+            let refusal =
+                |told: Option<Proposed>| told.is_some_and(|told| told.answer == NOT_SOUND);
+            refused[4] |= refusal(self.proposed(&both, sheet, place));
+            refused[5] |= refusal(self.checked(&both, sheet, random.below(30) as u64, place));
+        }
         for block in [&b"camp-1"[..], b"_", b""] {
             for room in [DESK_FILE, random.below(DESK_FILE), 0] {
-                let written = self.file(&both, block, room, place);
+                let sheet = random.pick(&sheets);
+                let written = self.file(&both, sheet, block, room, place);
                 refused[3] |= written.is_some_and(|(filed, _)| filed.answer == NOT_SOUND);
             }
         }
@@ -148,8 +169,30 @@ fn every_call() -> impl Iterator<Item = (usize, u8, Call)> {
         KEYS.map(|byte| (at, number, Call::Key { bench, byte }))
     });
     let items = 0..=ITEMS.len() as u64 + 1;
-    let questions = items.map(|item| (4, NOT_SOUND, Call::Who { item }));
-    keys.chain([(3, NOT_SOUND, Call::Report)]).chain(questions)
+    let who = items.flat_map(|item| {
+        of_sheets(4).map(move |(sheet, at, number)| (at, number, Call::Who { sheet, item }))
+    });
+    let reports = of_sheets(3).flat_map(|(sheet, at, number)| {
+        (0..=PROFILES).map(move |profile| {
+            let refused = if number == NOT_SOUND && profile == PROFILES {
+                (7, NO_SUCH_PROFILE)
+            } else {
+                (at, number)
+            };
+            (refused.0, refused.1, Call::Report { sheet, profile })
+        })
+    });
+    keys.chain(reports).chain(who)
+}
+
+/// The sheets and one that is none, each with the answer that memory gets which is no desk, and with its
+/// place in the list of those: of a sheet this one, otherwise the last.
+fn of_sheets(place: usize) -> impl Iterator<Item = (u64, usize, u8)> {
+    (0..=SHEETS as u64).map(move |sheet| {
+        let (at, number) =
+            if sheet < SHEETS as u64 { (place, NOT_SOUND) } else { (6, NO_SUCH_SHEET) };
+        (sheet, at, number)
+    })
 }
 
 /// Lengths about a right one, each with 0 for less, 1 for as much and 2 for more.

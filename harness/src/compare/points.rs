@@ -1,7 +1,8 @@
 //! Counts what came of numbers with a point at either end, so that each case has to be seen.
 
+use super::calls::of_sheet;
 use super::Comparison;
-use crate::boundary::{Memory, Row, DESK_ITEMS_AT, DESK_ITEMS_SLOT, DESK_ITEM_NUMBERS, DESK_LINE};
+use crate::boundary::{Memory, Row, DESK_ITEMS, DESK_ITEMS_SLOT, DESK_LINE};
 use crate::points::{multiplier, Pointed, Side};
 use crate::tally::Question;
 use reference::line::{ACCEPTED, WRONG_KIND};
@@ -46,9 +47,9 @@ impl Comparison<'_> {
         self.tally.note(Question::PointLine, place);
     }
 
-    /// An accepted entry of an item, 1 to 10.
-    pub(super) fn note_entry(&mut self, after: &Memory, item: usize) {
-        let place = match Pointed::read(value(after, item)).map(|pointed| pointed.side) {
+    /// An accepted entry of a sheet's item, 1 to 10.
+    pub(super) fn note_entry(&mut self, after: &Memory, sheet: usize, item: usize) {
+        let place = match Pointed::read(value(after, sheet, item)).map(|pointed| pointed.side) {
             Some(Side::First) => 0,
             Some(Side::Last) => 1,
             _ => return,
@@ -79,9 +80,9 @@ fn is_number_item(item: usize) -> bool {
     (1..=ITEMS.len()).contains(&item) && ITEMS[item - 1].1 == Kind::Number
 }
 
-/// The value of an item in memory, empty where its length is none.
-pub(super) fn value(memory: &Memory, item: usize) -> &[u8] {
-    let slot = &memory.texts[(DESK_ITEMS_SLOT + item - 1) * DESK_LINE..][..DESK_LINE];
-    let length = memory.numbers[DESK_ITEMS_AT + DESK_ITEM_NUMBERS * (item - 1)];
-    slot.get(..length).unwrap_or(&[])
+/// The value of a sheet's item in memory, empty where its length is none.
+pub(super) fn value(memory: &Memory, sheet: usize, item: usize) -> &[u8] {
+    let at = DESK_ITEMS_SLOT + DESK_ITEMS * sheet + item - 1;
+    let slot = &memory.texts[at * DESK_LINE..][..DESK_LINE];
+    slot.get(..of_sheet(&memory.numbers, sheet)[item - 1][0]).unwrap_or(&[])
 }

@@ -11,6 +11,7 @@ use crate::sequences::{
 };
 use crate::tally::Question;
 use reference::desk::{ENTER, LOG_LIMIT};
+use reference::line::ACCEPTED;
 use std::fmt::Display;
 
 /// One sequence for each fifty lines.
@@ -19,7 +20,7 @@ const SEQUENCES_ONE_IN: u64 = 50;
 const LEFT_OVER: u8 = 0xa5;
 
 /// Each call's answer, and the memory at the end.
-type Played = (Vec<Answer>, Memory);
+pub(super) type Played = (Vec<Answer>, Memory);
 
 impl Comparison<'_> {
     pub(super) fn some_sequences(&mut self, plan: &Plan) {
@@ -68,7 +69,12 @@ impl Comparison<'_> {
 
     /// Calls by both programs on memory that is made a fresh desk. What the tested one came to,
     /// where nothing was different.
-    fn play(&mut self, calls: &[Call], log: &[u8], place: &dyn Display) -> Option<Played> {
+    pub(super) fn play(
+        &mut self,
+        calls: &[Call],
+        log: &[u8],
+        place: &dyn Display,
+    ) -> Option<Played> {
         let mut memory = Memory::zeros(log);
         memory.texts.fill(LEFT_OVER);
         memory.numbers.fill(LEFT_OVER.into());
@@ -86,7 +92,7 @@ impl Comparison<'_> {
             if !self.same_as_records(&both.tested, call, &answer, &place) {
                 return None;
             }
-            self.note_played(&answer);
+            self.note_played(call, &answer);
             if let (Call::Key { bench, byte: ENTER }, Answer::Key(answer)) = (*call, answer) {
                 self.note_entered(&before, &both.tested, bench, answer);
             }
@@ -128,10 +134,14 @@ impl Comparison<'_> {
     }
 
     /// Counts what one call came to.
-    fn note_played(&mut self, answer: &Answer) {
+    fn note_played(&mut self, call: &Call, answer: &Answer) {
         match answer {
             Answer::Key(answer) => self.tally.note(Question::PlayedKey, (*answer).into()),
-            Answer::Report(reported) => self.tally.note_played_rows(&reported.rows),
+            Answer::Report(reported) => {
+                if let (ACCEPTED, Call::Report { profile, .. }) = (reported.answer, call) {
+                    self.tally.note_played_rows(*profile, &reported.rows);
+                }
+            }
             Answer::Who(told) => {
                 self.tally.note(Question::PlayedWho, who_place(told));
                 self.note_times(told.times);

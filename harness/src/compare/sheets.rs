@@ -1,15 +1,17 @@
-//! The comparison of the twelve rows.
+//! The comparison of the rows.
 
 use super::calls::Both;
 use super::{from_seeds, hex, Comparison, Plan};
-use crate::boundary::Reported;
-use crate::desks::{in_memory, sheet};
+use crate::boundary::{Reported, Row};
+use crate::desks::{changed_over, in_memory, sheet};
+use crate::powder;
 use crate::program::{Answer, Call};
 use crate::sheet_lists;
 use crate::sheets::Sheets;
 use crate::tally::Question;
 use reference::desk::{values, Desk};
 use reference::line::ACCEPTED;
+use reference::rows::ROWS;
 use reference::{formula, value};
 use std::fmt::{Display, Formatter, Result};
 
@@ -18,12 +20,12 @@ const ONE_IN: u64 = 2;
 /// One formula for its order for each five: 200,000 in a whole comparison.
 const ORDERS_ONE_IN: u64 = 5;
 
-/// A desk told by its values.
+/// A desk told by the values of its sheet 0.
 struct Told<'a>(&'a Desk);
 
 impl Display for Told<'_> {
     fn fmt(&self, to: &mut Formatter) -> Result {
-        write!(to, "values {}", values(self.0).map(hex).join(","))
+        write!(to, "values {}", values(&self.0.sheets[0]).map(hex).join(","))
     }
 }
 
@@ -50,6 +52,22 @@ impl Comparison<'_> {
         self.sheets("short multipliers", sheet_lists::short_multipliers());
         self.sheets("texts one byte off", sheet_lists::texts_one_byte_off());
         self.sheets("mixtures of missing items", sheet_lists::missing_mixtures());
+        self.sheets("numbers of reflections", powder::reflections());
+        self.sheets("zeros", powder::zeros());
+        self.sheets("crystal sizes", powder::sizes());
+        self.sheets("items 11 to 18 missing", powder::mixtures());
+    }
+
+    /// "Powder gives no alert that the other profile lacks": a row is as in the other report, or is left
+    /// out.
+    fn same_alerts(&mut self, crystal: &[Row; ROWS], powder: &[Row; ROWS], desk: &dyn Display) {
+        self.group().answers += 1;
+        let none = Row { level: 0, reason: 0 };
+        let mut rows = crystal.iter().zip(powder);
+        if !rows.all(|(crystal, powder)| powder == crystal || *powder == none) {
+            self.different(|| format!("{desk}: powder has an alert of its own"));
+        }
+        self.tally.note_left_out(crystal);
     }
 
     fn generated_sheets(&mut self, name: &'static str, seed: u64, count: u64) {
@@ -84,13 +102,22 @@ impl Comparison<'_> {
         }
     }
 
+    /// Reports of sheet 0 of each desk under both profiles, every second one after it was made sheet 1.
     fn sheets(&mut self, name: &'static str, desks: impl IntoIterator<Item = Desk>) {
         self.begin(name);
-        for desk in desks {
+        for (desk, sheet) in desks.into_iter().zip([0, 1].into_iter().cycle()) {
             self.group().inputs += 1;
-            let answer = self.call(&mut Both::new(in_memory(&desk)), &Call::Report, &Told(&desk));
-            if let Some(Answer::Report(Reported { answer: ACCEPTED, rows })) = answer {
-                self.note_multiplier(value::text(values(&desk)[9]), &rows[11]);
+            let memory = in_memory(&if sheet == 0 { desk } else { changed_over(&desk) });
+            let mut both = Both::new(memory);
+            let [crystal, powder] = [0, 1].map(|profile| {
+                match self.call(&mut both, &Call::Report { sheet, profile }, &Told(&desk))? {
+                    Answer::Report(Reported { answer: ACCEPTED, rows }) => Some(rows),
+                    _ => None,
+                }
+            });
+            if let (Some(crystal), Some(powder)) = (crystal, powder) {
+                self.note_multiplier(value::text(values(&desk.sheets[0])[9]), &crystal[11]);
+                self.same_alerts(&crystal, &powder, &Told(&desk));
             }
         }
     }

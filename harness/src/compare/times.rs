@@ -1,22 +1,17 @@
 //! How often an item was typed, and by whom it may be: document 02, requests No. 7 and 8.
 
+use super::calls::{entered, of_sheet};
 use super::points::value;
 use super::Comparison;
-use crate::boundary::{
-    Memory, DESK_COUNT_AT, DESK_ITEMS, DESK_ITEMS_AT, DESK_ITEM_NUMBERS, DESK_LINE, DESK_USED_AT,
-};
+use crate::boundary::{Memory, DESK_LINE, DESK_USED_AT};
+use crate::desks::OF_SHEET;
 use crate::program::{Answer, Call};
 use crate::records::named;
 use crate::tally::Question;
-use reference::desk::{ENTER, LOG_FULL, NOT_OWNER, RECORD_HEAD};
+use reference::desk::{ENTER, LOG_FULL, NOT_OWNER, RECORD_HEAD, SHEETS};
 use reference::line::{split, ACCEPTED, WRONG_KIND};
-use reference::names::item;
+use reference::names::{item, ITEMS};
 use std::fmt::Display;
-
-/// The numbers of each item: length, entry number, bench and how many entries named it.
-fn of_items(numbers: &[usize]) -> &[[usize; DESK_ITEM_NUMBERS]] {
-    &numbers[DESK_ITEMS_AT..].as_chunks().0[..DESK_ITEMS]
-}
 
 /// The item and the value of a line whose Enter was refused for neither its form nor its name.
 fn refused_line(memory: &Memory, bench: usize) -> (usize, &[u8]) {
@@ -26,8 +21,8 @@ fn refused_line(memory: &Memory, bench: usize) -> (usize, &[u8]) {
 }
 
 impl Comparison<'_> {
-    /// "on any desk grown from a fresh one, its records in the used log": what each item holds after
-    /// an accepted Enter, and what Who tells. Whether that is so.
+    /// "on any desk grown from a fresh one, its records in the used log", and "No. 7 counts its own sheet's
+    /// records": what each item holds after an accepted Enter, and what Who tells. Whether that is so.
     pub(super) fn same_as_records(
         &mut self,
         memory: &Memory,
@@ -38,11 +33,17 @@ impl Comparison<'_> {
         let records = || memory.log.get(..memory.numbers[DESK_USED_AT]).and_then(named);
         let same = match (call, answer) {
             (Call::Key { byte: ENTER, .. }, Answer::Key(ACCEPTED)) => {
-                let held = of_items(&memory.numbers).iter().map(|[_, _, _, times]| *times);
-                records().is_some_and(|records| held.eq(records))
+                let held = |sheet| of_sheet(&memory.numbers, sheet).iter().map(|held| held[3]);
+                let all = |records: [_; SHEETS]| {
+                    (0..).zip(records).all(|(sheet, records)| held(sheet).eq(records))
+                };
+                records().is_some_and(all)
             }
-            (Call::Who { item }, Answer::Who(told)) if told.answer == ACCEPTED => {
-                records().is_some_and(|records| records[*item as usize - 1] == told.times)
+            (Call::Who { sheet, item }, Answer::Who(told)) if told.answer == ACCEPTED => {
+                let told = |records: [[usize; ITEMS.len()]; SHEETS]| {
+                    records[*sheet as usize][*item as usize - 1] == told.times
+                };
+                records().is_some_and(told)
             }
             _ => return true,
         };
@@ -61,17 +62,16 @@ impl Comparison<'_> {
         bench: u64,
         answer: u8,
     ) {
+        let sheet = bench as usize / OF_SHEET;
         match answer {
             ACCEPTED => {
-                let count = memory.numbers[DESK_COUNT_AT];
-                let entered = of_items(&memory.numbers).iter().position(|held| held[1] == count);
-                let Some(entered) = entered else { return };
-                let filled = of_items(before)[entered][0] > 0;
+                let Some(entered) = entered(&memory.numbers, sheet) else { return };
+                let filled = of_sheet(before, sheet)[entered][0] > 0;
                 self.tally.note(Question::Entered, filled.into());
             }
             WRONG_KIND | LOG_FULL | NOT_OWNER => {
                 let (named, _) = refused_line(memory, bench as usize);
-                let place = match (of_items(before)[named - 1], answer) {
+                let place = match (of_sheet(before, sheet)[named - 1], answer) {
                     ([0, ..], _) => return,
                     ([_, _, of, _], WRONG_KIND) if of as u64 == bench => 0,
                     (_, LOG_FULL) => 1,
@@ -96,7 +96,7 @@ impl Comparison<'_> {
             _ => 3,
         };
         self.tally.note(Question::NotOwnerRoom, place);
-        let place = match value(memory, named) {
+        let place = match value(memory, bench / OF_SHEET, named) {
             b"?" => 1,
             b"." => 2,
             _ => 0,

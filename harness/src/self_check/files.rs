@@ -6,7 +6,7 @@ use crate::by_reference::Reference;
 use crate::memory::held;
 use crate::program::Program;
 use reference::cif_file::{self, is_block_name, BAD_BLOCK_NAME, LINE_END, NO_ROOM};
-use reference::desk::{values, Desk, NOT_SOUND};
+use reference::desk::{values, Sheet, NOT_SOUND};
 use reference::line::ACCEPTED;
 use reference::names::ITEMS;
 use reference::value;
@@ -14,23 +14,23 @@ use reference::value;
 pub const FAULTS: [(&str, Wrong); 8] = [
     (
         "a block name's length is cut to 8 bits",
-        Wrong::File(|memory, block, out| {
+        Wrong::File(|memory, sheet, block, out| {
             let taken = is_block_name(&block[..block.len() % 256]);
-            instead_of(BAD_BLOCK_NAME, memory, block, out, |desk, out| {
-                taken.then(|| put(&cif_file::file(desk, block), out))
+            instead_of(BAD_BLOCK_NAME, memory, sheet, block, out, |sheet, out| {
+                taken.then(|| put(&cif_file::file(sheet, block), out))
             })
         }),
     ),
     (
         "quotes are dropped",
-        Wrong::File(|memory, block, out| {
-            changed(memory, block, out, |name, typed| line(name, value::text(typed)))
+        Wrong::File(|memory, sheet, block, out| {
+            changed(memory, sheet, block, out, |name, typed| line(name, value::text(typed)))
         }),
     ),
     (
         "empty items are written as ?",
-        Wrong::File(|memory, block, out| {
-            changed(memory, block, out, |name, typed| {
+        Wrong::File(|memory, sheet, block, out| {
+            changed(memory, sheet, block, out, |name, typed| {
                 line(name, if typed.is_empty() { b"?" } else { typed })
             })
         }),
@@ -39,8 +39,8 @@ pub const FAULTS: [(&str, Wrong); 8] = [
     ("a room one byte too small is taken", Wrong::File(cut_off)),
     (
         "a byte is written with refusal 10",
-        Wrong::File(|memory, block, out| {
-            let right = Reference.file(memory, block, out);
+        Wrong::File(|memory, sheet, block, out| {
+            let right = Reference.file(memory, sheet, block, out);
             if right.answer == NO_ROOM {
                 out.iter_mut().take(1).for_each(|first| *first = b'd');
             }
@@ -50,8 +50,8 @@ pub const FAULTS: [(&str, Wrong); 8] = [
     ("no room is looked at before the name", Wrong::File(room_first)),
     (
         "the name is looked at before soundness",
-        Wrong::File(|memory, block, out| {
-            instead_of(NOT_SOUND, memory, block, out, |_, _| {
+        Wrong::File(|memory, sheet, block, out| {
+            instead_of(NOT_SOUND, memory, sheet, block, out, |_, _| {
                 (!is_block_name(block)).then_some(Filed { answer: BAD_BLOCK_NAME, count: 0 })
             })
         }),
@@ -71,13 +71,15 @@ fn put(file: &[u8], out: &mut [u8]) -> Filed {
 fn instead_of(
     refusal: u8,
     memory: &Memory,
+    sheet: u64,
     block: &[u8],
     out: &mut [u8],
-    other: impl FnOnce(&Desk, &mut [u8]) -> Option<Filed>,
+    other: impl FnOnce(&Sheet, &mut [u8]) -> Option<Filed>,
 ) -> Filed {
-    let right = Reference.file(memory, block, out);
+    let right = Reference.file(memory, sheet, block, out);
     let desk = held(memory).filter(|_| right.answer == refusal);
-    desk.and_then(|(desk, _)| other(&desk, out)).unwrap_or(right)
+    let sheet = desk.and_then(|(desk, _)| desk.sheet(sheet).copied());
+    sheet.and_then(|sheet| other(&sheet, out)).unwrap_or(right)
 }
 
 fn line(name: &[u8], value: &[u8]) -> Vec<u8> {
@@ -90,14 +92,15 @@ fn line(name: &[u8], value: &[u8]) -> Vec<u8> {
 /// The right answer to another file of these lines of a sound desk.
 fn rewritten(
     memory: &Memory,
+    sheet: u64,
     block: &[u8],
     out: &mut [u8],
-    lines: impl Fn(&Desk) -> Vec<Vec<u8>>,
+    lines: impl Fn(&Sheet) -> Vec<Vec<u8>>,
 ) -> Filed {
-    match (Reference.file(memory, block, &mut out.to_vec()), held(memory)) {
+    match (Reference.file(memory, sheet, block, &mut out.to_vec()), held(memory)) {
         (Filed { answer: ACCEPTED | NO_ROOM, .. }, Some((desk, _))) => {
             let head = [b"data_", block, &[LINE_END]].concat();
-            put(&[head, lines(&desk).concat()].concat(), out)
+            put(&[head, lines(&desk.sheets[sheet as usize]).concat()].concat(), out)
         }
         (right, _) => right,
     }
@@ -106,37 +109,38 @@ fn rewritten(
 /// The same, where each item's line is made otherwise, from its name and value.
 fn changed(
     memory: &Memory,
+    sheet: u64,
     block: &[u8],
     out: &mut [u8],
     made: fn(&[u8], &[u8]) -> Vec<u8>,
 ) -> Filed {
-    rewritten(memory, block, out, |desk| {
+    rewritten(memory, sheet, block, out, |sheet| {
         let names = ITEMS.iter().map(|(name, _)| name.as_bytes());
-        names.zip(values(desk)).map(|(name, value)| made(name, value)).collect()
+        names.zip(values(sheet)).map(|(name, value)| made(name, value)).collect()
     })
 }
 
-fn by_entry(memory: &Memory, block: &[u8], out: &mut [u8]) -> Filed {
-    rewritten(memory, block, out, |desk| {
+fn by_entry(memory: &Memory, sheet: u64, block: &[u8], out: &mut [u8]) -> Filed {
+    rewritten(memory, sheet, block, out, |sheet| {
         let names = ITEMS.iter().map(|(name, _)| name.as_bytes());
-        let lines = names.zip(values(desk)).map(|(name, value)| line(name, value));
-        let mut entries: Vec<_> = desk.items.iter().map(|item| item.entry).zip(lines).collect();
+        let lines = names.zip(values(sheet)).map(|(name, value)| line(name, value));
+        let mut entries: Vec<_> = sheet.items.iter().map(|item| item.entry).zip(lines).collect();
         entries.sort();
         entries.into_iter().map(|(_, line)| line).collect()
     })
 }
 
 /// Where one byte is lacking, all bytes but the last are written.
-fn cut_off(memory: &Memory, block: &[u8], out: &mut [u8]) -> Filed {
-    instead_of(NO_ROOM, memory, block, out, |desk, out| {
-        let file = cif_file::file(desk, block);
+fn cut_off(memory: &Memory, sheet: u64, block: &[u8], out: &mut [u8]) -> Filed {
+    instead_of(NO_ROOM, memory, sheet, block, out, |sheet, out| {
+        let file = cif_file::file(sheet, block);
         (file.len() == out.len() + 1).then(|| put(&file[..out.len()], out))
     })
 }
 
-fn room_first(memory: &Memory, block: &[u8], out: &mut [u8]) -> Filed {
-    instead_of(BAD_BLOCK_NAME, memory, block, out, |desk, out| {
-        let no_room = cif_file::file(desk, block).len() > out.len();
+fn room_first(memory: &Memory, sheet: u64, block: &[u8], out: &mut [u8]) -> Filed {
+    instead_of(BAD_BLOCK_NAME, memory, sheet, block, out, |sheet, out| {
+        let no_room = cif_file::file(sheet, block).len() > out.len();
         no_room.then_some(Filed { answer: NO_ROOM, count: 0 })
     })
 }

@@ -8,8 +8,8 @@ use crate::old_build::{taken_over, OLD_LIMIT};
 use crate::points::Pointed;
 use crate::program::Program;
 use reference::desk::{
-    Item, Line, BENCHES, ENTER, ERASE, LINE_FULL, NOT_SOUND, NO_SUCH_BENCH, NO_SUCH_KEY,
-    RECORD_HEAD,
+    sheet_of, Item, Line, Sheet, BENCHES, ENTER, ERASE, LINE_FULL, NOT_SOUND, NO_SUCH_BENCH,
+    NO_SUCH_KEY, RECORD_HEAD,
 };
 use reference::line::{split, ACCEPTED, BYTES, WRONG_KIND};
 use reference::names::{item, Kind, ITEMS};
@@ -113,11 +113,11 @@ fn quotes_lost(memory: &mut Memory, bench: u64, byte: u8) -> u8 {
     let answer = Reference.key(memory, bench, byte);
     if byte == ENTER && answer == ACCEPTED {
         change(memory, |desk| {
-            let count = desk.count;
-            for item in desk.items.iter_mut().filter(|item| item.entry == count) {
+            let Sheet { items, count } = &mut desk.sheets[sheet_of(bench)];
+            for item in items.iter_mut().filter(|item| item.entry == *count) {
                 let typed = item.value;
                 let text = value::text(&typed[..item.len as usize]);
-                *item = Item::holding(text, count, item.bench, item.times);
+                *item = Item::holding(text, *count, item.bench, item.times);
             }
         });
     }
@@ -129,9 +129,11 @@ fn bytes_kept(memory: &mut Memory, bench: u64, byte: u8) -> u8 {
     let answer = Reference.key(memory, bench, byte);
     if let (ENTER, ACCEPTED, Some((before, _))) = (byte, answer, before) {
         change(memory, |desk| {
-            for (new, old) in desk.items.iter_mut().zip(&before.items) {
-                let len = new.len as usize;
-                new.value[len..].copy_from_slice(&old.value[len..]);
+            for (new, old) in desk.sheets.iter_mut().zip(&before.sheets) {
+                for (new, old) in new.items.iter_mut().zip(&old.items) {
+                    let len = new.len as usize;
+                    new.value[len..].copy_from_slice(&old.value[len..]);
+                }
             }
         });
     }
@@ -150,7 +152,9 @@ fn refused_empties(memory: &mut Memory, bench: u64, byte: u8) -> u8 {
 fn refused_copies(memory: &mut Memory, bench: u64, byte: u8) -> u8 {
     let answer = Reference.key(memory, bench, byte);
     if byte == ENTER && answer > LINE_FULL {
-        change(memory, |desk| desk.items[9].value = desk.lines[bench as usize].bytes);
+        change(memory, |desk| {
+            desk.sheets[sheet_of(bench)].items[9].value = desk.lines[bench as usize].bytes;
+        });
     }
     answer
 }

@@ -5,7 +5,7 @@ use crate::boundary::Memory;
 use crate::by_reference::Reference;
 use crate::memory::held;
 use crate::program::Program;
-use reference::desk::{Item, ENTER, LOG_FULL, NOT_OWNER, RECORD_HEAD};
+use reference::desk::{sheet_of, Item, ENTER, LOG_FULL, NOT_OWNER, RECORD_HEAD};
 use reference::line::{split, ACCEPTED, WRONG_KIND};
 use reference::names;
 use reference::value::{form, Form};
@@ -30,20 +30,20 @@ pub const FAULTS: [(&str, Wrong); 7] = [
         Wrong::Key(|memory, bench, byte| owned(memory, bench, byte, |item, _| item.len > 0)),
     ),
     (
-        "an empty item belongs to bench 0",
+        "an empty item belongs to the first bench of its sheet",
         Wrong::Key(|memory, bench, byte| {
-            owned(memory, bench, byte, |item, bench| item.len == 0 && bench != 0)
+            owned(memory, bench, byte, |item, bench| item.len == 0 && bench % 2 != 0)
         }),
     ),
 ];
 
-/// The item that a bench's line names, its number and what it holds, and the value typed.
-fn named(memory: &Memory, bench: u64) -> Option<(usize, Item, Vec<u8>)> {
+/// The item that a bench's line names, its number and what its sheet holds of it, and the value typed.
+pub fn named(memory: &Memory, bench: u64) -> Option<(usize, Item, Vec<u8>)> {
     let (desk, _) = held(memory)?;
     let line = desk.lines.get(usize::try_from(bench).ok()?)?;
     let (name, value) = split(line.bytes.get(..line.len as usize)?)?;
     let number = names::item(name)?;
-    Some((number, desk.items[number - 1], value.to_vec()))
+    Some((number, desk.sheets[sheet_of(bench)].items[number - 1], value.to_vec()))
 }
 
 fn before_7(memory: &mut Memory, bench: u64, byte: u8) -> u8 {
@@ -78,10 +78,11 @@ fn free(memory: &mut Memory, bench: u64, byte: u8, is_free: fn(&Item) -> bool) -
     let right = Reference.key(memory, bench, byte);
     match named(memory, bench).filter(|(_, item, _)| right == NOT_OWNER && is_free(item)) {
         Some((number, item, _)) => {
-            change(memory, |desk| desk.items[number - 1].bench = bench);
+            let sheet = sheet_of(bench);
+            change(memory, |desk| desk.sheets[sheet].items[number - 1].bench = bench);
             let answer = Reference.key(memory, bench, byte);
             if answer != ACCEPTED {
-                change(memory, |desk| desk.items[number - 1] = item);
+                change(memory, |desk| desk.sheets[sheet].items[number - 1] = item);
             }
             answer
         }

@@ -4,13 +4,16 @@ use super::Wrong;
 use crate::boundary::{Memory, Reported, Row, Told, DESK_COUNT_AT, DESK_NUMBERS, DESK_USED_AT};
 use crate::by_reference::{gathered, Reference};
 use crate::compare::Gather;
-use crate::desks::{holding, in_memory, longest_value, sheet};
+use crate::desks::{in_memory, longest_value, sheet};
 use crate::memory::{held, put};
 use crate::old_build::{taken_over, OLD_LIMIT};
 use crate::program::{Call, Program};
-use reference::desk::{values, ENTER, NOT_SOUND, NO_BENCH, NO_SUCH_ITEM, RECORD_HEAD};
+use reference::desk::{
+    sheet_of, values, Item, Sheet, ENTER, NOT_SOUND, NO_BENCH, NO_SUCH_ITEM, RECORD_HEAD, SHEETS,
+};
 use reference::line::{classify, split, ACCEPTED, LIMIT};
 use reference::names::{item, ITEMS};
+use reference::powder::PROFILES;
 use reference::rows::ROWS;
 use std::cell::Cell;
 
@@ -23,15 +26,18 @@ pub const FAULTS: [(&str, Wrong); 13] = [
     ("Who answers the first entry", Wrong::Who(first_entry)),
     ("Who answers on an unsound desk", Wrong::Who(unsound_answered)),
     ("Who looks at the item before soundness", Wrong::Who(item_first)),
-    ("Who counts items modulo 2^32", Wrong::Who(|m, item| Reference.who(m, item % (1 << 32)))),
+    (
+        "Who counts items modulo 2^32",
+        Wrong::Who(|m, sheet, item| Reference.who(m, sheet, item % (1 << 32))),
+    ),
     ("Report wants lines of at most 80", Wrong::Report(old_limit)),
     (
         "Report tests a value's length without its name and space",
-        Wrong::Report(|memory| Reference.report(&shortened(memory))),
+        Wrong::Report(|m, sheet, profile| Reference.report(&shortened(m), sheet, profile)),
     ),
     (
         "Who tests a value's length without its name and space",
-        Wrong::Who(|memory, item| Reference.who(&shortened(memory), item)),
+        Wrong::Who(|memory, sheet, item| Reference.who(&shortened(memory), sheet, item)),
     ),
     ("Report takes a desk of the old build", Wrong::Report(old_taken)),
 ];
@@ -43,34 +49,35 @@ pub const ORDERS: [(&str, Gather); 2] = [
 ];
 
 /// Lines that Enter would accept are on the sheet already.
-fn unfinished_read(memory: &Memory) -> Reported {
-    let (right, mut read) = (Reference.report(memory), memory.clone());
+fn unfinished_read(memory: &Memory, sheet: u64, profile: u64) -> Reported {
+    let (right, mut read) = (Reference.report(memory, sheet, profile), memory.clone());
     if let (ACCEPTED, Some((mut desk, used))) = (right.answer, held(memory)) {
-        for line in desk.lines {
+        for (line, bench) in desk.lines.into_iter().zip(0..) {
             let typed = &line.bytes[..line.len as usize];
             if let (ACCEPTED, Some((name, value))) = (classify(typed), split(typed)) {
                 let number = item(name).expect("an accepted line names an item");
-                desk.items[number - 1] = holding([(number, value)]).items[number - 1];
-                desk.count = desk.count.max(1);
+                let Sheet { items, count } = &mut desk.sheets[sheet_of(bench)];
+                items[number - 1] = Item::holding(value, 1, bench, 1);
+                *count = (*count).max(1);
             }
         }
         put(&mut read, &desk, used);
     }
-    Reference.report(&read)
+    Reference.report(&read, sheet, profile)
 }
 
 /// Until the next fresh desk.
-fn first_kept(memory: &Memory) -> Reported {
+fn first_kept(memory: &Memory, sheet: u64, profile: u64) -> Reported {
     thread_local!(static FIRST: Cell<Option<Reported>> = const { Cell::new(None) });
     let kept = FIRST.get().filter(|_| memory.numbers.get(DESK_COUNT_AT).is_some_and(|&n| n > 0));
-    let told = kept.unwrap_or_else(|| Reference.report(memory));
+    let told = kept.unwrap_or_else(|| Reference.report(memory, sheet, profile));
     FIRST.set(Some(told));
     told
 }
 
 /// Six times the count is more than the used number.
-fn log_looked_at(memory: &Memory) -> Reported {
-    let right = Reference.report(memory);
+fn log_looked_at(memory: &Memory, sheet: u64, profile: u64) -> Reported {
+    let right = Reference.report(memory, sheet, profile);
     let few = |numbers: &[usize]| {
         numbers[DESK_COUNT_AT] as u128 * RECORD_HEAD as u128 > numbers[DESK_USED_AT] as u128
     };
@@ -80,13 +87,13 @@ fn log_looked_at(memory: &Memory) -> Reported {
     }
 }
 
-fn old_limit(memory: &Memory) -> Reported {
+fn old_limit(memory: &Memory, sheet: u64, profile: u64) -> Reported {
     let long = held(memory)
         .is_some_and(|(desk, _)| desk.lines.iter().any(|line| line.len > OLD_LIMIT as u64));
-    if long {
+    if long && sheet < SHEETS as u64 && profile < PROFILES {
         refusal()
     } else {
-        Reference.report(memory)
+        Reference.report(memory, sheet, profile)
     }
 }
 
@@ -95,7 +102,7 @@ fn old_limit(memory: &Memory) -> Reported {
 fn shortened(memory: &Memory) -> Memory {
     let mut memory = memory.clone();
     if let Some((mut desk, used)) = held(&memory) {
-        for (number, item) in (1..).zip(&mut desk.items) {
+        for (number, item) in desk.sheets.iter_mut().flat_map(|sheet| (1..).zip(&mut sheet.items)) {
             let longest = longest_value(number);
             if (longest as u64 + 1..=LIMIT as u64).contains(&item.len) {
                 item.len = longest as u64;
@@ -107,8 +114,8 @@ fn shortened(memory: &Memory) -> Memory {
     memory
 }
 
-fn old_taken(memory: &Memory) -> Reported {
-    Reference.report(&taken_over(memory).unwrap_or_else(|| memory.clone()))
+fn old_taken(memory: &Memory, sheet: u64, profile: u64) -> Reported {
+    Reference.report(&taken_over(memory).unwrap_or_else(|| memory.clone()), sheet, profile)
 }
 
 fn refusal() -> Reported {
@@ -116,43 +123,46 @@ fn refusal() -> Reported {
 }
 
 /// The rows of the values of a desk whose lines alone are broken.
-fn unsound_told(memory: &Memory) -> Reported {
-    let right = Reference.report(memory);
+fn unsound_told(memory: &Memory, asked: u64, profile: u64) -> Reported {
+    let right = Reference.report(memory, asked, profile);
     let Some((desk, _)) = held(memory).filter(|_| right.answer == NOT_SOUND) else {
         return right;
     };
-    if desk.items.iter().any(|item| item.len > LIMIT as u64) {
+    let asked = &desk.sheets[asked as usize];
+    if asked.items.iter().any(|item| item.len > LIMIT as u64) {
         return right;
     }
-    Reference.report(&in_memory(&sheet(values(&desk))))
+    Reference.report(&in_memory(&sheet(values(asked))), 0, profile)
 }
 
-fn short_taken(memory: &Memory) -> Reported {
+fn short_taken(memory: &Memory, sheet: u64, profile: u64) -> Reported {
     let mut longer = memory.clone();
     if memory.numbers.len() == DESK_NUMBERS - 1 {
         longer.numbers = [&memory.numbers[..], &[0]].concat().into();
     }
-    Reference.report(&longer)
+    Reference.report(&longer, sheet, profile)
 }
 
 /// Who keeps the first answer that names a bench, until the next fresh desk.
-fn first_entry(memory: &Memory, item: u64) -> Told {
-    type First = [Option<Told>; ITEMS.len()];
-    thread_local!(static FIRST: Cell<First> = const { Cell::new([None; ITEMS.len()]) });
-    let right = Reference.who(memory, item);
+fn first_entry(memory: &Memory, sheet: u64, item: u64) -> Told {
+    type First = [[Option<Told>; ITEMS.len()]; SHEETS];
+    thread_local!(static FIRST: Cell<First> = const { Cell::new([[None; ITEMS.len()]; SHEETS]) });
+    let right = Reference.who(memory, sheet, item);
     let named = right.answer == ACCEPTED && right.bench != NO_BENCH;
     let mut first = if named { FIRST.get() } else { return right };
-    let kept = first[item as usize - 1].filter(|kept| kept.entry <= right.entry);
-    first[item as usize - 1] = kept.or(Some(right));
+    let told = &mut first[sheet as usize][item as usize - 1];
+    let kept = told.filter(|kept| kept.entry <= right.entry).unwrap_or(right);
+    *told = Some(kept);
     FIRST.set(first);
-    first[item as usize - 1].expect("it is set")
+    kept
 }
 
-fn unsound_answered(memory: &Memory, item: u64) -> Told {
-    let right = Reference.who(memory, item);
+fn unsound_answered(memory: &Memory, sheet: u64, item: u64) -> Told {
+    let right = Reference.who(memory, sheet, item);
     let desk = held(memory).filter(|_| right.answer == NOT_SOUND);
     let place = (item as usize).wrapping_sub(1);
-    match desk.and_then(|(desk, _)| desk.items.get(place).copied()) {
+    let items = desk.map(|(desk, _)| desk.sheets[sheet as usize].items);
+    match items.and_then(|items| items.get(place).copied()) {
         Some(item) if item.len > 0 => {
             let (entry, times) = (item.entry as usize, item.times as usize);
             Told { entry, times, answer: ACCEPTED, bench: item.bench as u8 }
@@ -161,9 +171,9 @@ fn unsound_answered(memory: &Memory, item: u64) -> Told {
     }
 }
 
-fn item_first(memory: &Memory, item: u64) -> Told {
-    let right = Reference.who(memory, item);
-    if (1..=ITEMS.len() as u64).contains(&item) {
+fn item_first(memory: &Memory, sheet: u64, item: u64) -> Told {
+    let right = Reference.who(memory, sheet, item);
+    if (1..=ITEMS.len() as u64).contains(&item) || sheet >= SHEETS as u64 {
         right
     } else {
         Told { answer: NO_SUCH_ITEM, ..right }

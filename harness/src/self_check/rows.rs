@@ -17,44 +17,87 @@ use reference::rows::{Values, RATIO_BOUNDS};
 use reference::value::{form, text, Form};
 
 pub const FAULTS: [(&str, Wrong); 12] = [
-    ("RW is rounded to hundredths", Wrong::Report(|memory| by_ratio(memory, rounded))),
-    ("RW is a quotient of 32-bit floats", Wrong::Report(|memory| by_ratio(memory, float))),
-    ("F is matched before F^2^", Wrong::Report(|memory| changed(memory, f_first))),
-    ("row 6's last bound passed decides", Wrong::Report(|memory| changed(memory, last_bound))),
-    ("the old name is judged first", Wrong::Report(|memory| of_others(memory, old_first))),
-    ("two spaces count as one", Wrong::Report(|memory| of_others(memory, two_spaces))),
-    ("plain ASCII order", Wrong::Report(|memory| changed(memory, ascii_order))),
-    ("not judgeable before missing", Wrong::Report(|memory| changed(memory, not_judgeable_first))),
-    ("row 12 wants a digit on each side", Wrong::Report(|memory| changed(memory, on_each_side))),
-    ("row 12 judges a point alone as zero", Wrong::Report(|memory| changed(memory, point_alone))),
-    ("a sum is cut to 32 bits", Wrong::Report(|memory| by_ratio(memory, cut_sum))),
+    (
+        "RW is rounded to hundredths",
+        Wrong::Report(|m, sheet, profile| by_ratio(m, sheet, profile, rounded)),
+    ),
+    (
+        "RW is a quotient of 32-bit floats",
+        Wrong::Report(|m, sheet, profile| by_ratio(m, sheet, profile, float)),
+    ),
+    (
+        "F is matched before F^2^",
+        Wrong::Report(|m, sheet, profile| changed(m, sheet, profile, f_first)),
+    ),
+    (
+        "row 6's last bound passed decides",
+        Wrong::Report(|m, sheet, profile| changed(m, sheet, profile, last_bound)),
+    ),
+    (
+        "the old name is judged first",
+        Wrong::Report(|m, sheet, profile| of_others(m, sheet, profile, old_first)),
+    ),
+    (
+        "two spaces count as one",
+        Wrong::Report(|m, sheet, profile| of_others(m, sheet, profile, two_spaces)),
+    ),
+    (
+        "plain ASCII order",
+        Wrong::Report(|m, sheet, profile| changed(m, sheet, profile, ascii_order)),
+    ),
+    (
+        "not judgeable before missing",
+        Wrong::Report(|m, sheet, profile| changed(m, sheet, profile, not_judgeable_first)),
+    ),
+    (
+        "row 12 wants a digit on each side",
+        Wrong::Report(|m, sheet, profile| changed(m, sheet, profile, on_each_side)),
+    ),
+    (
+        "row 12 judges a point alone as zero",
+        Wrong::Report(|m, sheet, profile| changed(m, sheet, profile, point_alone)),
+    ),
+    (
+        "a sum is cut to 32 bits",
+        Wrong::Report(|m, sheet, profile| by_ratio(m, sheet, profile, cut_sum)),
+    ),
     (
         "a formula ends where a line of 80 did",
-        Wrong::Report(|memory| of_others(memory, cut_formula)),
+        Wrong::Report(|m, sheet, profile| of_others(m, sheet, profile, cut_formula)),
     ),
 ];
 
 /// The right rows of a sound desk, changed.
-fn changed(memory: &Memory, change: impl Fn(&Values, &mut Reported)) -> Reported {
-    let mut right = Reference.report(memory);
+fn changed(
+    memory: &Memory,
+    sheet: u64,
+    profile: u64,
+    change: impl Fn(&Values, &mut Reported),
+) -> Reported {
+    let mut right = Reference.report(memory, sheet, profile);
     if let (ACCEPTED, Some((desk, _))) = (right.answer, held(memory)) {
-        change(&values(&desk), &mut right);
+        change(&values(&desk.sheets[sheet as usize]), &mut right);
     }
     right
 }
 
 /// The right rows of other values than a sound desk has.
-fn of_others(memory: &Memory, other: fn(&mut [Vec<u8>])) -> Reported {
-    changed(memory, |values, right| {
+fn of_others(memory: &Memory, asked: u64, profile: u64, other: fn(&mut [Vec<u8>])) -> Reported {
+    changed(memory, asked, profile, |values, right| {
         let mut values = values.map(Vec::from);
         other(&mut values);
-        *right = Reference.report(&in_memory(&sheet(values)));
+        *right = Reference.report(&in_memory(&sheet(values)), 0, profile);
     })
 }
 
 /// Row 4 by a test of the weight and the sum against each bound in hundredths: below, above.
-fn by_ratio(memory: &Memory, outside: fn(i128, i128, i128, i128) -> bool) -> Reported {
-    changed(memory, |&[formula, weight, ..], right| {
+fn by_ratio(
+    memory: &Memory,
+    sheet: u64,
+    profile: u64,
+    outside: fn(i128, i128, i128, i128) -> bool,
+) -> Reported {
+    changed(memory, sheet, profile, |&[formula, weight, ..], right| {
         let sum = formula::sum(text(formula)).filter(|_| !formula.is_empty());
         if let (Some(weight), Some(sum)) = (number(weight), sum) {
             let (weight, sum) = (weight.into(), 1000 * sum);

@@ -6,7 +6,7 @@ use crate::by_reference::Reference;
 use crate::memory::held;
 use crate::old_build::taken_over;
 use crate::program::Program;
-use reference::desk::{Desk, Item, ENTER, LOG_FULL, NOT_OWNER, NOT_SOUND};
+use reference::desk::{sheet_of, Item, Sheet, ENTER, LOG_FULL, NOT_OWNER, NOT_SOUND};
 use reference::line::{split, ACCEPTED, WRONG_KIND};
 use reference::names::{item, ITEMS};
 
@@ -22,41 +22,47 @@ pub const FAULTS: [(&str, Wrong); 14] = [
         "a key takes a number in an empty item",
         Wrong::Key(|m, bench, byte| key(m, bench, byte, in_empty)),
     ),
-    ("Report takes 0 in a filled item", Wrong::Report(|m| Reference.report(&mended(m, zero)))),
+    (
+        "Report takes 0 in a filled item",
+        Wrong::Report(|m, sheet, profile| Reference.report(&mended(m, zero), sheet, profile)),
+    ),
     (
         "Who takes more than the count",
-        Wrong::Who(|m, item| Reference.who(&mended(m, beyond), item)),
+        Wrong::Who(|m, sheet, item| Reference.who(&mended(m, beyond), sheet, item)),
     ),
     (
         "Who takes a number in an empty item",
-        Wrong::Who(|m, item| Reference.who(&mended(m, in_empty), item)),
+        Wrong::Who(|m, sheet, item| Reference.who(&mended(m, in_empty), sheet, item)),
     ),
     (
         "a file is written with 0 in a filled item",
-        Wrong::File(|m, block, out| Reference.file(&mended(m, zero), block, out)),
+        Wrong::File(|m, sheet, block, out| Reference.file(&mended(m, zero), sheet, block, out)),
     ),
     (
         "Who takes a desk of 36 numbers",
-        Wrong::Who(|m, item| Reference.who(&taken_over(m).unwrap_or_else(|| m.clone()), item)),
+        Wrong::Who(|m, sheet, item| {
+            Reference.who(&taken_over(m).unwrap_or_else(|| m.clone()), sheet, item)
+        }),
     ),
     (
         "Who tells 1 of an empty item",
-        Wrong::Who(|m, item| {
-            let mut told = Reference.who(m, item);
+        Wrong::Who(|m, sheet, item| {
+            let mut told = Reference.who(m, sheet, item);
             told.times += usize::from(told.answer == ACCEPTED && told.times == 0);
             told
         }),
     ),
 ];
 
-/// The right answer; after an accepted Enter the items are changed, of which the one at this place
-/// was entered.
+/// The right answer; after an accepted Enter the items of its sheet are changed, of which the one at
+/// this place was entered.
 fn entered(memory: &mut Memory, bench: u64, byte: u8, changed: fn(&mut [Item], usize)) -> u8 {
     let answer = Reference.key(memory, bench, byte);
     if byte == ENTER && answer == ACCEPTED {
         change(memory, |desk| {
-            let at = desk.items.iter().position(|item| item.entry == desk.count);
-            changed(&mut desk.items, at.expect("the last entry is there"));
+            let Sheet { items, count } = &mut desk.sheets[sheet_of(bench)];
+            let at = items.iter().position(|item| item.entry == *count);
+            changed(items, at.expect("the last entry is there"));
         });
     }
     answer
@@ -82,11 +88,14 @@ fn together(memory: &mut Memory, bench: u64, byte: u8) -> u8 {
 }
 
 fn kept(memory: &mut Memory) -> u8 {
-    let times = held(memory).map(|(desk, _)| desk.items.map(|item| item.times));
+    let before = held(memory).map(|(desk, _)| desk.sheets);
     let answer = Reference.fresh(memory);
     change(memory, |desk| {
-        let times = times.expect("it is a desk");
-        desk.items.iter_mut().zip(times).for_each(|(item, times)| item.times = times);
+        let before = before.expect("it is a desk");
+        for (sheet, before) in desk.sheets.iter_mut().zip(before) {
+            let both = sheet.items.iter_mut().zip(before.items);
+            both.for_each(|(item, before)| item.times = before.times);
+        }
     });
     answer
 }
@@ -97,14 +106,15 @@ fn refused_counted(memory: &mut Memory, bench: u64, byte: u8) -> u8 {
         change(memory, |desk| {
             let line = desk.lines[bench as usize];
             let named = split(&line.bytes[..line.len as usize]).and_then(|(name, _)| item(name));
-            let named = &mut desk.items[named.expect("the line names an item") - 1];
-            named.times += u64::from(named.times > 0 && named.times < desk.count);
+            let Sheet { items, count } = &mut desk.sheets[sheet_of(bench)];
+            let named = &mut items[named.expect("the line names an item") - 1];
+            named.times += u64::from(named.times > 0 && named.times < *count);
         });
     }
     answer
 }
 
-/// Makes an item sound, but for how often; the desk has this count.
+/// Makes an item sound, but for how often; its sheet has this count.
 type Mend = fn(&mut Item, u64);
 
 fn zero(item: &mut Item, _: u64) {
@@ -126,8 +136,10 @@ fn in_empty(item: &mut Item, _: u64) {
 /// The same memory with such items mended.
 fn mended(memory: &Memory, mend: Mend) -> Memory {
     let mut memory = memory.clone();
-    change(&mut memory, |Desk { items, count, .. }| {
-        items.iter_mut().for_each(|item| mend(item, *count));
+    change(&mut memory, |desk| {
+        for Sheet { items, count } in &mut desk.sheets {
+            items.iter_mut().for_each(|item| mend(item, *count));
+        }
     });
     memory
 }

@@ -5,12 +5,15 @@ use crate::desks::State;
 use crate::files::{length, Files};
 use crate::groups::Groups;
 use crate::inputs::Inputs;
+use crate::logs::Logs;
 use crate::operators::Operators;
+use crate::powder::Powder;
 use crate::random::Random;
 use crate::session::Session;
+use std::collections::VecDeque;
 
 /// Commands that are not there or lack something.
-const MALFORMED: [&str; 16] = [
+const MALFORMED: [&str; 18] = [
     "symop",
     "symop 7",
     "symlist",
@@ -26,29 +29,35 @@ const MALFORMED: [&str; 16] = [
     "line 3",
     "LINE -",
     "key 0 10",
-    "stick",
+    "sticks",
+    "feed 1",
+    "feed 256 -",
 ];
 
 /// Generated commands, some of them malformed.
 pub fn commands(seed: u64, count: u64) -> impl Iterator<Item = Vec<u8>> {
     let (mut inputs, mut random) = (Inputs::new(seed), Random::new(!seed));
     let (mut keys, mut state) = (Session::new(seed), State::fresh(0, 0));
-    let mut files = Files::new(seed);
+    let (mut files, mut powder) = (Files::new(seed), Powder::new(seed));
     let (mut operators, mut groups) = (Operators::new(seed), Groups::new(seed));
+    let mut logs = Logs::new(seed);
+    let mut waiting: VecDeque<Vec<u8>> = VecDeque::new();
     (0..count).map(move |_| {
-        let command = match random.below(22) {
+        let command = match random.below(24) {
             0 => format!("line {}", hex(&inputs.line())),
             1 => format!("grade {} {}", inputs.row(), hex(&inputs.value())),
             2 => "dump".into(),
-            3 => format!("report {} {}", random.below(2), random.next()),
-            4 if random.once_in(8) => format!("who 0 {}", random.next()),
-            4 => format!("who {} {}", random.below(2), random.below(12)),
+            3 => format!("report {} {}", files.sheet(), powder.profile()),
+            4 if random.once_in(8) => format!("who {} {}", files.sheet(), random.next()),
+            4 => format!("who {} {}", files.sheet(), random.below(20)),
             5 => {
-                let block = files.block();
-                let room = random.pick(&files.rooms(length(&state.desk, &block)));
-                format!("cif {} {} {room}", random.below(2), hex(&block))
+                let (sheet, block) = (files.sheet(), files.block());
+                let room = random.pick(&files.rooms(length(&state.desk, sheet, &block)));
+                format!("cif {sheet} {} {room}", hex(&block))
             }
             7 => format!("symop {}", hex(&operators.text())),
+            11 if random.once_in(2) => format!("hyd {}", files.sheet()),
+            11 => format!("hydcheck {} {}", files.sheet(), random.below(40)),
             8 if random.once_in(4) => {
                 let numbers: Vec<String> = groups.list().iter().map(i8::to_string).collect();
                 match &numbers[..] {
@@ -56,6 +65,18 @@ pub fn commands(seed: u64, count: u64) -> impl Iterator<Item = Vec<u8>> {
                     _ => format!("symlist {}", numbers.join(",")),
                 }
             }
+            9 | 10 => match waiting.pop_front() {
+                Some(part) => {
+                    let last = usize::from(waiting.is_empty()) * random.pick(&[0, 1, 1, 1, 255]);
+                    format!("feed {last} {}", hex(&part))
+                }
+                None if random.once_in(2) => "stickdump".into(),
+                None => {
+                    let log = logs.log(12);
+                    waiting = logs.parts(&log).into_iter().map(<[u8]>::to_vec).collect();
+                    "stick".into()
+                }
+            },
             6 if random.once_in(20) => {
                 let (length, seed) = (keys.log_length() % 1000, random.next());
                 state = State::fresh(length, seed);

@@ -15,13 +15,12 @@ use Rattle.line_reader.proofs.Entries.{entry-is}
 use Rattle.desk_keys.specs.Key.{enteredAs}
 use Rattle.desk_memory.specs.Memory.{deskOf, usedOf}
 use Rattle.desk_keys.proofs.Stores.{typed-lent}
-use Rattle.desk_keys.proofs.Cases.{line-short}
 use borrow.Author.Needs.{needs}
 use Rattle.desk_keys.proofs.enter_line.Statement.{statement}
 use Rattle.desk_keys.proofs.enter_line.Tie as tie
 
 short : (c : tie.Start) → getD (now (c .args .numbers)) (c .args .bench) 0 ≤ lineMost
-short c = let a = c .args in line-short (now (a .texts)) (now (a .numbers)) (now (a .log)) (a .bench) (c .pre)
+short c = c .pre .short
 
 -- what is typed, as it is lent
 abbrev lentLine : tie.Start → List ℕ
@@ -32,7 +31,7 @@ lentLine c =
 line-is : (c : tie.Start) → lentLine c ≡ typed (lineAt (deskOf (now (c .args .texts)) (now (c .args .numbers))) (c .args .bench))
 line-is c =
     let a = c .args in
-    typed-lent (now (a .texts)) (now (a .numbers)) (a .bench) (c .pre .ready .bench-in) (c .pre .sized) (short c) (a .bench * lineMost) (a .bench * lineMost + getD (now (a .numbers)) (a .bench) 0) refl refl
+    typed-lent (now (a .texts)) (now (a .numbers)) (a .bench) (c .pre .bench-in) (c .pre .sized) (short c) (a .bench * lineMost) (a .bench * lineMost + getD (now (a .numbers)) (a .bench) 0) refl refl
 
 -- what the line is
 class-is : (c : tie.After-classify) → c .classify .result ≡ classOf (typed (lineAt (deskOf (now (c .before .before .before .before .before .before .before .args .texts)) (now (c .before .before .before .before .before .before .before .args .numbers))) (c .before .before .before .before .before .before .before .args .bench)))
@@ -49,10 +48,10 @@ by-class c e =
     ap (λ (q : Class). enteredAs q d (usedOf (now (a .numbers))) (now (a .log)) (a .bench) (typed (lineAt d (a .bench)))) (sym e ∙ class-is c)
 
 add-end : tie.Need-add-end
-add-end c = let s = c .before .before .before .before in omega (arith, short s, s .pre .ready .bench-in)
+add-end c = let s = c .before .before .before .before in omega (arith, short s, s .pre .bench-in)
 
 part-classify-end : tie.Need-part-classify-end
-part-classify-end c = let s = c .before .before .before .before .before in omega (arith, short s, s .pre .ready .bench-in, s .pre .sized .texts)
+part-classify-end c = let s = c .before .before .before .before .before in omega (arith, short s, s .pre .bench-in, s .pre .sized .texts)
 
 store-if-open-requires : tie.Need-store-if-open-requires
 store-if-open-requires c κs =

@@ -12,13 +12,13 @@ use Rattle.desk_keys.proofs.step.Statement.{statement}
 use Rattle.desk_keys.proofs.step.Tie as tie
 
 erase-byte-requires : tie.Need-erase-byte-requires
-erase-byte-requires c κs = let s = c .before .before .before .before .before .before in (s .pre .ready .bench-in, s .pre .sized)
+erase-byte-requires c κs = let s = c .before .before .before .before .before .before in (s .pre .bench-in, s .pre .sized)
 
 clear-line-requires : tie.Need-clear-line-requires
-clear-line-requires c κs = let s = c .before .before .before .before .before .before in (s .pre .ready .bench-in, s .pre .sized)
+clear-line-requires c κs = let s = c .before .before .before .before .before .before in (s .pre .bench-in, s .pre .sized)
 
 append-byte-requires : tie.Need-append-byte-requires
-append-byte-requires c κs = let s = c .before .before .before .before .before .before .before .before in (s .pre .ready .bench-in, s .pre .sized)
+append-byte-requires c κs = let s = c .before .before .before .before .before .before .before .before in (s .pre .bench-in, s .pre .sized)
 
 returns : tie.Need-returns
 unfolding keyStep between

@@ -1,15 +1,13 @@
--- `desk_soundness::is_sound` meets its contract: the lengths, the lines and then the sheet.
+-- `desk_soundness::is_sound` meets its contract: the lengths, the lines and then the sheets.
 -- Assumes nothing.
-use native.Mathlib.Omega.{arith}
 use mathlib.Core.Path.{_≡_, sym, _∙_}
 use mathlib.Core.Bool.{true}
-use lib.ListN.{length-take, length-drop}
 use denote.Ref.{now}
 use borrow.Author.Tests.{not-true, not-false}
 use Rattle.desk_memory.specs.Memory.{Sized, isDesk}
 use Rattle.desk_memory.proofs.Desks.{desk-sized}
 use Rattle.desk_soundness.specs.SoundMemory.{soundMemory}
-use Rattle.desk_soundness.proofs.Memories.{sound-lines, sound-sheet}
+use Rattle.desk_soundness.proofs.Memories.{sound-lines, sound-sheets}
 use borrow.Author.Needs.{needs}
 use Rattle.desk_soundness.proofs.is_sound.Statement.{statement}
 use Rattle.desk_soundness.proofs.is_sound.Tie as tie
@@ -27,9 +25,11 @@ returns c = simp (sym (c .before .is-desk .ensures) ∙ not-true (c .before .is-
 
 returns-2 : tie.Need-returns-2
 returns-2 c =
-    let e = c .before .before .before .before .before in
+    let l = c .before .before in
+    let e = l .before in
     let a = e .before .before .before .before .args in
-    sound-sheet (now (a .texts)) (now (a .numbers)) (is-desk-here e) (sym (c .before .before .before .before .are-sound-lines .ensures) ∙ c .before .before .before .if2 .taken) (c .is-sound-sheet .ensures)
+    c .are-sound-sheets .ensures
+    ∙ sym (sound-sheets (now (a .texts)) (now (a .numbers)) (is-desk-here e) (sym (l .are-sound-lines .ensures) ∙ c .before .if2 .taken))
 
 returns-3 : tie.Need-returns-3
 returns-3 c =
@@ -39,17 +39,4 @@ returns-3 c =
 
 pub is-sound-spec : {M : Type 1} → statement M
 is-sound-spec =
-    tie.close
-    (tie.spec
-    (λ c κs. search needs)
-    returns
-    (λ c κs. sized c)
-    (λ c. search needs)
-    (λ c. search needs)
-    (λ c. omega (arith, sized (c .before .before) .texts))
-    (λ c. search needs)
-    (λ c. search needs)
-    (λ c. omega (arith, sized (c .before .before .before) .numbers))
-    (λ c κs. let z = sized (c .before .before .before .before) in (simp (length-take, length-drop) (omega (arith, z .texts)), simp (length-take, length-drop) (omega (arith, z .numbers))))
-    returns-2
-    returns-3)
+    tie.close (tie.spec (λ c κs. search needs) returns (λ c κs. sized c) (λ c κs. sized (c .before .before)) returns-2 returns-3)

@@ -3,64 +3,79 @@
 use native.Mathlib.Omega.{arith}
 use mathlib.Core.Path.{_≡_, sym, _∙_}
 use mathlib.Core.Bool.{true}
+use lib.Dec.{eqb}
 use lib.ListN.{getD, length-take}
 use denote.Ref.{now}
-use borrow.Author.Tests.{le-leb, lt-leb, lt-ltb, le-ltb, not-true, not-false}
+use borrow.Author.Tests.{le-leb, lt-leb, lt-ltb, le-ltb, eq-eqb, ne-eqb, not-true, not-false}
 use Rattle.text.proofs.Parts.{rest-part}
-use Rattle.desk_state.specs.Desks.{benchCount}
+use Rattle.desk_state.specs.Desks.{benchCount, sheetOfBench}
 use Rattle.line_items.specs.Typed.{lineMost}
 use Rattle.desk_soundness.specs.Sound.{soundFilled, counted}
 use borrow.Author.Needs.{needs}
 use Rattle.desk_soundness.proofs.is_sound_filled.Statement.{statement}
 use Rattle.desk_soundness.proofs.is_sound_filled.Tie as tie
 
--- the entry number is counted, and how often the item was named
-entry-counted : (c : tie.Else2) → (let a = c .before .before .before .before .before .before .before .args in counted (a .count) (getD (now (a .numbers)) 1 0) ≡ true)
-entry-counted c = sym (c .before .is-counted .ensures) ∙ not-false (c .before .is-counted .result) (c .if2 .left)
+-- the bench is one of the sheet's; the entry number is counted, and how often the item was named
+camp : (c : tie.Else2) → (let a = c .before .before .before .before .before .before .args in eqb (sheetOfBench (getD (now (a .numbers)) 2 0)) (a .sheet) ≡ true)
+unfolding sheetOfBench
+camp c = eq-eqb _ _ (c .if2 .left)
 
-times-counted : (c : tie.Else3) → (let a = c .before .before .before .before .before .before .before .before .before .before .args in counted (a .count) (getD (now (a .numbers)) 3 0) ≡ true)
-times-counted c = sym (c .before .is-counted2 .ensures) ∙ not-false (c .before .is-counted2 .result) (c .if3 .left)
+entry-counted : (c : tie.Else3) → (let a = c .before .before .before .before .before .before .before .before .before .args in counted (a .count) (getD (now (a .numbers)) 1 0) ≡ true)
+entry-counted c = sym (c .before .is-counted .ensures) ∙ not-false (c .before .is-counted .result) (c .if3 .left)
+
+times-counted : (c : tie.Else4) → (let a = c .before .before .before .before .before .before .before .before .before .before .before .before .args in counted (a .count) (getD (now (a .numbers)) 3 0) ≡ true)
+times-counted c = sym (c .before .is-counted2 .ensures) ∙ not-false (c .before .is-counted2 .result) (c .if4 .left)
 
 returns : tie.Need-returns
 unfolding soundFilled
 returns c = simp (le-ltb _ benchCount (c .if1 .taken))
 
 returns-2 : tie.Need-returns-2
-unfolding soundFilled
-returns-2 c = simp (lt-ltb _ benchCount (c .before .before .before .if1 .left), sym (c .before .is-counted .ensures) ∙ not-true (c .before .is-counted .result) (c .if2 .taken))
+unfolding soundFilled sheetOfBench
+returns-2 c = simp (lt-ltb _ benchCount (c .before .before .if1 .left), ne-eqb _ _ (c .if2 .taken))
 
 returns-3 : tie.Need-returns-3
 unfolding soundFilled
 returns-3 c =
     let e2 = c .before .before .before in
-    simp (lt-ltb _ benchCount (e2 .before .before .before .if1 .left), entry-counted e2, sym (c .before .is-counted2 .ensures) ∙ not-true (c .before .is-counted2 .result) (c .if3 .taken))
+    simp (lt-ltb _ benchCount (e2 .before .before .if1 .left), camp e2, sym (c .before .is-counted .ensures) ∙ not-true (c .before .is-counted .result) (c .if3 .taken))
 
 returns-4 : tie.Need-returns-4
 unfolding soundFilled
 returns-4 c =
-    let e3 = c .before .before in
+    let e3 = c .before .before .before in
     let e2 = e3 .before .before .before in
-    simp (lt-ltb _ benchCount (e2 .before .before .before .if1 .left), entry-counted e2, times-counted e3, lt-leb _ lineMost (c .if4 .taken))
+    simp (lt-ltb _ benchCount (e2 .before .before .if1 .left), camp e2, entry-counted e3, sym (c .before .is-counted2 .ensures) ∙ not-true (c .before .is-counted2 .result) (c .if4 .taken))
 
 returns-5 : tie.Need-returns-5
 unfolding soundFilled
 returns-5 c =
-    let f = c .before .before in
-    let e4 = f .before .before .before in
-    let e3 = e4 .before .before in
+    let e4 = c .before .before in
+    let e3 = e4 .before .before .before in
     let e2 = e3 .before .before .before in
-    let e1 = e2 .before .before .before in
-    let a = e1 .before .before .before .before .args in
-    c .all-between .ensures
-    ∙ simp (rest-part (now (a .value)) (getD (now (a .numbers)) 0 0), lt-ltb _ benchCount (e1 .if1 .left), entry-counted e2, times-counted e3, le-leb _ lineMost (e4 .if4 .left), sym (f .before .fits-item .ensures) ∙ f .if5 .taken)
+    simp (lt-ltb _ benchCount (e2 .before .before .if1 .left), camp e2, entry-counted e3, times-counted e4, lt-leb _ lineMost (c .if5 .taken))
 
 returns-6 : tie.Need-returns-6
 unfolding soundFilled
 returns-6 c =
-    let e4 = c .before .before .before in
-    let e3 = e4 .before .before in
+    let f = c .before .before in
+    let e5 = f .before .before .before in
+    let e4 = e5 .before .before in
+    let e3 = e4 .before .before .before in
     let e2 = e3 .before .before .before in
-    simp (lt-ltb _ benchCount (e2 .before .before .before .if1 .left), entry-counted e2, times-counted e3, le-leb _ lineMost (e4 .if4 .left), sym (c .before .fits-item .ensures) ∙ c .if5 .left)
+    let e1 = e2 .before .before in
+    let a = e1 .before .before .before .before .args in
+    c .all-between .ensures
+    ∙ simp (rest-part (now (a .value)) (getD (now (a .numbers)) 0 0), lt-ltb _ benchCount (e1 .if1 .left), camp e2, entry-counted e3, times-counted e4, le-leb _ lineMost (e5 .if5 .left), sym (f .before .fits-item .ensures) ∙ f .if6 .taken)
+
+returns-7 : tie.Need-returns-7
+unfolding soundFilled
+returns-7 c =
+    let e5 = c .before .before .before in
+    let e4 = e5 .before .before in
+    let e3 = e4 .before .before .before in
+    let e2 = e3 .before .before .before in
+    simp (lt-ltb _ benchCount (e2 .before .before .if1 .left), camp e2, entry-counted e3, times-counted e4, le-leb _ lineMost (e5 .if5 .left), sym (c .before .fits-item .ensures) ∙ c .if6 .left)
 
 pub is-sound-filled-spec : {M : Type 1} → statement M
 is-sound-filled-spec =
@@ -69,18 +84,20 @@ is-sound-filled-spec =
     (λ c. search needs)
     returns
     (λ c. search needs)
-    (λ c κs. search needs)
     returns-2
     (λ c. search needs)
     (λ c κs. search needs)
     returns-3
     (λ c. search needs)
+    (λ c κs. search needs)
     returns-4
+    (λ c. search needs)
+    returns-5
     (λ c. simp length-take (omega arith))
     (λ c κs. search needs)
     (λ c. search needs)
     (λ c. search needs)
     (λ c. search needs)
     (λ c κs. search needs)
-    returns-5
-    returns-6)
+    returns-6
+    returns-7)

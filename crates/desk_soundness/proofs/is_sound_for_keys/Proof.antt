@@ -1,6 +1,5 @@
 -- `desk_soundness::is_sound_for_keys` meets its contract: the memory, and then the log.
 -- Assumes nothing.
-use native.Mathlib.Omega.{arith}
 use mathlib.Core.Path.{sym, _∙_}
 use denote.Ref.{now}
 use Rattle.text.proofs.Bools.{and-both}
@@ -8,7 +7,6 @@ use Rattle.desk_memory.specs.Memory.{Sized, isDesk, deskOf}
 use Rattle.desk_memory.proofs.Desks.{desk-sized}
 use Rattle.desk_soundness.specs.Sound.{soundDesk}
 use Rattle.desk_soundness.specs.SoundMemory.{soundMemory, soundForKeys}
-use Rattle.desk_soundness.proofs.Memories.{count-in}
 use borrow.Author.Needs.{needs}
 use Rattle.desk_soundness.proofs.is_sound_for_keys.Statement.{statement}
 use Rattle.desk_soundness.proofs.is_sound_for_keys.Tie as tie
@@ -23,22 +21,12 @@ sized c =
 returns : tie.Need-returns
 unfolding soundForKeys
 returns c =
-    let a = c .before .before .before .before .before .before .before .args in
-    c .is-sound-log .ensures (deskOf (now (a .texts)) (now (a .numbers))) (count-in (now (a .texts)) (now (a .numbers))) ∙ simp (sym (c .before .before .before .before .is-sound .ensures) ∙ c .before .before .before .if1 .taken)
+    let h = c .before in
+    c .is-sound-log .ensures (now (h .before .before .before .before .args .texts)) ∙ simp (sym (h .before .is-sound .ensures) ∙ h .if1 .taken)
 
 returns-2 : tie.Need-returns-2
 unfolding soundForKeys
 returns-2 c = simp (sym (c .before .is-sound .ensures) ∙ c .if1 .left)
 
 pub is-sound-for-keys-spec : {M : Type 1} → statement M
-is-sound-for-keys-spec =
-    tie.close
-    (tie.spec
-    (λ c κs. search needs)
-    (λ c. search needs)
-    (λ c. search needs)
-    (λ c. omega (arith, sized (c .before) .numbers))
-    (λ c. omega (arith, sized (c .before .before) .numbers))
-    (λ c κs. search needs)
-    returns
-    returns-2)
+is-sound-for-keys-spec = tie.close (tie.spec (λ c κs. search needs) (λ c κs. sized c .numbers) returns returns-2)

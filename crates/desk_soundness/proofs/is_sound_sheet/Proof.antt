@@ -15,10 +15,10 @@ use Rattle.desk_soundness.proofs.is_sound_sheet.Statement.{statement}
 use Rattle.desk_soundness.proofs.is_sound_sheet.Tie as tie
 
 abbrev Inv-loop : tie.InvT-loop
-Inv-loop texts numbers count i₀ i = (i ≤ itemCount) × (itemsFrom texts numbers 0 ≡ itemsFrom texts numbers i)
+Inv-loop sheet texts numbers count i₀ i = (i ≤ itemCount) × (itemsFrom sheet texts numbers 0 ≡ itemsFrom sheet texts numbers i)
 
 abbrev μ-loop : tie.MeasureT-loop
-μ-loop texts numbers count i₀ i = itemCount - i
+μ-loop sheet texts numbers count i₀ i = itemCount - i
 
 loop-holds : tie.Need-loop-holds Inv-loop μ-loop
 loop-holds c = (omega arith, refl)
@@ -31,19 +31,19 @@ turn : (c : tie.After-is-sound-item Inv-loop μ-loop)
     → (let l = c .before .before .before .before in
     let a = l .before .before .before .before .args in
     let i = l .loop .i in
-    itemsFrom (now (a .texts)) (now (a .numbers)) i ≡ (c .is-sound-item .result && itemsFrom (now (a .texts)) (now (a .numbers)) (i + 1)))
+    itemsFrom (a .sheet) (now (a .texts)) (now (a .numbers)) i ≡ (c .is-sound-item .result && itemsFrom (a .sheet) (now (a .texts)) (now (a .numbers)) (i + 1)))
 turn c =
     let l = c .before .before .before .before in
     let a = l .before .before .before .before .args in
     let i = l .loop .i in
-    item-turn (now (a .texts)) (now (a .numbers)) i (i * lineMost) (i * lineMost + lineMost) (i * itemNumbers) (i * itemNumbers + itemNumbers) _ (omega arith) refl refl refl refl
+    item-turn (now (a .texts)) (now (a .numbers)) i (i * lineMost) (i * lineMost + lineMost) (a .sheet) (i * itemNumbers) (i * itemNumbers + itemNumbers) _ (omega arith) refl refl refl refl
     (c .is-sound-item .ensures)
 
 returns : tie.Need-returns Inv-loop μ-loop
 returns c =
     let l = c .before .before .before .before .before in
     let a = l .before .before .before .before .args in
-    sym (items-all (now (a .texts)) (now (a .numbers)) ∙ l .loop .inv .1 ∙ turn (c .before) ∙ simp (not-true (c .before .is-sound-item .result) (c .if1 .taken)))
+    sym (items-all (now (a .texts)) (now (a .numbers)) (a .sheet) ∙ l .loop .inv .1 ∙ turn (c .before) ∙ simp (not-true (c .before .is-sound-item .result) (c .if1 .taken)))
 
 loop-again : tie.Need-loop-again Inv-loop μ-loop
 loop-again c =
@@ -54,7 +54,7 @@ returns-2 : tie.Need-returns-2 Inv-loop μ-loop
 returns-2 c =
     let l = c .before in
     let a = l .before .before .before .before .args in
-    sym (items-all (now (a .texts)) (now (a .numbers)) ∙ l .loop .inv .1 ∙ items-end (now (a .texts)) (now (a .numbers)) (l .loop .i) (omega arith))
+    sym (items-all (now (a .texts)) (now (a .numbers)) (a .sheet) ∙ l .loop .inv .1 ∙ items-end (now (a .texts)) (now (a .numbers)) (l .loop .i) (a .sheet) (omega arith))
 
 pub is-sound-sheet-spec : {M : Type 1} → statement M
 is-sound-sheet-spec =

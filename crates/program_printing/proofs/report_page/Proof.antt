@@ -8,8 +8,7 @@ use Prim.Native.Nat.{ℕ}
 use borrow.Author.Tests.{not-true, not-false}
 use lib.ListN.{length}
 use denote.Ref.{now}
-use Rattle.desk_memory.specs.Memory.{Sized, isDesk}
-use Rattle.desk_memory.proofs.Desks.{desk-sized}
+use Rattle.desk_memory.specs.Memory.{isDesk}
 use Rattle.program_printing.proofs.Pages.{adds-as, adds-then, adds-first}
 use Rattle.program_printing.proofs.Lent.{printed-none, printed-desk}
 use borrow.Author.Needs.{needs}
@@ -20,25 +19,16 @@ use Rattle.program_printing.proofs.report_page.Tie as tie
 desk-here : (c : tie.Else1) → (let a = c .before .before .before .before .before .args in isDesk (now (a .texts)) (now (a .numbers)) ≡ true)
 desk-here c = sym (c .before .is-desk .ensures) ∙ not-false _ (c .if1 .left)
 
-sized : (c : tie.Else1) → (let a = c .before .before .before .before .before .args in Sized (now (a .texts)) (now (a .numbers)))
-sized c = desk-sized _ _ (desk-here c)
-
 returns : tie.Need-returns
 returns c =
     let d = c .before in
     let e = d .before .empty-page .ensures in
     let a = d .before .before .before .before .args in
-    let none = sym (printed-none (now (a .texts)) (now (a .numbers)) (sym (d .is-desk .ensures) ∙ not-true _ (c .if1 .taken))) in
+    let none = sym (printed-none (now (a .texts)) (now (a .numbers)) (a .sheet) (sym (d .is-desk .ensures) ∙ not-true _ (c .if1 .taken))) in
     (e .0 ∙ none, e .1 ∙ ap (λ (l : List ℕ). length l) none, omega (arith, e .1))
 
 put-rows-requires : tie.Need-put-rows-requires
 put-rows-requires c κs = omega (arith, c .put .ensures .size, c .before .before .before .before .before .before .empty-page .ensures .1)
-
-part-put-items-end : tie.Need-part-put-items-end
-part-put-items-end c = omega (arith, sized (c .before .before .before .before .before) .texts)
-
-part-put-items-end-2 : tie.Need-part-put-items-end-2
-part-put-items-end-2 c = omega (arith, sized (c .before .before .before .before .before .before) .numbers)
 
 put-items-requires : tie.Need-put-items-requires
 put-items-requires c κs =
@@ -55,7 +45,7 @@ returns-2 c =
     let e = s .before .before in
     let a = e .before .before .before .args in
     let all = adds-then (h .put .ensures) (adds-then (r .put-rows .ensures .0) (c .put-items .ensures .0)) in
-    let text = printed-desk (now (a .texts)) (now (a .numbers)) (desk-here s) _ (q .report .ensures) in
+    let text = printed-desk (now (a .texts)) (now (a .numbers)) (a .sheet) (e .before .before .before .pre) (desk-here s) _ (q .report .ensures) (c .before .before .sheet-texts .ensures) (c .before .sheet-numbers .ensures) in
     let first = adds-first (e .empty-page .ensures .0) (e .empty-page .ensures .1) (adds-as text all) in
     (first .0, first .1, omega (arith, c .put-items .ensures .1, r .put-rows .ensures .1, h .put .ensures .size, e .empty-page .ensures .1))
 
@@ -70,11 +60,7 @@ report-page-spec =
     (λ c. search needs)
     (λ c κs. search needs)
     put-rows-requires
-    (λ c. search needs)
-    (λ c. search needs)
-    part-put-items-end
-    (λ c. search needs)
-    (λ c. search needs)
-    part-put-items-end-2
+    (λ c κs. search needs)
+    (λ c κs. search needs)
     put-items-requires
     returns-2)

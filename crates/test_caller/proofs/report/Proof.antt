@@ -7,10 +7,10 @@ use Rattle.test_caller.proofs.report.Statement.{statement}
 use Rattle.test_caller.proofs.report.Tie as tie
 
 abbrev Inv-loop : tie.InvT-loop
-Inv-loop texts numbers rows i₀ i = i ≤ rowCount
+Inv-loop texts numbers sheet profile rows i₀ i = i ≤ rowCount
 
 abbrev μ-loop : tie.MeasureT-loop
-μ-loop texts numbers rows i₀ i = rowCount - i
+μ-loop texts numbers sheet profile rows i₀ i = rowCount - i
 
 pub report-spec : {M : Type 1} → statement M
 report-spec =

@@ -1,0 +1,151 @@
+/* What the keys come from. */
+#define _DEFAULT_SOURCE
+
+#include "inputs.h"
+
+#include <errno.h>
+#include <fcntl.h>
+#include <string.h>
+#include <sys/stat.h>
+#include <time.h>
+#include <unistd.h>
+
+#include "options.h"
+
+/* How long one waits before an input is opened again, in milliseconds: one that was used, and another. */
+enum { SOON = 100, LATER = 500 };
+
+int64_t now(void)
+{
+    struct timespec time;
+    clock_gettime(CLOCK_MONOTONIC, &time);
+    return (int64_t)time.tv_sec * 1000 + time.tv_nsec / 1000000;
+}
+
+bool read_speed(const char *digits, speed_t *speed)
+{
+    static const struct {
+        uint64_t bits;
+        speed_t speed;
+    } speeds[] = {
+        {300, B300},     {600, B600},     {1200, B1200},   {2400, B2400},     {4800, B4800},
+        {9600, B9600},   {19200, B19200}, {38400, B38400}, {57600, B57600},   {115200, B115200},
+    };
+    uint64_t bits;
+    for (size_t at = 0; read_number(digits, &bits) && at < sizeof speeds / sizeof *speeds; at++) {
+        if (speeds[at].bits == bits) {
+            *speed = speeds[at].speed;
+            return true;
+        }
+    }
+    return false;
+}
+
+/* Every byte as it was sent, at once and without an echo; false with errno. */
+static bool set_raw(input *in)
+{
+    struct termios modes;
+    if (tcgetattr(in->file, &in->before) != 0)
+        return false;
+    modes = in->before;
+    cfmakeraw(&modes);
+    modes.c_cflag |= CLOCAL | CREAD;
+    modes.c_cc[VMIN] = 1;
+    modes.c_cc[VTIME] = 0;
+    if (cfsetispeed(&modes, in->speed) != 0 || cfsetospeed(&modes, in->speed) != 0)
+        return false;
+    return tcsetattr(in->file, TCSANOW, &modes) == 0;
+}
+
+/* Whether two files that are open are the same device, or the same file. */
+static bool same_file(int file, int other)
+{
+    struct stat one, two;
+    return fstat(file, &one) == 0 && fstat(other, &two) == 0 && one.st_dev == two.st_dev &&
+           one.st_ino == two.st_ino;
+}
+
+bool same_input(const input *in, const input *other)
+{
+    return in->file >= 0 && other->file >= 0 && same_file(in->file, other->file);
+}
+
+/* Why a file that is open gives no keys; NULL where it does. */
+static const char *no_input(input *in)
+{
+    struct stat found;
+    if (fstat(in->file, &found) != 0)
+        return strerror(errno);
+    if (S_ISDIR(found.st_mode))
+        return strerror(EISDIR);
+    in->is_terminal = isatty(in->file) != 0;
+    if (in->is_terminal && !in->once && same_file(in->file, STDIN_FILENO)) {
+        in->is_terminal = false;
+        return "this is the counsellor's own terminal";
+    }
+    if (in->is_terminal && !set_raw(in)) {
+        in->is_terminal = false;
+        return strerror(errno);
+    }
+    return NULL;
+}
+
+const char *open_input(input *in)
+{
+    in->opened = now();
+    in->again = in->opened + LATER;
+    in->in_pair = false;
+    in->file = open(in->path, O_RDONLY | O_NONBLOCK | O_NOCTTY | O_CLOEXEC);
+    if (in->file < 0)
+        return strerror(errno);
+    const char *why = no_input(in);
+    if (why != NULL)
+        close_input(in);
+    else
+        in->state = INPUT_WAITING;
+    return why;
+}
+
+/* A file that was read to its end is not read again. */
+static bool is_file(const input *in)
+{
+    struct stat found;
+    return fstat(in->file, &found) == 0 && S_ISREG(found.st_mode);
+}
+
+static void end_input(input *in)
+{
+    int error = errno;
+    input_state next = in->once || is_file(in) ? INPUT_OVER : INPUT_AWAY;
+    in->again = now() + (in->state == INPUT_THERE ? SOON : LATER);
+    close_input(in);
+    in->state = next;
+    errno = error;
+}
+
+read_result read_input(input *in, uint8_t *bytes, size_t most, size_t *length)
+{
+    ssize_t got = read(in->file, bytes, most);
+    if (got > 0) {
+        *length = (size_t)got;
+        in->state = INPUT_THERE;
+        return READ_SOME;
+    }
+    if (got < 0 && (errno == EAGAIN || errno == EINTR))
+        return READ_LATER;
+    end_input(in);
+    /* A pseudo-terminal whose other side is closed fails so. */
+    return got == 0 || errno == EIO ? READ_ENDED : READ_FAILED;
+}
+
+void close_input(input *in)
+{
+    if (in->file < 0)
+        return;
+    if (in->is_terminal)
+        tcsetattr(in->file, TCSANOW, &in->before);
+    in->is_terminal = false;
+    close(in->file);
+    in->file = -1;
+    in->state = INPUT_AWAY;
+}

@@ -1,0 +1,56 @@
+/*
+ * What the keys come from: a serial line, a pseudo-terminal or a FIFO for each bench, or one input of
+ * pairs. One that ends or fails is opened again when it comes back.
+ */
+#ifndef CAMP_INPUTS_H
+#define CAMP_INPUTS_H
+
+#include <stdbool.h>
+#include <stddef.h>
+#include <stdint.h>
+#include <termios.h>
+
+/* Not there; open, and nothing came yet; in use; a file that was read to its end. */
+typedef enum { INPUT_AWAY, INPUT_WAITING, INPUT_THERE, INPUT_OVER } input_state;
+
+typedef struct {
+    const char *path;
+    uint64_t bench;          /* DESK_NO_BENCH for pairs */
+    speed_t speed;           /* of a serial line */
+    int file;                /* -1 where it is not open */
+    input_state state;
+    bool is_terminal;
+    struct termios before;   /* its modes before it was opened here */
+    bool once;               /* it is not opened again after its end */
+    int64_t opened;          /* when it was opened, in milliseconds */
+    int64_t again;           /* when it is opened again */
+    const char *said;        /* what was last told of it; NULL for nothing */
+    uint8_t pair;            /* of a pair, the byte that came first */
+    bool in_pair;
+} input;
+
+/* The speed of a serial line in bits a second; false where a terminal has no such speed. */
+bool read_speed(const char *digits, speed_t *speed);
+
+/* Milliseconds of a clock that only goes forward. */
+int64_t now(void);
+
+/* Opens an input that is away; NULL, or why not, and then it is tried again later. */
+const char *open_input(input *in);
+
+/* Whether two inputs that are open are the same device. */
+bool same_input(const input *in, const input *other);
+
+/* Why an input gives no more bytes now. */
+typedef enum { READ_SOME, READ_LATER, READ_ENDED, READ_FAILED } read_result;
+
+/*
+ * Reads what is there, at most so many bytes, without waiting. Where the input ended or failed (errno) it
+ * is closed.
+ */
+read_result read_input(input *in, uint8_t *bytes, size_t most, size_t *length);
+
+/* Puts the modes of a terminal back and closes it. */
+void close_input(input *in);
+
+#endif

@@ -1,0 +1,4 @@
+pub mod Camps
+pub mod Stores
+pub mod Items
+pub mod Sounds

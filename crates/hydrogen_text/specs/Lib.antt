@@ -1,0 +1,2 @@
+pub mod Hydrogens
+pub mod NewText

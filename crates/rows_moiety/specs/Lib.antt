@@ -1,0 +1,2 @@
+pub mod MoietyRow
+pub mod Wording

@@ -1,0 +1,3 @@
+pub mod Back
+pub mod Cut
+pub mod Histories

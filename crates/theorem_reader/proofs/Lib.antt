@@ -1,0 +1,6 @@
+pub mod Follow
+pub mod Agree
+pub mod Sounds
+pub mod Answers
+pub mod Runs
+pub mod Vectors

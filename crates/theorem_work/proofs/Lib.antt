@@ -1,0 +1,17 @@
+pub mod Choices
+pub mod Simulation
+pub mod EndOrder
+pub mod Gathering
+pub mod GatherChecks
+pub mod OneRegrouping
+pub mod WorkLaws
+pub mod OwnKeys
+pub mod Times
+pub mod EntryWords
+pub mod OwnerLaws
+pub mod Grown
+pub mod Enters
+pub mod Alone
+pub mod CampLaws
+pub mod Camps
+pub mod Examples

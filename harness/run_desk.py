@@ -1,0 +1,590 @@
+"""Drives the running desk (camp run) over pseudo-terminals, for harness/run.sh.
+
+  run_desk.py CAMP kills KILLS SEED     entries at four benches, killed at random moments, started again
+  run_desk.py CAMP torn                 the log cut at every byte of its last record
+  run_desk.py CAMP full FOLDER          a file system that runs full; FOLDER is on it
+  run_desk.py CAMP limit                the same by a limit on the file's length
+  run_desk.py CAMP sync LIBRARY         a disk that fails when it is flushed, by that library
+  run_desk.py CAMP removed              a log that others remove, cut or lengthen
+  run_desk.py CAMP inputs               keypads that end and come back, raw mode put back, two on one device
+  run_desk.py CAMP console              the counsellor's commands
+  run_desk.py CAMP load SECONDS         four benches at 50 keys a second each: how long until a key is shown
+  run_desk.py CAMP memory KEYS          the program's memory over so many keys
+
+Each prints one line for each check, 'ok NAME' or 'FAIL NAME: WHY', and what was measured.
+"""
+import fcntl
+import os
+import pty
+import random
+import re
+import select
+import signal
+import struct
+import subprocess
+import sys
+import tempfile
+import termios
+import time
+
+NAMES = {4: "_refine_ls_R_factor_gt", 6: "_refine_ls_wR_factor_ref", 8: "_refine_ls_shift/su_max", 2: "_chemical_formula_weight"}
+# The item that each bench owns.
+OWN = {0: 4, 1: 6, 2: 4, 3: 8}
+ROOM = 65536
+
+
+def check(name, wrong):
+    """One check: `wrong` is empty where it holds."""
+    print(f"FAIL {name}: {wrong}" if wrong else f"ok {name}", flush=True)
+
+
+def records(data):
+    """The records of a log, as (bench, item, value), and what is left behind the last whole one."""
+    found, at = [], 0
+    while len(data) - at >= 6:
+        length = data[at] + 256 * data[at + 1]
+        if length < 7 or len(data) - at < length:
+            break
+        found.append((data[at + 4], data[at + 5], data[at + 6:at + length].decode()))
+        at += length
+    return found, data[at:]
+
+
+def record(bench, item, value):
+    return struct.pack("<HHBB", 6 + len(value), 1, bench, item) + value.encode()
+
+
+def read(path):
+    with open(path, "rb") as file:
+        return file.read()
+
+
+def write(path, data):
+    with open(path, "wb") as file:
+        file.write(data)
+
+
+class Keypads:
+    """Pseudo-terminals in place of keypads; the desk opens the other sides."""
+
+    def __init__(self, benches=range(4)):
+        self.pairs = {bench: pty.openpty() for bench in benches}
+
+    def options(self):
+        return [word for bench, (_, slave) in self.pairs.items() for word in ("--bench", f"{bench}={os.ttyname(slave)}")]
+
+    def type(self, bench, text):
+        os.write(self.pairs[bench][0], text if isinstance(text, bytes) else text.encode())
+
+    def discard(self):
+        """What was typed and not read yet is lost, as with the power."""
+        for master, slave in self.pairs.values():
+            termios.tcflush(slave, termios.TCIFLUSH)
+
+    def close(self):
+        for master, slave in self.pairs.values():
+            os.close(master)
+            os.close(slave)
+
+
+class Desk:
+    """A running desk in its plain form."""
+
+    def __init__(self, camp, log, options, **how):
+        self.process = subprocess.Popen([camp, "run", "--plain", "--log", log, *options], stdin=subprocess.PIPE,
+                                        stdout=subprocess.PIPE, stderr=subprocess.PIPE, **how)
+        self.text = b""
+        os.set_blocking(self.process.stdout.fileno(), False)
+
+    def read(self, seconds=0.0):
+        """Adds what is printed within a time; false at its end."""
+        ready, _, _ = select.select([self.process.stdout], [], [], seconds)
+        if ready:
+            got = os.read(self.process.stdout.fileno(), 65536)
+            self.text += got
+            return got != b""
+        return True
+
+    def until(self, pattern, seconds=10.0):
+        """Reads until a pattern is printed; whether it was."""
+        end = time.monotonic() + seconds
+        while not re.search(pattern, self.text.decode(errors="replace"), re.M):
+            if time.monotonic() > end or not self.read(0.05):
+                return re.search(pattern, self.text.decode(errors="replace"), re.M) is not None
+        return True
+
+    def lines(self):
+        """Whole lines alone."""
+        return self.text.decode(errors="replace").split("\n")[:-1]
+
+    def say(self, line):
+        self.process.stdin.write(line.encode() + b"\n")
+        self.process.stdin.flush()
+
+    def kill(self):
+        self.process.kill()
+        self.process.wait()
+        while self.read(0.01) and select.select([self.process.stdout], [], [], 0)[0]:
+            pass
+
+    def quit(self, seconds=10.0):
+        """Its exit status and what it said on standard error."""
+        try:
+            self.say("quit")
+        except OSError:
+            pass
+        end = time.monotonic() + seconds
+        while self.read(0.05) and time.monotonic() < end:
+            pass
+        self.process.wait(timeout=seconds)
+        return self.process.returncode, self.process.stderr.read().decode()
+
+
+ACCEPTED = re.compile(r"^bench (\d): accepted, sheet (\d), entry (\d+): (\S+) (\S+)$")
+
+
+def kills(camp, count, seed):
+    """Every accepted entry is in the log, in order, with its bench and number; none twice, none that was refused."""
+    folder = tempfile.mkdtemp()
+    log = os.path.join(folder, "camp.log")
+    chance = random.Random(seed)
+    shown, typed, wrong, bad_starts, torn, entered = [], set(), "", 0, 0, 0
+    number, starts = 0, 0
+    while starts < count and not wrong:
+        starts += 1
+        if os.path.exists(log) and os.path.getsize(log) > ROOM - 4000:
+            # A new day: what was there is looked at below, and a new log begins.
+            wrong = compare(shown, read(log), typed)
+            entered += len(records(read(log))[0])
+            os.remove(log)
+            shown = []
+        before = len(records(read(log))[0]) if os.path.exists(log) else 0
+        pads = Keypads()
+        desk = Desk(camp, log, pads.options())
+        if not desk.until(r"^bench 3: \S+ is open"):
+            wrong = f"start {starts}: {desk.text!r} {desk.process.stderr.read()!r}"
+            break
+        if f": {before} entr" not in desk.lines()[0]:
+            wrong = f"start {starts}: {before} records, and it says {desk.lines()[0]}"
+        moment = time.monotonic() + chance.random() * 0.15
+        while time.monotonic() < moment:
+            for bench in range(4):
+                number += 1
+                value = f"0.{number % 1000000:06d}"
+                if chance.random() < 0.2:
+                    # Refused: of the neighbour's item, or no number.
+                    pads.type(bench, f"{NAMES[OWN[bench]]} x{number}\n\x18")
+                else:
+                    typed.add((bench, value))
+                    pads.type(bench, f"{NAMES[OWN[bench]]} {value}\n")
+            desk.read(0.002)
+        desk.kill()
+        pads.close()
+        for line in desk.lines():
+            match = ACCEPTED.match(line)
+            if match:
+                shown.append((int(match[1]), int(match[2]), int(match[3]), match[5]))
+        data = read(log)
+        torn += records(data)[1] != b""
+        wrong = wrong or compare(shown, data, typed)
+    entered += len(records(read(log))[0])
+    check(f"killed {starts} times: each of {entered} entries in the log, in order, once", wrong)
+    print(f"  measured: {starts} kills, {entered} entries in the log, {number} lines typed, {torn} torn records", flush=True)
+    for name in os.listdir(folder):
+        os.remove(os.path.join(folder, name))
+    os.rmdir(folder)
+
+
+def compare(shown, data, typed):
+    """What is wrong with a log, by what was shown as accepted and what was typed."""
+    found, _ = records(data)
+    counts, numbered = [0, 0], {}
+    for bench, item, value in found:
+        sheet = bench // 2
+        counts[sheet] += 1
+        numbered[(sheet, counts[sheet])] = (bench, value)
+        if item != OWN[bench] or (bench, value) not in typed:
+            return f"{bench} {item} {value} was not typed so"
+    if len({(bench, value) for bench, _, value in found}) != len(found):
+        return "an entry is there twice"
+    for bench, sheet, entry, value in shown:
+        if numbered.get((sheet, entry)) != (bench, value):
+            return f"sheet {sheet}, entry {entry} was shown as {bench} {value} and is {numbered.get((sheet, entry))}"
+    return ""
+
+
+def torn(camp):
+    """Cut at every byte of the last record: the others stay, what is torn is kept, and the next entry follows."""
+    folder = tempfile.mkdtemp()
+    log = os.path.join(folder, "camp.log")
+    whole = record(0, 4, "0.16") + record(2, 4, "0.03")
+    last = record(1, 6, "0.123(4)")
+    wrong = ""
+    for cut in range(len(last) + 1):
+        write(log, whole + last[:cut])
+        pads = Keypads([0])
+        desk = Desk(camp, log, pads.options())
+        desk.until(r"is open")
+        pads.type(0, f"{NAMES[4]} 0.17\n")
+        if not desk.until(r"^bench 0: accepted, sheet 0, entry %d: " % (3 if cut == len(last) else 2)):
+            wrong = wrong or f"byte {cut}: {desk.text!r}"
+        status, said = desk.quit()
+        pads.close()
+        want = whole + (last if cut == len(last) else b"") + record(0, 4, "0.17")
+        kept = read(log + ".torn") if os.path.exists(log + ".torn") else b""
+        told = f"camp: {log}: byte {len(whole)}: 20, the log ends inside this record; its {cut} byte{'' if cut == 1 else 's'}: in {log}.torn, and the log goes on before it\n"
+        if status != 0 or read(log) != want:
+            wrong = wrong or f"byte {cut}: status {status}, log {read(log)!r}"
+        if cut in (0, len(last)) and (kept or said):
+            wrong = wrong or f"byte {cut}: told {said!r}, kept {kept!r}"
+        if 0 < cut < len(last) and (kept != last[:cut] or said != told):
+            wrong = wrong or f"byte {cut}: told {said!r}, kept {kept!r}"
+        if os.path.exists(log + ".torn"):
+            os.remove(log + ".torn")
+        if wrong:
+            break
+    check(f"torn at each of {len(last)} bytes", wrong)
+    for name, data, number, byte in [("no record", whole + b"\x05\x00abcdefgh", 18, len(whole)), ("a foreign overwrite", whole + record(1, 4, "0.2"), 19, len(whole)),
+                                     ("no log at all", b"REPORT 12\n01 CHEMS_01s C 1\n", 18, 0), ("too long", whole + record(0, 4, "0.16") * 6600, 18, None)]:
+        write(log, data)
+        desk = Desk(camp, log, ["--bench", "0=/dev/null"])
+        status, said = desk.quit()
+        place = f"byte {byte}: " if byte is not None else "byte "
+        bad = "" if status == 1 and f"{log}: {place}" in said and f": {number}, " in said and read(log) == data and os.listdir(folder) == ["camp.log"] else f"status {status}, {said!r}"
+        check(f"stopped by {name}", bad)
+    os.remove(log)
+    os.rmdir(folder)
+
+
+def no_room(camp, log, name, why, **how):
+    """A file that cannot grow: what was accepted stays, the rest is told as not kept, and nothing is half there."""
+    pads = Keypads([0, 2])
+    desk = Desk(camp, log, pads.options(), **how)
+    desk.until(r"^bench 2: \S+ is open")
+    accepted, refused = 0, 0
+    text = "'" + "x" * 160 + "'"
+    for number in range(400):
+        pads.type(0, "\n" if refused else f"_reflns_threshold_expression {text}\n")
+        if not desk.until(r"(^bench 0: (accepted|not kept).*\n){%d}" % (number + 1)):
+            break
+        accepted = desk.text.count(b"accepted, ")
+        refused = desk.text.count(b"not kept, ")
+        if refused == 2:
+            break
+    found, rest = records(read(log))
+    last = desk.lines()[-1]
+    wrong = ""
+    if accepted == 0 or refused != 2 or f"not kept, {why}: " not in last:
+        wrong = f"{accepted} accepted, {refused} not kept, {last[:120]}"
+    elif len(found) != accepted or rest:
+        wrong = f"{accepted} accepted and {len(found)} records, {len(rest)} bytes behind them"
+    # The desk is as it was: its count, its line, and the other camp.
+    desk.say("who 10")
+    if not wrong and not desk.until(r"^sheet 0, item 10 .*: bench 0, entry %d, typed %d times" % (accepted, accepted)):
+        wrong = f"who: {desk.lines()[-1][:120]}"
+    status, said = desk.quit()
+    if not wrong and (status != 0 or f"bench 0 has not entered `_reflns_threshold_expression {text}`" not in desk.lines()):
+        wrong = f"status {status}, {said!r}"
+    pads.close()
+    again = Desk(camp, log, ["--bench", "0=/dev/null"])
+    again.until(r"bytes left")
+    if not wrong and f": {accepted} entries, " not in again.lines()[0]:
+        wrong = f"started again: {again.lines()[0]}"
+    again.quit()
+    check(name, wrong)
+
+
+def limit(camp):
+    folder = tempfile.mkdtemp()
+
+    def few():
+        import resource
+        resource.setrlimit(resource.RLIMIT_FSIZE, (5000, 5000))
+
+    no_room(camp, os.path.join(folder, "camp.log"), "the file cannot grow, in the middle of a record", "File too large", preexec_fn=few)
+    os.remove(os.path.join(folder, "camp.log"))
+    os.rmdir(folder)
+
+
+def sync(camp, library):
+    """A record that is not on the disk is no entry: the desk and the file are as before, and a later Enter keeps it."""
+    folder = tempfile.mkdtemp()
+    log, sign = os.path.join(folder, "camp.log"), os.path.join(folder, "sign")
+    pads = Keypads([0, 1])
+    desk = Desk(camp, log, pads.options(), env={**os.environ, "LD_PRELOAD": library, "SYNC_FAILS": sign})
+    desk.until(r"^bench 1: \S+ is open")
+    pads.type(0, f"{NAMES[4]} 0.1\n")
+    desk.until(r"^bench 0: accepted, sheet 0, entry 1: ")
+    before = read(log)
+    write(sign, b"")
+    pads.type(0, f"{NAMES[4]} 0.2\n")
+    told = desk.until(r"^bench 0: not kept, Input/output error: %s 0\.2$" % NAMES[4])
+    check("a disk that fails: told, and not in the log", "" if told and read(log) == before and desk.text.count(b"accepted") == 1 else f"{desk.text!r} {read(log)!r}")
+    os.remove(sign)
+    pads.type(1, f"{NAMES[6]} 0.3\n")
+    desk.until(r"^bench 1: accepted")
+    pads.type(0, "\n")
+    desk.until(r"^bench 0: accepted, sheet 0, entry 3: ")
+    desk.quit()
+    check("a disk that works again: the line is entered, once", "" if records(read(log)) == ([(0, 4, "0.1"), (1, 6, "0.3"), (0, 4, "0.2")], b"") else repr(read(log)))
+    pads.close()
+    subprocess.run(["rm", "-r", folder], check=True)
+
+
+def removed(camp):
+    """A log that another program removes, cuts or lengthens while the desk runs."""
+    folder = tempfile.mkdtemp()
+    log = os.path.join(folder, "camp.log")
+    pads = Keypads([0])
+    desk = Desk(camp, log, pads.options())
+    desk.until(r"is open")
+    pads.type(0, f"{NAMES[4]} 0.1\n")
+    desk.until(r"accepted")
+    whole = read(log)
+    os.truncate(log, 3)
+    pads.type(0, f"{NAMES[4]} 0.2\n")
+    check("a log that is cut from outside", "" if desk.until(r"^bench 0: not kept, the log file was cut by another program: ") else repr(desk.text))
+    write(log, whole + record(1, 6, "0.5"))
+    pads.type(0, "\n")
+    check("a log that is longer from outside", "" if desk.until(r"^bench 0: not kept, another program wrote to the log file: ") and read(log) == whole + record(1, 6, "0.5") else repr(read(log)))
+    write(log, whole)
+    pads.type(0, "\n")
+    check("and as it was again", "" if desk.until(r"^bench 0: accepted, sheet 0, entry 2: ") and read(log) == whole + record(0, 4, "0.2") else repr(read(log)))
+    os.remove(log)
+    pads.type(0, f"{NAMES[4]} 0.3\n")
+    check("a log that is removed", "" if desk.until(r"^bench 0: not kept, the log file was removed: ") else repr(desk.text))
+    desk.quit()
+    pads.close()
+    subprocess.run(["rm", "-r", folder], check=True)
+
+
+def inputs(camp):
+    folder = tempfile.mkdtemp()
+    log, fifo, link = (os.path.join(folder, name) for name in ("camp.log", "fifo", "keypad"))
+    os.mkfifo(fifo)
+    pads = Keypads([1])
+    master, slave = pty.openpty()
+    before = termios.tcgetattr(slave)
+    os.symlink(os.ttyname(slave), link)
+    desk = Desk(camp, log, ["--bench", f"0={link}", "--bench", f"2={fifo}", "--bench", f"3={folder}/none", "--speed", "4800", *pads.options()])
+    desk.until(r"^bench 1: \S+ is open")
+    check("a keypad that is not there is told", "" if desk.until(r"^bench 3: \S+/none is not there: No such file or directory$") else repr(desk.text))
+    raw = termios.tcgetattr(slave)
+    check("raw mode and speed", "" if raw[3] & (termios.ICANON | termios.ECHO | termios.ISIG) == 0 and raw[0] & termios.ICRNL == 0 and raw[4] == termios.B4800 else repr(raw))
+    os.write(master, f"{NAMES[4]} 0.1".encode())
+    pads.type(1, f"{NAMES[6]} 0.2\n")
+    check("a bench goes on beside it", "" if desk.until(r"^bench 1: accepted, sheet 0, entry 1: ") else repr(desk.text))
+    os.close(slave)
+    os.close(master)
+    check("a keypad that ends is told", "" if desk.until(r"^bench 0: \S+ ended; it is opened again when it comes back$") else repr(desk.text))
+    pads.type(1, f"{NAMES[6]} 0.3\n")
+    check("the others go on without it", "" if desk.until(r"^bench 1: accepted, sheet 0, entry 2: ") else repr(desk.text))
+    os.remove(link)
+    master, slave = pty.openpty()
+    os.symlink(os.ttyname(slave), link)
+    seen = len(desk.text)
+    check("a keypad that comes back is told", "" if desk.until(r"(?s)ended; .*^bench 0: \S+ is open$") else repr(desk.text[seen:]))
+    os.write(master, b"6\n")
+    check("and goes on with its line", "" if desk.until(r"^bench 0: accepted, sheet 0, entry 3: %s 0\.16$" % NAMES[4]) else repr(desk.text[seen:]))
+    for number in (1, 2):
+        with open(fifo, "wb") as file:
+            file.write(f"{NAMES[4]} 0.0{number}\n".encode())
+        check(f"a FIFO, writer {number}", "" if desk.until(r"^bench 2: accepted, sheet 1, entry %d: " % number) else repr(desk.text))
+    os.write(master, bytes(range(128, 256)) + b"\x1b[2J\x07\r\x7f")
+    desk.until(r"^bench 0: refused, 3, .*: byte 127$")
+    check("bytes that are no keys are told by number", "" if desk.text.count(b"bench 0: refused, 3, ") == 132 and all(byte == 10 or 32 <= byte <= 126 for byte in desk.text) else repr(desk.text[-300:]))
+    status, said = desk.quit()
+    after = termios.tcgetattr(slave)
+    check("the end, and modes put back", "" if status == 0 and not said and after[3] & termios.ICANON and after[0] & termios.ICRNL and after[4] == before[4] else f"{status} {said!r} {after!r}")
+    other = os.path.join(folder, "other")
+    os.symlink(os.ttyname(slave), other)
+    desk = Desk(camp, log, ["--bench", f"0={link}", "--bench", f"1={other}"])
+    check("two benches on one device", "" if desk.until(r"^bench 1: \S+ is not there: this is the input of another bench$") else repr(desk.text))
+    desk.process.send_signal(signal.SIGTERM)
+    desk.process.wait(timeout=10)
+    check("ended by a signal", "" if desk.process.returncode == 0 else str(desk.process.returncode))
+    pads.close()
+    subprocess.run(["rm", "-r", folder], check=True)
+
+
+def console(camp):
+    folder = tempfile.mkdtemp()
+    log = os.path.join(folder, "camp.log")
+    pads = Keypads()
+    desk = Desk(camp, log, pads.options(), cwd=folder)
+    desk.until(r"^bench 3: \S+ is open")
+    for bench, line in [(0, f"{NAMES[4]} 0.16"), (2, f"{NAMES[4]} 0.03"), (0, f"{NAMES[4]} 0.045")]:
+        seen = desk.text.count(b"accepted")
+        pads.type(bench, line + "\n")
+        desk.until(r"(?s)(accepted.*){%d}" % (seen + 1))
+    item = "_refine_ls_R_factor_gt"
+    asked = [
+        ("who 4", [f"sheet 0, item 4 {item}: bench 0, entry 2, typed 2 times: 0.045", f"sheet 1, item 4 {item}: bench 2, entry 1, typed 1 time: 0.03"]),
+        (f"who {item.upper()}", [f"sheet 0, item 4 {item}: bench 0, entry 2, typed 2 times: 0.045"]),
+        ("who 5", ["item 5 is empty"]),
+        ("who 0", ["0 is neither the number nor the name of an item"]),
+        ("who", ["who takes ITEM"]),
+        ("  who   5  ", ["item 5 is empty"]),
+        ("report", ["sheet 0, our camp: 2 entries, 14 alerts in 25 rows", "  C 08 RFACR_01: wR factor missing (1, missing)", "sheet 1, visitors: 1 entry, 14 alerts in 25 rows"]),
+        ("report powder", ["sheet 0, our camp: 2 entries, 8 alerts in 25 rows"]),
+        ("report dust", ["report takes nothing, or powder"]),
+        ("hydrogen", [f"camp: {log}: neither a formula nor a weight is typed"]),
+        ("history", [f"sheet 0, entry 1, bench 0: {item} 0.16", f"sheet 1, entry 1, bench 2: {item} 0.03", f"sheet 0, entry 2, bench 0: {item} 0.045"]),
+        ("cif 1 camp-1 a.cif", ["a.cif: written"]),
+        ("cif 2 camp-1 b.cif", ["12, no such sheet: 0 is the camp's, of benches 0 and 1, and 1 the visitors', of benches 2 and 3"]),
+        ("cif 0 camp_1 b.cif", ["11, not 1 to 32 letters, digits or -"]),
+        ("cif x camp-1 b.cif", ["x is not the number of a sheet"]),
+        ("cif 0 camp-1 none/b.cif", ["none/b.cif: No such file or directory"]),
+        ("cif 0 camp-1 camp.log", ["camp.log: this is the log"]),
+        ("cif 0 camp-1 -", ["-: not the name of a file"]),
+        ("quit now", ["quit takes nothing"]),
+        ("help", [f"{'quit':9}{'':16} end the desk; the log has all that was accepted"]),
+        ("caf\xe9\x1b[2J", ["caf[2J is not a command; help tells all"]),
+        ("x" * 500, ["a command has at most 400 characters"]),
+        ("", []),
+    ]
+    for line, want in asked:
+        desk.text = b""
+        desk.say(line)
+        desk.say("who 9")
+        desk.until(r"^item 9 is empty$")
+        missing = [text for text in want if text not in desk.lines()]
+        check(f"console: {line[:30].strip()!a}", f"{missing} not in {desk.lines()}" if missing or (not want and len(desk.lines()) != 1) else "")
+    check("console: the file is written", "" if read(os.path.join(folder, "a.cif")) == f"data_camp-1\n{item} 0.03\n".encode() else "not so")
+    pads.type(1, "_half a line")
+    time.sleep(0.2)
+    desk.text = b""
+    status, said = desk.quit()
+    check("console: quit", "" if status == 0 and not said and "bench 1 has not entered `_half a line`" in desk.lines() else f"{status} {said!r} {desk.text!r}")
+    pads.close()
+    subprocess.run(["rm", "-r", folder], check=True)
+
+
+def on_screen(camp, log, options, rows=24, columns=80, **how):
+    """The desk on a screen: its process, and the side of the terminal that shows it."""
+    master, slave = pty.openpty()
+    fcntl.ioctl(slave, termios.TIOCSWINSZ, struct.pack("HHHH", rows, columns, 0, 0))
+    process = subprocess.Popen([camp, "run", "--log", log, *options], stdin=slave, stdout=slave, stderr=slave,
+                               env={**os.environ, "TERM": "xterm-256color"}, **how)
+    os.close(slave)
+    os.set_blocking(master, False)
+    return process, master
+
+
+def drawn(master, seconds):
+    if select.select([master], [], [], seconds)[0]:
+        try:
+            return os.read(master, 65536)
+        except OSError:
+            return b""
+    return b""
+
+
+def load(camp, seconds):
+    """Four benches at 50 keys a second each, every 30th key an Enter that is flushed: from a key to the screen."""
+    folder = tempfile.mkdtemp(dir=os.environ.get("RUN_FOLDER"))
+    pads = Keypads()
+    process, master = on_screen(camp, os.path.join(folder, "camp.log"), pads.options(), 60, 200)
+    time.sleep(0.5)
+    while drawn(master, 0.1):
+        pass
+    lines = {bench: f"{NAMES[OWN[bench]]} 0.16\n" for bench in range(4)}
+    place = {bench: 0 for bench in range(4)}
+    times, enters, begin = [], [], time.monotonic()
+    tick = 0
+    while time.monotonic() - begin < seconds:
+        for bench in range(4):
+            due = begin + tick * 0.02 + bench * 0.005
+            pause = due - time.monotonic()
+            if pause > 0:
+                time.sleep(pause)
+            byte = lines[bench][place[bench] % len(lines[bench])]
+            place[bench] += 1
+            sent = time.monotonic()
+            pads.type(bench, byte)
+            if drawn(master, 1.0):
+                (enters if byte == "\n" else times).append(time.monotonic() - sent)
+            else:
+                times.append(1.0)
+        tick += 1
+    took = sorted(times + enters)
+    worst, middle = took[-1] * 1000, took[len(took) // 2] * 1000
+    late = sum(1 for one in took if one > 0.010)
+    flushed = sorted(enters)
+    process.terminate()
+    process.wait(timeout=10)
+    found, rest = records(read(os.path.join(folder, "camp.log")))
+    # Others use the processors too, so one in ten may be late.
+    check("keys are shown within 10 ms", "" if took and late * 10 <= len(took) and len(found) == len(enters) else f"{late} of {len(took)} late, the worst {worst:.1f} ms, {len(found)} records of {len(enters)} Enters")
+    print(f"  measured: {len(took)} keys at four benches in {seconds} s: half within {middle:.2f} ms, 99 of 100 within {took[len(took) * 99 // 100] * 1000:.2f} ms, the worst {worst:.2f} ms; {late} over 10 ms; {len(flushed)} Enters with flushing, half within {flushed[len(flushed) // 2] * 1000:.2f} ms, the worst {flushed[-1] * 1000:.2f} ms", flush=True)
+    pads.close()
+    os.close(master)
+    subprocess.run(["rm", "-r", folder], check=True)
+
+
+def memory(camp, count):
+    """The program's memory does not grow: after the first tenth of the keys, and at the end."""
+    folder = tempfile.mkdtemp()
+    pads = Keypads([0, 2])
+    process, master = on_screen(camp, os.path.join(folder, "camp.log"), pads.options())
+    time.sleep(0.3)
+
+    def resident():
+        with open(f"/proc/{process.pid}/status") as file:
+            return next(int(line.split()[1]) for line in file if line.startswith("VmRSS"))
+
+    text = ("_refine x" * 20 + "\n" + "\x18" + "\x07").encode() * 4
+    sent, first = 0, 0
+    while sent < count:
+        for bench in (0, 2):
+            rest = text
+            while rest:
+                _, ready, _ = select.select([], [pads.pairs[bench][0]], [], 5)
+                os.set_blocking(pads.pairs[bench][0], False)
+                try:
+                    rest = rest[os.write(pads.pairs[bench][0], rest):]
+                except BlockingIOError:
+                    pass
+                drawn(master, 0)
+            sent += len(text)
+        if not first and sent > count // 10:
+            first = resident()
+    for _ in range(50):
+        drawn(master, 0.01)
+    last = resident()
+    process.terminate()
+    while process.poll() is None:
+        drawn(master, 0.01)
+    check(f"memory over {count} keys", "" if first and last - first <= 64 else f"{first} kB, then {last} kB")
+    print(f"  measured: {first} kB after {count // 10} keys, {last} kB after {count}", flush=True)
+    pads.close()
+    os.close(master)
+    subprocess.run(["rm", "-r", folder], check=True)
+
+
+def main(camp, what, *words):
+    if what == "kills":
+        kills(camp, int(words[0]), int(words[1]))
+    elif what == "torn":
+        torn(camp)
+    elif what == "full":
+        no_room(camp, os.path.join(words[0], "camp.log"), "a file system that runs full in the middle of a record", "No space left on device")
+    elif what == "limit":
+        limit(camp)
+    elif what == "sync":
+        sync(camp, words[0])
+    elif what == "removed":
+        removed(camp)
+    elif what == "inputs":
+        inputs(camp)
+    elif what == "console":
+        console(camp)
+    elif what == "load":
+        load(camp, float(words[0]))
+    elif what == "memory":
+        memory(camp, int(words[0]))
+    else:
+        sys.exit(f"{what} is nothing to run")
+
+
+main(*sys.argv[1:])
