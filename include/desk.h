@@ -1,15 +1,17 @@
 /*
- * The desk: four benches, two sheets of nineteen items, each with a count of accepted entries, and a log.
- * Benches 0 and 1 fill sheet 0, benches 2 and 3, of the visitors, sheet 1; they share the log.
+ * The desk: four benches, two sheets of nineteen items, each with a count of accepted entries, and
+ * a log. Benches 0 and 1 fill sheet 0, benches 2 and 3, of the visitors, sheet 1; they share the
+ * log.
  *
  * Link with libexport_desk.a. The rules are those of document 01 and of document 02, No. 1, 2, 4,
  * and 6 to 13.
  *
  * Memory: a desk lives in two runs that the caller lends to every call, `texts` of DESK_TEXTS bytes
  * and `numbers` of DESK_NUMBERS numbers; zeros in both are a fresh desk. Its log is a run of bytes,
- * at most DESK_LOG of them, of any content. Between calls nobody else writes them. Runs of any other
- * length are no desk: every call then answers 2 and changes nothing (but first desk_key answers 1 where
- * the bench is not there, and all that name a sheet 12 where it is not).
+ * at most DESK_LOG of them, of any content. Between calls nobody else writes them. Runs of any
+ * other length are no desk: every call then answers 2 and changes nothing (but first desk_key
+ * answers 1 where the bench is not there, all that name a sheet 12 where it is not, and then
+ * desk_report 21 where the profile is not).
  *
  * A run is a pointer and a length, in elements. It may hold anything. No pointer may be NULL, not
  * even where the length is 0; for an empty run pass the address of any element. Runs that are lent
@@ -55,7 +57,7 @@ extern "C" {
  *
  * A desk that was saved with ten items on each sheet has 4800 texts, one that was saved with one sheet
  * 2800, one that was saved when lines had 80 bytes 1120. None of them is a desk any more: every call
- * answers 2 and leaves it as it is.
+ * answers 2, but for 1, 12 and 21 as above, and leaves it as it is.
  */
 #define DESK_TEXTS ((DESK_BENCHES + DESK_SHEETS * DESK_ITEMS) * DESK_LINE)
 #define DESK_ITEM_NUMBERS 4
@@ -74,10 +76,10 @@ extern "C" {
 uint8_t desk_fresh(uint8_t *texts, size_t texts_length, size_t *numbers, size_t numbers_length);
 
 /*
- * One key of a bench. 32 to 126 are appended to the bench's line, 8 erases its last byte, 24 empties
- * it, 10 is Enter, which stores the value on the bench's sheet, writes its record to the log and empties
- * the line. The bench whose entry first fills an item of a sheet owns it there, also where that value was
- * ? or . for unassigned. The first that applies:
+ * One key of a bench. 32 to 126 are appended to the bench's line, 8 erases its last byte, 24
+ * empties it, 10 is Enter, which stores the value on the bench's sheet, writes its record to the
+ * log and empties the line. The bench whose entry first fills an item of a sheet owns it there,
+ * also where that value was ? or . for unassigned. The first that applies:
  *   1  the bench is not 0 to 3
  *   2  the memory is no desk, or the desk is not sound, or not with this log
  *   3  the byte is no key
@@ -124,10 +126,10 @@ typedef struct {
 } desk_told;
 
 /*
- * Who typed an item of a sheet: the bench and the number of its last entry among the sheet's, and how
- * many accepted entries of the sheet named the item ("typed 3 times"), which on a desk grown from a fresh
- * one is how many records of its benches in the used log do; for an empty item, and with a refusal, bench
- * 255, entry 0 and times 0. The first that applies:
+ * Who typed an item of a sheet: the bench and the number of its last entry among the sheet's, and
+ * how many accepted entries of the sheet named the item ("typed 3 times"), which on a desk grown
+ * from a fresh one is how many records of its benches in the used log do; for an empty item, and
+ * with a refusal, bench 255, entry 0 and times 0. The first that applies:
  *   12  the sheet is not 0 or 1
  *   2   the memory is no desk, or the desk is not sound
  *   6   the item is not 1 to 19
@@ -171,22 +173,22 @@ typedef struct {
 } desk_fed;
 
 /*
- * Reads the next part of a log, of any length, none too, into both sheets of the desk; any last but 0
- * marks the last part. However a log is cut, the sheets and the final answer are those of reading it
- * whole. A record is taken as its Enter was: on its bench's sheet, with the next entry number. The first
- * that applies:
- *   2   the memory is no desk or no reader, or the desk is not sound with the record's start as used in a
- *       log of 65536, or the kept bytes already decide a record: nothing is changed
+ * Reads the next part of a log, of any length, none too, into both sheets of the desk; any last but
+ * 0 marks the last part. However a log is cut, the sheets and the final answer are those of reading
+ * it whole. A record is taken as its Enter was: on its bench's sheet, with the next entry number.
+ * The first that applies:
+ *   2   the memory is no desk or no reader, or the desk is not sound with the record's start as
+ *       used in a log of 65536, or the kept bytes already decide a record: nothing is changed
  *       the reading is over: the answer that ended it, and nothing is changed
- *   18  a record is none: its length is not 7 to 206, or its kind not 1, its bench not 0 to 3, its item
- *       not 1 to 10, its value not well formed, of its kind and of bytes 32 to 126, or longer than a line
- *       takes, or it ends beyond byte 65536
+ *   18  a record is none: its length is not 7 to 206, or its kind not 1, its bench not 0 to 3, its
+ *       item not 1 to 19, its value not well formed, of its kind and of bytes 32 to 126, or longer
+ *       than a line takes, or it ends beyond byte 65536
  *   19  a record's item is owned by the other bench of its sheet
  *   20  the last part ends inside a record; given only there
  *   0   read on, or with the last part to the end
- * With 18, 19 and 20 the sheets hold the records before the refused one, whose first byte, counted from
- * 0, is the place; otherwise the place is 0. After a last part with 0 the desk's used number is the log's
- * length: the desk can go on with that log.
+ * With 18, 19 and 20 the sheets hold the records before the refused one, whose first byte, counted
+ * from 0, is the place; otherwise the place is 0. After a last part with 0 the desk's used number
+ * is the log's length: the desk can go on with that log.
  */
 desk_fed desk_feed(uint8_t *texts, size_t texts_length, size_t *numbers, size_t numbers_length,
                    uint8_t *kept, size_t kept_length, size_t *state, size_t state_length,
@@ -198,13 +200,15 @@ typedef struct {
 } desk_proposed;
 
 /*
- * The hydrogen helper: the smallest count of hydrogens, 0 to 9999, that is right. Right is a count with
- * which the sheet's formula, all other terms kept in their order, has rows 1, 2 and 4 at level 0 for the
- * sheet's weight; 0 drops the term, and where there is none it is put at the one place that row 2 allows.
- * The first that applies:
+ * The hydrogen helper: the smallest count of hydrogens, 0 to 9999, that is right. Right is a count
+ * with which the sheet's formula, all other terms kept in their order, is a text of at most 176
+ * bytes and has rows 1, 2 and 4 at level 0 for the sheet's weight; 0 drops the term, 1 is written
+ * H, and where there is no term it is put at the one place that row 2 allows. The first that
+ * applies:
  *   12  the sheet is not 0 or 1
  *   2   the memory is no desk, or the desk is not sound
- *   22  rows 1 or 2 of the formula are not at level 0, or a symbol has no weight, or the weight is missing
+ *   22  rows 1 or 2 of the formula are not at level 0, or a symbol has no weight, or the weight is
+ *       missing
  *   23  no count is right
  *   0   answered
  * With a refusal the count is 0. The sheet stays as it is.
@@ -213,8 +217,8 @@ desk_proposed desk_hydrogens(const uint8_t *texts, size_t texts_length, const si
                              size_t numbers_length, uint64_t sheet);
 
 /*
- * The check of a proposed count, of any size: 24 where it is not right, otherwise 0 and the count; before
- * that 12, 2 and 22 as above. With a refusal the count is 0.
+ * The check of a proposed count, of any size: 24 where it is not right, otherwise 0 and the count;
+ * before that 12, 2 and 22 as above. With a refusal the count is 0.
  */
 desk_proposed desk_hydrogens_right(const uint8_t *texts, size_t texts_length, const size_t *numbers,
                                    size_t numbers_length, uint64_t sheet, uint64_t count);

@@ -1,8 +1,8 @@
 /*
  * The wall screen's two questions.
  *
- * Link with libexport_wall.a. The rules are those of document 01, "A line, a number" and "The twelve rows",
- * and of document 02, No. 4 and 6.
+ * Link with libexport_wall.a. The rules are those of document 01, "A line, a number" and "The
+ * twelve rows", and of document 02, No. 4, 6, 11 and 12.
  *
  * Bytes: a run of bytes is a pointer and a length. It may hold any bytes, NUL too, and needs no end
  * mark. The pointer may not be NULL, not even where the length is 0; for an empty run pass the
@@ -25,7 +25,7 @@ extern "C" {
  * The number for one line, without its end-of-line byte. The first that applies:
  *   5  over 200 bytes, or a byte outside 32 to 126, or not a name, spaces and a value
  *      (the empty line too)
- *   6  the name is none of the ten
+ *   6  the name is none of the nineteen
  *   7  the value fails its item's kind
  *   0  accepted
  */
