@@ -58,7 +58,7 @@ module _ {Rows : Type 0} (rows : ℕ → Sheet → Rows) (none : Rows) (log : Li
       subst⁻¹ (λ (d : Desk). AskedAlike d (stateAfter rows none log cs .desk)) (ap (λ (r : Reading Desk). r .sheets) (gives-back rows none log cs)) desk-alike
 
   pub asked-same-in-parts : (ps : List (List ℕ)) (p : List ℕ) (more : List Part) → AskedSameInParts rows none log cs ps p more
-  asked-same-in-parts ps p more e = subst⁻¹ (λ (d : Desk). AskedAlike d (stateAfter rows none log cs .desk)) (gives-back-in-parts rows none log cs ps p more e) desk-alike
+  asked-same-in-parts ps p more e = subst⁻¹ (λ (d : Desk). AskedAlike d (stateAfter rows none log cs .desk)) (gives-back-in-parts rows none log cs ps p more e .desk) desk-alike
 
 -- the desk itself
 pub desk-asked-same : (log : List ℕ) (cs : List Call) → AskedSame rowsOf noRows log cs

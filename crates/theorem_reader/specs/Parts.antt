@@ -102,6 +102,6 @@ pub data Ends (b : Between) (c : Part) : Type 0 where
   with-last : c .1 ≡ true → Ends b c
 
 -- "parts after it, or after the last part, change nothing and repeat its answer": whatever part e comes next, marked or not, its answer and place are those of c, and desk,
--- used number and the reader's memory stay as c left them. So it is of every desk and reader, sound or not.
+-- used number and the reader's memory stay as c left them. So it is of every reader and every desk that has its sheets and items, sound or not.
 abbrev pub Repeats : Between → Part → Type 0
 Repeats b c = (e : Part) → fed (between (fed b c)) e ≡ fed b c
