@@ -296,8 +296,11 @@ module _ (last : Bool) (d : Desk) (at : ℕ) (bs : List ℕ) where
       ∙ gives-20 (c .desk) (c .place) (c .rest) (c .so)
 
   read-table : (Sound : Type 0) → Sound → Answers (feedTable Sound d at bs last) (readOn last d at bs .answer)
-  read-table Sound s = answers (feedTable Sound d at bs last) a refl (next (λ n. n s) (go (answers-known refusalOf storeOf refusal-known last d at bs .known)))
+  read-table Sound s = answers (feedTable Sound d at bs last) a refl (next sound-here (go (answers-known refusalOf storeOf refusal-known last d at bs .known)))
     where
+      sound-here : (Sound → ⊥) → ⊥
+      sound-here never = never s
+
       a : ℕ
       a = readOn last d at bs .answer
 
