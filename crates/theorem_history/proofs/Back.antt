@@ -1,7 +1,7 @@
 -- "The used log of any desk grown by these rules gives back its sheets exactly" (document 02, No. 10).
 -- Assumes nothing.
 use mathlib.Core.Path.{_≡_, refl, sym, ap, _∙_}
-use mathlib.Core.Bool.{true, false}
+use mathlib.Core.Bool.{Bool, true, false}
 use mathlib.Core.List.{List, [], _∷_, _++_, append-assoc, append-nil}
 use Prim.Native.Nat.{ℕ, _+_, _≤_}
 use native.Mathlib.Omega.{arith}
@@ -11,9 +11,10 @@ use lib.Dec.{eqb}
 use lib.ListN.{length, take, drop, length-append}
 use lib.Seq.{take-at, drop-at}
 use Rattle.desk_log.specs.Record.{recordLength}
-use Rattle.reader_cuts.specs.Reading.{lengthMost, lengthOf, badLength, Reading, ended, readAll}
-use Rattle.reader_cuts.proofs.Laws.{length-good, read-few, read-taken}
-use Rattle.theorem_history.specs.Histories.{Noted, recordFor, records, Fitting, none, one, Grown, still, entry, toldBy, noted, historyIn}
+use Rattle.reader_cuts.specs.Reading.{lengthMost, lengthOf, badLength, Reading, ended, short, readAll}
+use Rattle.reader_cuts.proofs.Laws.{length-good, read-few, read-bad, read-refused, read-taken, every-reading}
+use Rattle.reader_cuts.proofs.Firsts.{read-undecided}
+use Rattle.theorem_history.specs.Histories.{Noted, recordFor, records, Grown, still, entry, notingRefusal, notingStore, historyIn, NotesBeside}
 
 -- a record says its own length
 pub says-length : (e : Noted) (x : List ℕ) → recordLength (e .value) ≤ lengthMost → lengthOf (recordFor e ++ x) ≡ recordLength (e .value)
@@ -46,19 +47,39 @@ module _ {S : Type 0} (refusal : ℕ → List ℕ → S → ℕ) (store : List �
 
 -- ---- the history that a log tells
 
--- no record is refused where entries are only noted
-abbrev taken : ℕ → List ℕ → List Noted → ℕ
-taken at r es = 0
+module _ {S : Type 0} (refusal : ℕ → List ℕ → S → ℕ) (store : List ℕ → S → S) where
+  -- entries that are each taken are noted in order
+  grown-noting : {s t : S} {at : ℕ} {es : List Noted} (fs : List Noted) → Grown refusal store s at es t
+      → Grown (notingRefusal refusal store) (notingStore refusal store) (s, fs) at es (t, fs ++ es)
+  grown-noting fs still = rw (append-nil fs) still
+  grown-noting {s} {t} {at} fs (entry {e = e} {es = es} a b c g) =
+      let k : Grown (notingRefusal refusal store) (notingStore refusal store) (store (recordFor e) s, fs ++ (e ∷ [])) (at + recordLength (e .value)) es (t, (fs ++ (e ∷ [])) ++ es)
+      = grown-noting (fs ++ (e ∷ [])) g in
+      entry {e = e} a b c (rw (append-assoc fs (e ∷ []) es) at k)
 
-told-back : (e : Noted) → toldBy (recordFor e) ≡ e
-told-back e = refl
+  -- "One log, one history": reading a used log gives the entries that left it, in order
+  pub history-told : {s t : S} {es : List Noted} → Grown refusal store s 0 es t → historyIn refusal store s (records es) ≡ es
+  history-told g = ap (λ (r : Reading (S × List Noted)). r .sheets .1) (read-back (notingRefusal refusal store) (notingStore refusal store) (grown-noting [] g))
 
-noted-grown : (fs es : List Noted) (at : ℕ) → Fitting es → Grown taken noted fs at es (fs ++ es)
-noted-grown fs [] at none = rw (append-nil fs) still
-noted-grown fs (e ∷ es) at (one a b h) =
-    let g : Grown taken noted (fs ++ (e ∷ [])) (at + recordLength (e .value)) es ((fs ++ (e ∷ [])) ++ es) = noted-grown (fs ++ (e ∷ [])) es (at + recordLength (e .value)) h in
-    entry {e = e} a b refl (rw (append-assoc fs (e ∷ []) es) at g)
+  -- a reading without its notes
+  abbrev plain : Reading (S × List Noted) → Reading S
+  plain r = record { sheets = r .sheets .0; at = r .at; rest = r .rest; over = r .over; answer = r .answer }
 
--- "One log, one history": reading a used log gives the entries that left it, in order
-pub history-told : (es : List Noted) → Fitting es → historyIn (records es) ≡ es
-history-told es h = ap (λ (r : Reading (List Noted)). r .sheets) (read-back taken noted (noted-grown [] es 0 h))
+  plain-short : (last : Bool) (s : S × List Noted) (at : ℕ) (bs : List ℕ) → short last (s .0) at bs ≡ plain (short last s at bs)
+  plain-short false s at bs = refl
+  plain-short true s at [] = refl
+  plain-short true s at (b ∷ bs) = refl
+
+  same-reading : (last : Bool) (s : S × List Noted) (at : ℕ) (bs : List ℕ)
+      → readAll refusal store last (s .0) at bs ≡ plain (readAll (notingRefusal refusal store) (notingStore refusal store) last s at bs)
+  same-reading last s at bs =
+      every-reading (notingRefusal refusal store) (notingStore refusal store) last (λ t k cs r. readAll refusal store last (t .0) k cs ≡ plain r)
+      (λ t k cs u. read-undecided refusal store last (t .0) k cs u ∙ plain-short last t k cs)
+      (λ t k cs h b. read-bad refusal store last (t .0) k cs h b)
+      (λ t k cs h g w e. read-refused refusal store last (t .0) k cs h g w e)
+      (λ t k cs r h g w e p. read-taken refusal store last (t .0) k cs h g w e ∙ p) s at bs
+
+  pub notes-beside : (s : S) (log : List ℕ) → NotesBeside refusal store s log
+  notes-beside s log =
+      let e = sym (same-reading true (s, []) 0 log) in
+      record { answer = ap (λ (r : Reading S). r .answer) e; at = ap (λ (r : Reading S). r .at) e; sheets = ap (λ (r : Reading S). r .sheets) e }

@@ -1,12 +1,12 @@
 -- Histories: accepted entries in order, and the log that they leave (document 02, No. 14). That a log has one history is `same-history` and `beginning`
--- (proofs/Unique.antt); that reading the log gives it is `history-told` (proofs/Back.antt).
+-- (proofs/Unique.antt); that reading the log gives it is `history-told`, and that noting entries changes no reading `notes-beside` (proofs/Back.antt).
 -- Assumes nothing.
 use Prim.Native.Nat.{ℕ, _+_, _≤_}
 use mathlib.Core.Path.{_≡_}
 use mathlib.Core.List.{List, [], _∷_, _++_}
 use lib.ListN.{length, getD, drop}
 use Rattle.desk_log.specs.Record.{headLength, recordLength, recordOf}
-use Rattle.reader_cuts.specs.Reading.{lengthMost, readWhole}
+use Rattle.reader_cuts.specs.Reading.{lengthMost, Reading, readWhole}
 
 -- "accepted entries (bench, item, value as typed)"
 pub record Noted : Type 0 where
@@ -43,9 +43,26 @@ module _ {S : Type 0} (refusal : ℕ → List ℕ → S → ℕ) (store : List �
 abbrev pub toldBy : List ℕ → Noted
 toldBy r = record { bench = getD r 4 0; item = getD r 5 0; value = drop headLength r }
 
--- the history that the reader finds in a log whose records it all takes: where it stores a record in sheets, the entry that the record tells is noted
 abbrev pub noted : List ℕ → List Noted → List Noted
 noted r es = es ++ (toldBy r ∷ [])
 
-abbrev pub historyIn : List ℕ → List Noted
-historyIn log = readWhole (λ (at : ℕ) (r : List ℕ) (es : List Noted). 0) noted [] log .sheets
+-- the reader of No. 10, with its own judgement and its own sheets, that also notes the entry of each record that it stores
+module _ {S : Type 0} (refusal : ℕ → List ℕ → S → ℕ) (store : List ℕ → S → S) where
+  abbrev pub notingRefusal : ℕ → List ℕ → S × List Noted → ℕ
+  notingRefusal at r s = refusal at r (s .0)
+
+  abbrev pub notingStore : List ℕ → S × List Noted → S × List Noted
+  notingStore r s = (store r (s .0), noted r (s .1))
+
+  abbrev pub notingWhole : S → List ℕ → Reading (S × List Noted)
+  notingWhole s log = readWhole notingRefusal notingStore (s, []) log
+
+  -- the history that the reader finds in a log
+  abbrev pub historyIn : S → List ℕ → List Noted
+  historyIn s log = notingWhole s log .sheets .1
+
+  -- noting changes nothing of the reading: answer, place and sheets are the reader's
+  pub record NotesBeside (s : S) (log : List ℕ) : Type 0 where
+    pub answer : notingWhole s log .answer ≡ readWhole refusal store s log .answer
+    pub at : notingWhole s log .at ≡ readWhole refusal store s log .at
+    pub sheets : notingWhole s log .sheets .0 ≡ readWhole refusal store s log .sheets

@@ -9,7 +9,7 @@ use Rattle.rows.specs.Rows.{noRows}
 use Rattle.rows_sheet.specs.Sheet.{rowsOf}
 use Rattle.reader_cuts.specs.Reading.{Reading}
 use Rattle.theorem_reader.specs.Parts.{Between, Part, whole}
-use Rattle.theorem_reader.proofs.Agree.{parts-agree}
+use Rattle.theorem_reader.proofs.Agree.{parts-agree, parts-accepted}
 use Rattle.theorem_work.specs.Calls.{Call}
 use Rattle.theorem_logs.specs.GivesBack.{GivesBackInParts}
 use Rattle.theorem_logs.proofs.Back.{gives-back}
@@ -17,8 +17,11 @@ use Rattle.theorem_logs.proofs.Back.{gives-back}
 pub gives-back-in-parts : {Rows : Type 0} (rows : ℕ → Sheet → Rows) (none : Rows) (log : List ℕ) (cs : List Call) (ps : List (List ℕ)) (p : List ℕ) (more : List Part)
     → GivesBackInParts rows none log cs ps p more
 gives-back-in-parts rows none log cs ps p more e =
-    ap (λ (b : Between). b .desk) (parts-agree ps p more .left-so) ∙ ap (λ (l : List ℕ). whole l .sheets) e
-    ∙ ap (λ (r : Reading Desk). r .sheets) (gives-back rows none log cs)
+    let read = ap (λ (l : List ℕ). whole l) e ∙ gives-back rows none log cs in
+    record {
+      desk = ap (λ (b : Between). b .desk) (parts-agree ps p more .left-so) ∙ ap (λ (r : Reading Desk). r .sheets) read;
+      answers = parts-accepted ps p more (ap (λ (r : Reading Desk). r .answer) read);
+    }
 
 -- the desk itself
 pub desk-gives-back-in-parts : (log : List ℕ) (cs : List Call) (ps : List (List ℕ)) (p : List ℕ) (more : List Part) → GivesBackInParts rowsOf noRows log cs ps p more

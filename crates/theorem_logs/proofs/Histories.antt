@@ -3,12 +3,14 @@
 use mathlib.Core.Path.{_≡_, sym, ap, _∙_}
 use mathlib.Core.List.{List, _++_}
 use Prim.Native.Nat.{ℕ}
+use Rattle.desk_state.specs.Desks.{freshDesk}
 use Rattle.desk_state.specs.declared.sheet.Sheet.{Sheet}
 use Rattle.rows.specs.Rows.{noRows}
 use Rattle.rows_sheet.specs.Sheet.{rowsOf}
+use Rattle.reader_entries.specs.Judged.{refusalOf, storeOf}
 use Rattle.theorem_history.specs.Histories.{Fitting, records, historyIn}
 use Rattle.theorem_history.proofs.Unique.{beginning, same-history, grown-fitting}
-use Rattle.theorem_history.proofs.Back.{history-told}
+use Rattle.theorem_history.proofs.Back.{history-told, notes-beside}
 use Rattle.theorem_work.specs.Calls.{Call}
 use Rattle.theorem_sequences.specs.Sequences.{workAfter}
 use Rattle.theorem_sequences.proofs.Demand3.{demand-3}
@@ -30,7 +32,8 @@ module _ {Rows : Type 0} (rows : ℕ → Sheet → Rows) (none : Rows) where
         (sym (used-records log cs) ∙ e ∙ used-records log′ cs′);
     beginning = λ rest e. beginning (historyAfter rows none log cs) (historyAfter rows none log′ cs′) rest (history-fits log cs) (history-fits log′ cs′)
         (ap (λ (l : List ℕ). l ++ rest) (sym (used-records log cs)) ∙ e ∙ used-records log′ cs′);
-    told = ap historyIn (used-records log cs) ∙ history-told (historyAfter rows none log cs) (history-fits log cs);
+    told = ap (historyIn refusalOf storeOf freshDesk) (used-records log cs) ∙ history-told refusalOf storeOf (back-after rows none log cs);
+    beside = notes-beside refusalOf storeOf freshDesk (usedLog rows none log cs);
   }
 
 -- the desk itself

@@ -1,3 +1,4 @@
 pub mod Back
 pub mod Cut
 pub mod Histories
+pub mod Asked

@@ -5,14 +5,14 @@ use Prim.Native.Nat.{ℕ}
 use mathlib.Core.Path.{_≡_}
 use mathlib.Core.Bool.{true}
 use mathlib.Core.List.{List, [], _++_}
-use lib.ListN.{take}
+use lib.ListN.{length, take, replicate}
 use Rattle.desk_state.specs.Desks.{freshDesk}
 use Rattle.desk_state.specs.declared.sheet.Sheet.{Sheet}
 use Rattle.desk_state.specs.declared.desk.Desk.{Desk}
 use Rattle.reader_cuts.specs.Reading.{ended}
 use Rattle.reader_entries.specs.Judged.{readOn}
 use Rattle.reader_cuts.specs.Called.{joined}
-use Rattle.theorem_reader.specs.Parts.{Part, fresh, afterParts, partsOf}
+use Rattle.theorem_reader.specs.Parts.{Part, fresh, afterParts, partAnswers, partsOf}
 use Rattle.theorem_work.specs.Calls.{Call}
 use Rattle.theorem_sequences.specs.Sequences.{stateAfter}
 
@@ -30,7 +30,10 @@ module _ {Rows : Type 0} (rowsOf : ℕ → Sheet → Rows) (noRows : Rows) where
   GivesBack log cs =
       readOn true freshDesk 0 (usedLog log cs) ≡ ended 0 (onlySheets (stateAfter rowsOf noRows log cs .desk .sheets)) (stateAfter rowsOf noRows log cs .used)
 
-  -- the same fed in parts, p the last of them, with any calls after it
+  -- the same fed in parts, p the last of them, with any calls after it: each of them gets 0, with place 0
+  pub record BackInParts (log : List ℕ) (cs : List Call) (ps : List (List ℕ)) (p : List ℕ) (more : List Part) : Type 0 where
+    pub desk : afterParts fresh (partsOf ps p more) .desk ≡ onlySheets (stateAfter rowsOf noRows log cs .desk .sheets)
+    pub answers : partAnswers fresh (partsOf ps p more) ≡ replicate (length (partsOf ps p more)) (0, 0)
+
   abbrev pub GivesBackInParts : List ℕ → List Call → List (List ℕ) → List ℕ → List Part → Type 0
-  GivesBackInParts log cs ps p more =
-      joined ps ++ p ≡ usedLog log cs → afterParts fresh (partsOf ps p more) .desk ≡ onlySheets (stateAfter rowsOf noRows log cs .desk .sheets)
+  GivesBackInParts log cs ps p more = joined ps ++ p ≡ usedLog log cs → BackInParts log cs ps p more

@@ -1,2 +1,3 @@
 pub mod GivesBack
 pub mod History
+pub mod Asked

@@ -1,8 +1,8 @@
--- The theorems about parts: every cut, never 2, and what a part stores.
+-- The theorems about parts: every cut, never 2, what a part stores, and what comes after the last.
 -- Assumes nothing.
 use mathlib.Core.Path.{_≡_, refl, sym, ap, subst, _∙_}
 use mathlib.Core.Bool.{Bool, true, false}
-use mathlib.Core.List.{List, [], _∷_, _++_}
+use mathlib.Core.List.{List, [], _∷_, _++_, append-assoc}
 use mathlib.Core.Logic.{_⊎_, inl, inr}
 use Prim.Native.Nat.{ℕ, zero, suc, _+_, _-_, _≤_, _<_}
 use native.Mathlib.Omega.{arith}
@@ -16,24 +16,26 @@ use Rattle.desk_state.specs.declared.sheet.Sheet.{Sheet}
 use Rattle.desk_state.specs.declared.desk.Desk.{Desk}
 use Rattle.desk_soundness.specs.Sound.{every, soundLine, soundEmpty, soundItem, soundLines, soundSheet, soundDesk}
 use Rattle.desk_soundness.specs.SoundLog.{countsOf, soundLog}
-use Rattle.text.specs.Run.{all, between}
+use Rattle.text.specs.Run as run
+use Rattle.text.proofs.Bools.{and-both}
 use Rattle.desk_entries.specs.Entry.{withEntry, openTo, ownItem}
-use Rattle.reader_cuts.specs.Reading.{lengthLeast, lengthMost, Reading, waiting, ended, placeOf}
-use Rattle.reader_cuts.specs.Called.{Called, joined, unmarked, call, after, answersSoFar}
+use Rattle.reader_cuts.specs.Reading.{lengthLeast, lengthMost, Reading, waiting, ended, placeFor, placeOf, feed}
+use Rattle.reader_cuts.specs.Called.{Called, told, joined, unmarked, call, after, answersSoFar}
 use Rattle.reader_cuts.proofs.Laws.{undecided-few}
-use Rattle.reader_cuts.proofs.Agreement.{agrees, Good, after-good, call-good}
-use Rattle.reader_cuts.proofs.Told.{Known, before-refused, no-20-before}
-use Rattle.reader_memory.specs.Memory.{keptIn, standsAt}
+use Rattle.reader_cuts.proofs.Cuts.{feed-over, next-part, whole-over}
+use Rattle.reader_cuts.proofs.Agreement.{agrees, Good, read-good, after-good, call-good}
+use Rattle.reader_cuts.proofs.Told.{Known, answers-known, before-refused, no-20-before}
+use Rattle.reader_memory.specs.Memory.{keptIn, standsAt, answerAt}
 use Rattle.reader_records.specs.Shape.{benchTold, itemTold, valueTold, shaped}
 use Rattle.reader_entries.specs.Judged.{refusalOf, storeOf, soundAt, readOn}
 use Rattle.desk_entries.proofs.Camps.{sheet-in}
 use Rattle.reader_records.proofs.Shapes.{shaped-parts}
-use Rattle.reader_entries.proofs.Judged.{taken-shaped}
+use Rattle.reader_entries.proofs.Judged.{refusal-known, taken-shaped}
 use Rattle.reader_entries.proofs.Keeps.{Whole, keeps}
-use Rattle.reader_left.specs.Left.{Left, leftAs}
-use Rattle.reader_feed.specs.Feed.{soundReader, feedOf}
-use Rattle.theorem_reader.specs.Parts.{Between, fresh, Part, fed, afterParts, whole, partsOf, toldSoFar, PartsAgree, NeverUnsound, StoresBefore, ChangesNothing}
-use Rattle.theorem_reader.proofs.Follow.{view, follows, call-known, after-known, follows-after, follows-answers}
+use Rattle.reader_left.specs.Left.{Left, left, leftAs}
+use Rattle.reader_feed.specs.Feed.{soundReader, again, unsound, feedOf}
+use Rattle.theorem_reader.specs.Parts.{Between, between, fresh, Part, fed, afterParts, partAnswers, whole, soFar, partsOf, toldSoFar, PartsAgree, NeverUnsound, StoresBefore, RefusedBefore, ChangesNothing, AllThere, Ends, with-refusal, with-last, Repeats}
+use Rattle.theorem_reader.proofs.Follow.{view, leftCalled, follows, call-known, after-known, follows-after, follows-answers}
 
 -- ---- what a record that is taken keeps
 
@@ -71,7 +73,7 @@ fresh-items (suc zero) h = refl
 fresh-items (suc (suc s)) h = absurd (omega arith)
 
 pub fresh-sound : soundAt freshDesk 0 ≡ true
-unfolding soundAt soundDesk soundLines soundSheet soundItem soundEmpty soundLine every all between soundLog countsOf
+unfolding soundAt soundDesk soundLines soundSheet soundItem soundEmpty soundLine every run.all run.between soundLog countsOf
 fresh-sound = refl
 
 fresh-fine : Fine freshDesk 0
@@ -98,6 +100,43 @@ parts-agree ps p more =
       left-so = follows-after start start-known (partsOf ps p more) ∙ ap (λ (r : Reading Desk). view r) (a .reading);
       told-so = follows-answers start start-known (partsOf ps p more) ∙ a .told-so ∙ ap (λ (l : List (ℕ × ℕ)). l ++ end) (so-far [] ps);
     }
+
+-- ---- every part of a log that is read with 0
+
+-- the first bytes of such a log are read with 0
+front-0 : (xs ys : List ℕ) → whole (xs ++ ys) .answer ≡ 0 → soFar xs .answer ≡ 0
+front-0 xs ys z = go (soFar xs .over) refl
+  where
+    go : (o : Bool) → soFar xs .over ≡ o → soFar xs .answer ≡ 0
+    go false p = answers-known refusalOf storeOf refusal-known false freshDesk 0 xs .going p
+    go true p =
+        let same = sym (feed-over refusalOf storeOf (soFar xs) ys true p) ∙ next-part refusalOf storeOf true freshDesk 0 xs ys in
+        ap (λ (r : Reading Desk). r .answer) same ∙ z
+
+zeros-so-far : (bs : List ℕ) (ps : List (List ℕ)) (p : List ℕ) → whole (bs ++ (joined ps ++ p)) .answer ≡ 0 → toldSoFar bs ps ≡ replicate (length ps) (0, 0)
+zeros-so-far bs [] p z = refl
+zeros-so-far bs (q ∷ ps) p z =
+    let split : bs ++ ((q ++ joined ps) ++ p) ≡ (bs ++ q) ++ (joined ps ++ p) = simp append-assoc in
+    let z′ : whole ((bs ++ q) ++ (joined ps ++ p)) .answer ≡ 0 = ap (λ (l : List ℕ). whole l .answer) (sym split) ∙ z in
+    let first : soFar (bs ++ q) .answer ≡ 0 = front-0 (bs ++ q) (joined ps ++ p) z′ in
+    ap (λ (n : ℕ). (n, placeFor n (soFar (bs ++ q) .at)) ∷ toldSoFar (bs ++ q) ps) first
+    ∙ ap (λ (l : List (ℕ × ℕ)). (0, 0) ∷ l) (zeros-so-far (bs ++ q) ps p z′)
+
+abbrev accepted : ℕ × ℕ
+accepted = (0, 0)
+
+all-accepted : (ps : List (List ℕ)) (p : List ℕ) (more : List Part)
+    → replicate (length ps) accepted ++ (accepted ∷ replicate (length more) accepted) ≡ replicate (length (partsOf ps p more)) accepted
+all-accepted [] p more = refl
+all-accepted (q ∷ ps) p more = ap (λ (l : List (ℕ × ℕ)). accepted ∷ l) (all-accepted ps p more)
+
+-- each part of it, and each after the last, gets 0 with place 0
+pub parts-accepted : (ps : List (List ℕ)) (p : List ℕ) (more : List Part) → whole (joined ps ++ p) .answer ≡ 0
+    → partAnswers fresh (partsOf ps p more) ≡ replicate (length (partsOf ps p more)) (0, 0)
+parts-accepted ps p more z =
+    let end : List (ℕ × ℕ) → (ℕ × ℕ) → List (ℕ × ℕ) = λ l x. l ++ (x ∷ replicate (length more) x) in
+    parts-agree ps p more .told-so ∙ ap (λ (n : ℕ). end (toldSoFar [] ps) (n, placeFor n (whole (joined ps ++ p) .at))) z
+    ∙ ap (λ (l : List (ℕ × ℕ)). end l (0, 0)) (zeros-so-far [] ps p z) ∙ all-accepted ps p more
 
 -- ---- never 2
 
@@ -173,8 +212,70 @@ module _ (b : Between) (c : Part) where
           (sym (ap (λ (l : Left). l .answer) reads ∙ ap (λ (x : Bool). readOn x (b .desk) (b .used) (keptIn (b .kept) (b .state) ++ c .0) .answer) unmarked) ∙ e)
 
 -- "After a refusal the sheets hold the records before it": they are those of the bytes before its place
-pub refused-before : (log : List ℕ) → whole (take (whole log .at) log) ≡ ended 0 (whole log .sheets) (whole log .at)
+pub refused-before : (log : List ℕ) → RefusedBefore log
 refused-before log =
     let h = before-refused refusalOf storeOf true freshDesk 0 log in
     let z : whole log .at - 0 ≡ whole log .at = omega arith in
     ap (λ (n : ℕ). whole (take n log)) (sym z) ∙ h .sheets
+
+-- ---- after a refusal, and after the last part
+
+module _ (b : Between) (c : Part) where
+  abbrev sound : Bool
+  sound = soundReader (b .desk) (b .used) (b .kept) (b .state)
+
+  -- the reading of a reader that goes on
+  abbrev pub reading : Reading Desk
+  reading = readOn (c .1) (b .desk) (b .used) (keptIn (b .kept) (b .state) ++ c .0)
+
+  unsound-is : sound ≡ false → fed b c ≡ unsound (b .desk) (b .used) (b .kept) (b .state)
+  unfolding feedOf
+  unsound-is e = rw e
+
+  again-is : sound ≡ true → (standsAt (b .state) ≡ 0 → ⊥) → fed b c ≡ again (b .desk) (b .used) (b .kept) (b .state)
+  unfolding feedOf
+  again-is e ne = rw (e, ne-eqb (standsAt (b .state)) 0 ne)
+
+  pub reading-known : Known refusalOf storeOf reading
+  reading-known = answers-known refusalOf storeOf refusal-known (c .1) (b .desk) (b .used) (keptIn (b .kept) (b .state) ++ c .0)
+
+  module _ (there : AllThere (b .desk)) (e : sound ≡ true) (going : standsAt (b .state) ≡ 0) where
+    fine-here : Fine (b .desk) (b .used)
+    unfolding soundReader
+    fine-here = record {
+      all-there = record { sheets = there .sheets; items = there .items };
+      sound = and-both (soundAt (b .desk) (b .used)) _ e .0;
+    }
+
+    is-over : Ends b c → reading .over ≡ true
+    is-over (with-last p) =
+        ap (λ (x : Bool). readOn x (b .desk) (b .used) (keptIn (b .kept) (b .state) ++ c .0) .over) p
+        ∙ whole-over refusalOf storeOf (b .desk) (b .used) (keptIn (b .kept) (b .state) ++ c .0)
+    is-over (with-refusal ne) = go (reading .over) refl
+      where
+        go : (o : Bool) → reading .over ≡ o → reading .over ≡ true
+        go true p = p
+        go false p = absurd (ne (ap (λ (l : Left). l .answer) (reads b c e going) ∙ reading-known .going p))
+
+    over-repeats : Ends b c → Repeats b c
+    over-repeats h next =
+        let r : Reading Desk = reading in
+        let good = read-good refusalOf storeOf soundAt Fine fine-sound fine-kept (c .1) (b .desk) (b .used) (keptIn (b .kept) (b .state) ++ c .0) fine-here in
+        let called : call refusalOf storeOf soundAt r (next .0) (next .1) ≡ told r
+        = call-good refusalOf storeOf soundAt Fine fine-sound fine-kept r (next .0) (next .1) good
+        ∙ ap (λ (x : Reading Desk). told x) (feed-over refusalOf storeOf r (next .0) (next .1) (is-over h)) in
+        let same : fed (view r) next ≡ leftAs r = follows r reading-known (next .0) (next .1) ∙ ap (λ (k : Called Desk). leftCalled k) called in
+        let first = reads b c e going in
+        ap (λ (l : Left). fed (between l) next) first ∙ same ∙ sym first
+
+-- "parts after it, or after the last part, change nothing and repeat its answer"
+pub repeats : (b : Between) (c : Part) → AllThere (b .desk) → Ends b c → Repeats b c
+repeats b c there h next = go (sound b c) (eqb (standsAt (b .state)) 0) refl refl
+  where
+    go : (x y : Bool) → sound b c ≡ x → eqb (standsAt (b .state)) 0 ≡ y → fed (between (fed b c)) next ≡ fed b c
+    go false y p q = let first = unsound-is b c p in ap (λ (l : Left). fed (between l) next) first ∙ unsound-is b next p ∙ sym first
+    go true false p q =
+        let ne = eqb-false (standsAt (b .state)) 0 q in
+        let first = again-is b c p ne in
+        ap (λ (l : Left). fed (between l) next) first ∙ again-is b next p ne ∙ sym first
+    go true true p q = over-repeats b c there p (eqb-true (standsAt (b .state)) 0 q) h next

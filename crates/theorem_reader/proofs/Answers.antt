@@ -1,4 +1,4 @@
--- A part is answered by its table.
+-- A part is answered by its table, and its place is where the record starts.
 -- Assumes nothing.
 use mathlib.Core.Path.{_≡_, refl, sym, ap, subst, subst⁻¹, _∙_}
 use mathlib.Core.Bool.{Bool, true, false, false≢true}
@@ -15,7 +15,7 @@ use Rattle.desk_log.specs.Record.{headLength}
 use Rattle.desk_state.specs.declared.sheet.Item.{Item}
 use Rattle.desk_state.specs.declared.desk.Desk.{Desk}
 use Rattle.desk_entries.specs.Entry.{withEntryOn, openTo, ownItem}
-use Rattle.reader_cuts.specs.Reading.{lengthLeast, lengthMost, lengthOf, badLength, undecided, Reading, ended}
+use Rattle.reader_cuts.specs.Reading.{lengthLeast, lengthMost, lengthOf, badLength, undecided, Reading, ended, placeFor}
 use Rattle.reader_cuts.specs.Reading.{short as shortOf}
 use Rattle.reader_cuts.proofs.Laws.{good-length, length-good, length-front, read-bad, read-refused, front-taken, every-reading}
 use Rattle.reader_cuts.proofs.Firsts.{read-undecided}
@@ -32,7 +32,7 @@ use Rattle.theorem_refusals.specs.Table.{Answers, _when_}
 use Rattle.theorem_refusals.specs.Key.{HeldByAnother}
 use Rattle.theorem_refusals.proofs.Firsts.{First, this, next, answers, fails}
 use Rattle.theorem_reader.specs.Parts.{Between, Part, fed}
-use Rattle.theorem_reader.specs.Table.{Comes, here, later, ComesTo, BadLength, short, long, WholeRecord, BadShape, bad-length, fault, ForeignOverwrite, EndInside, fewer-than-six, fewer-than-length, feedTable}
+use Rattle.theorem_reader.specs.Table.{Comes, here, later, ComesTo, BadLength, short, long, WholeRecord, BadShape, bad-length, fault, ForeignOverwrite, EndInside, fewer-than-six, fewer-than-length, feedTable, At, Placed}
 use Rattle.theorem_reader.specs.Sound.{SoundReader}
 use Rattle.theorem_reader.proofs.Sounds.{reader-so}
 use Rattle.theorem_reader.proofs.Agree.{never-20, unsound-changes-nothing, reads}
@@ -177,15 +177,19 @@ bad-so cs h e = go (or-either (ltb (lengthOf cs) lengthLeast) (ltb lengthMost (l
     go (inl p) = short h (ltb-true (lengthOf cs) lengthLeast p)
     go (inr p) = long h (ltb-true lengthMost (lengthOf cs) p)
 
--- what the answer of a reading says of the bytes
+-- what the answer of a reading says of the bytes, and of where they start
 pub record Found (last : Bool) (d : Desk) (at : ℕ) (bs : List ℕ) (r : Reading Desk) : Type 0 where
-  pub of-18 : r .answer ≡ 18 → ComesTo d at bs BadShape
-  pub of-19 : r .answer ≡ 19 → ComesTo d at bs ForeignOverwrite
-  pub of-20 : r .answer ≡ 20 → (last ≡ true) × ComesTo d at bs EndInside
+  pub of-18 : r .answer ≡ 18 → ComesTo d at bs (At (r .at) BadShape)
+  pub of-19 : r .answer ≡ 19 → ComesTo d at bs (At (r .at) ForeignOverwrite)
+  pub of-20 : r .answer ≡ 20 → (last ≡ true) × ComesTo d at bs (At (r .at) EndInside)
 
 -- it is so of the first record
-at-once : {P : Desk → ℕ → List ℕ → Type 0} (d : Desk) (at : ℕ) (bs : List ℕ) → P d at bs → ComesTo d at bs P
-at-once d at bs p = record { desk = d; place = at; rest = bs; comes = here; so = p }
+at-once : {P : Desk → ℕ → List ℕ → Type 0} (d : Desk) (at : ℕ) (bs : List ℕ) → P d at bs → ComesTo d at bs (At at P)
+at-once d at bs p = record { desk = d; place = at; rest = bs; comes = here; so = (refl, p) }
+
+-- what is so wherever it starts
+unplaced : {P : Desk → ℕ → List ℕ → Type 0} {d : Desk} {at : ℕ} {bs : List ℕ} {place : ℕ} → ComesTo d at bs (At place P) → ComesTo d at bs P
+unplaced c = record { desk = c .desk; place = c .place; rest = c .rest; comes = c .comes; so = c .so .1 }
 
 found-short : (last : Bool) (d : Desk) (at : ℕ) (bs : List ℕ) → undecided bs ≡ true → Found last d at bs (shortOf last d at bs)
 found-short false d at bs u = record { of-18 = λ e. absurd (omega (arith, e)); of-19 = λ e. absurd (omega (arith, e)); of-20 = λ e. absurd (omega (arith, e)) }
@@ -215,7 +219,7 @@ module _ (last : Bool) (d : Desk) (at : ℕ) (bs : List ℕ) (six : headLength �
     found-refused : Found last d at bs (ended (refusalOf at (take (lengthOf bs) bs) d) d at)
     found-refused = record { of-18 = at-18; of-19 = at-19; of-20 = λ z. absurd (never-20 at (take (lengthOf bs) bs) d z) }
       where
-        at-18 : refusalOf at (take (lengthOf bs) bs) d ≡ 18 → ComesTo d at bs BadShape
+        at-18 : refusalOf at (take (lengthOf bs) bs) d ≡ 18 → ComesTo d at bs (At at BadShape)
         at-18 z = at-once d at bs (fault there none)
           where
             none : (bench item : ℕ) (value : List ℕ) → IsRecord at (take (lengthOf bs) bs) bench item value → ⊥
@@ -228,11 +232,11 @@ module _ (last : Bool) (d : Desk) (at : ℕ) (bs : List ℕ) (six : headLength �
                 pick true q = omega (arith, judged-taken at (take (lengthOf bs) bs) d s q, z)
                 pick false q = omega (arith, judged-foreign at (take (lengthOf bs) bs) d s q, z)
 
-        at-19 : refusalOf at (take (lengthOf bs) bs) d ≡ 19 → ComesTo d at bs ForeignOverwrite
+        at-19 : refusalOf at (take (lengthOf bs) bs) d ≡ 19 → ComesTo d at bs (At at ForeignOverwrite)
         at-19 z = go (shaped at (take (lengthOf bs) bs)) (openTo (ownItem d (benchTold (take (lengthOf bs) bs)) (itemTold (take (lengthOf bs) bs))) (benchTold (take (lengthOf bs) bs))) refl refl
           where
             go : (a b : Bool) → shaped at (take (lengthOf bs) bs) ≡ a
-                → openTo (ownItem d (benchTold (take (lengthOf bs) bs)) (itemTold (take (lengthOf bs) bs))) (benchTold (take (lengthOf bs) bs)) ≡ b → ComesTo d at bs ForeignOverwrite
+                → openTo (ownItem d (benchTold (take (lengthOf bs) bs)) (itemTold (take (lengthOf bs) bs))) (benchTold (take (lengthOf bs) bs)) ≡ b → ComesTo d at bs (At at ForeignOverwrite)
             go false b p q = absurd (omega (arith, judged-shapeless at (take (lengthOf bs) bs) d p, z))
             go true true p q = absurd (omega (arith, judged-taken at (take (lengthOf bs) bs) d p q, z))
             go true false p q = at-once d at bs (record {
@@ -292,8 +296,11 @@ module _ (last : Bool) (d : Desk) (at : ℕ) (bs : List ℕ) where
       ∙ gives-20 (c .desk) (c .place) (c .rest) (c .so)
 
   read-table : (Sound : Type 0) → Sound → Answers (feedTable Sound d at bs last) (readOn last d at bs .answer)
-  read-table Sound s = answers (feedTable Sound d at bs last) a refl (next (λ n. n s) (go (answers-known refusalOf storeOf refusal-known last d at bs .known)))
+  read-table Sound s = answers (feedTable Sound d at bs last) a refl (next sound-here (go (answers-known refusalOf storeOf refusal-known last d at bs .known)))
     where
+      sound-here : (Sound → ⊥) → ⊥
+      sound-here never = never s
+
       a : ℕ
       a = readOn last d at bs .answer
 
@@ -306,28 +313,70 @@ module _ (last : Bool) (d : Desk) (at : ℕ) (bs : List ℕ) where
       go (inr h) = pick (eqb a 18) (eqb a 19) refl refl
         where
           pick : (x y : Bool) → eqb a 18 ≡ x → eqb a 19 ≡ y → rows a
-          pick true y p q = let e = eqb-true a 18 p in this (found last d at bs .of-18 e) e
-          pick false true p q = let e = eqb-true a 19 q in next (λ c. eqb-false a 18 p (so-18 c)) (this (found last d at bs .of-19 e) e)
+          pick true y p q = let e = eqb-true a 18 p in this (unplaced (found last d at bs .of-18 e)) e
+          pick false true p q = let e = eqb-true a 19 q in next (λ c. eqb-false a 18 p (so-18 c)) (this (unplaced (found last d at bs .of-19 e)) e)
           pick false false p q =
               let n = eqb-false a 18 p in
               let m = eqb-false a 19 q in
               let e : a ≡ 20 = omega (arith, h .0, h .1, n, m) in
-              next (λ c. n (so-18 c)) (next (λ c. m (so-19 c)) (this (found last d at bs .of-20 e) e))
+              next (λ c. n (so-18 c)) (next (λ c. m (so-19 c)) (let k = found last d at bs .of-20 e in this (k .0, unplaced (k .1)) e))
 
--- "Refusals: 2 first ..; then 18 .., 19 .., 20 ..": of every reader that goes on
-pub feed-table : (b : Between) (c : Part) → standsAt (b .state) ≡ 0
-    → Answers (feedTable (SoundReader (b .desk) (b .used) (b .kept) (b .state)) (b .desk) (b .used) (keptIn (b .kept) (b .state) ++ c .0) (c .1)) (fed b c .answer)
-feed-table b c going = go (soundReader (b .desk) (b .used) (b .kept) (b .state)) refl
-  where
-    so : (soundReader (b .desk) (b .used) (b .kept) (b .state) ≡ true) ↔ SoundReader (b .desk) (b .used) (b .kept) (b .state)
-    so = reader-so (b .desk) (b .used) (b .kept) (b .state)
+  -- the place of a reading
+  read-placed : Placed d at bs (readOn last d at bs .answer) (placeFor (readOn last d at bs .answer) (readOn last d at bs .at))
+  read-placed = record {
+    of-18 = λ e. subst⁻¹ (λ (n : ℕ). ComesTo d at bs (At n BadShape)) (there 18 refl e) (found last d at bs .of-18 e);
+    of-19 = λ e. subst⁻¹ (λ (n : ℕ). ComesTo d at bs (At n ForeignOverwrite)) (there 19 refl e) (found last d at bs .of-19 e);
+    of-20 = λ e. subst⁻¹ (λ (n : ℕ). ComesTo d at bs (At n EndInside)) (there 20 refl e) (found last d at bs .of-20 e .1);
+    of-others = λ x y z. none x y z (answers-known refusalOf storeOf refusal-known last d at bs .known);
+  }
+    where
+      a : ℕ
+      a = readOn last d at bs .answer
 
-    go : (s : Bool) → soundReader (b .desk) (b .used) (b .kept) (b .state) ≡ s
-        → Answers (feedTable (SoundReader (b .desk) (b .used) (b .kept) (b .state)) (b .desk) (b .used) (keptIn (b .kept) (b .state) ++ c .0) (c .1)) (fed b c .answer)
-    go true e =
-        subst⁻¹ (Answers (feedTable (SoundReader (b .desk) (b .used) (b .kept) (b .state)) (b .desk) (b .used) (keptIn (b .kept) (b .state) ++ c .0) (c .1)))
-        (ap (λ (l : Left). l .answer) (reads b c e going))
-        (read-table (c .1) (b .desk) (b .used) (keptIn (b .kept) (b .state) ++ c .0) (SoundReader (b .desk) (b .used) (b .kept) (b .state)) (so .0 e))
-    go false e =
-        answers (feedTable (SoundReader (b .desk) (b .used) (b .kept) (b .state)) (b .desk) (b .used) (keptIn (b .kept) (b .state) ++ c .0) (c .1)) (fed b c .answer) refl
-        (this (λ s. fails e (so .1 s)) (unsound-changes-nothing b c e .0))
+      place : ℕ
+      place = readOn last d at bs .at
+
+      there : (n : ℕ) → eqb n 0 ≡ false → a ≡ n → placeFor a place ≡ place
+      there n f e = ap (λ (m : ℕ). placeFor m place) e ∙ rw f
+
+      none : (a ≡ 18 → ⊥) → (a ≡ 19 → ⊥) → (a ≡ 20 → ⊥) → (a ≡ 0) ⊎ ((18 ≤ a) × (a ≤ 20)) → placeFor a place ≡ 0
+      none x y z (inl e) = ap (λ (m : ℕ). placeFor m place) e
+      none x y z (inr h) = absurd (omega (arith, x, y, z, h .0, h .1))
+
+module _ (b : Between) (c : Part) (going : standsAt (b .state) ≡ 0) where
+  abbrev bytes : List ℕ
+  bytes = keptIn (b .kept) (b .state) ++ c .0
+
+  -- the table for whatever says that desk and reader are sound
+  pub feed-answers : (Sound : Type 0) → (soundReader (b .desk) (b .used) (b .kept) (b .state) ≡ true) ↔ Sound
+      → Answers (feedTable Sound (b .desk) (b .used) bytes (c .1)) (fed b c .answer)
+  feed-answers Sound so = go (soundReader (b .desk) (b .used) (b .kept) (b .state)) refl
+    where
+      go : (s : Bool) → soundReader (b .desk) (b .used) (b .kept) (b .state) ≡ s → Answers (feedTable Sound (b .desk) (b .used) bytes (c .1)) (fed b c .answer)
+      go true e =
+          subst⁻¹ (Answers (feedTable Sound (b .desk) (b .used) bytes (c .1))) (ap (λ (l : Left). l .answer) (reads b c e going))
+          (read-table (c .1) (b .desk) (b .used) bytes Sound (so .0 e))
+      go false e =
+          answers (feedTable Sound (b .desk) (b .used) bytes (c .1)) (fed b c .answer) refl
+          (this (λ s. fails e (so .1 s)) (unsound-changes-nothing b c e .0))
+
+  -- "Refusals: 2 first ..; then 18 .., 19 .., 20 ..": of every reader that goes on
+  pub feed-table : Answers (feedTable (SoundReader (b .desk) (b .used) (b .kept) (b .state)) (b .desk) (b .used) bytes (c .1)) (fed b c .answer)
+  feed-table = feed-answers (SoundReader (b .desk) (b .used) (b .kept) (b .state)) (reader-so (b .desk) (b .used) (b .kept) (b .state))
+
+  -- "each with the byte where the record starts, the log's first being 0; else that number is 0"
+  pub feed-places : Placed (b .desk) (b .used) bytes (fed b c .answer) (fed b c .place)
+  feed-places = go (soundReader (b .desk) (b .used) (b .kept) (b .state)) refl
+    where
+      go : (s : Bool) → soundReader (b .desk) (b .used) (b .kept) (b .state) ≡ s → Placed (b .desk) (b .used) bytes (fed b c .answer) (fed b c .place)
+      go true e =
+          subst⁻¹ (λ (l : Left). Placed (b .desk) (b .used) bytes (l .answer) (l .place)) (reads b c e going)
+          (read-placed (c .1) (b .desk) (b .used) bytes)
+      go false e =
+          let u = unsound-changes-nothing b c e in
+          record {
+            of-18 = λ z. absurd (omega (arith, z, u .0));
+            of-19 = λ z. absurd (omega (arith, z, u .0));
+            of-20 = λ z. absurd (omega (arith, z, u .0));
+            of-others = λ x y z. u .1;
+          }

@@ -31,7 +31,7 @@ Good = Known refusalOf storeOf
 abbrev pub view : Reading Desk → Between
 view r = record { desk = r .sheets; used = r .at; kept = keptOf r; state = stateOf r }
 
-abbrev leftCalled : Called Desk → Left
+abbrev pub leftCalled : Called Desk → Left
 leftCalled k = left (k .answer) (k .place) (k .reading .sheets) (k .reading .at) (keptOf (k .reading)) (stateOf (k .reading))
 
 abbrev called : Reading Desk → List ℕ → Bool → Called Desk

@@ -1,13 +1,14 @@
 -- A log fed in parts (document 02, No. 10): the claims about any parts, of any lengths, none too. Feeding one part is specs/Feed.antt of reader_feed, reading whole is
--- specs/Reading.antt of reader_cuts. That they hold is `parts-agree`, `never-unsound`, `stores-before`, `no-20` and `refused-before`
+-- specs/Reading.antt of reader_cuts. That they hold is `parts-agree`, `never-unsound`, `stores-before`, `no-20`, `refused-before` and `repeats`
 -- (proofs/Agree.antt).
 -- Assumes nothing.
-use Prim.Native.Nat.{ℕ, _-_, _≤_}
+use Prim.Native.Nat.{ℕ, _-_, _≤_, _<_}
 use mathlib.Core.Path.{_≡_}
 use mathlib.Core.Bool.{Bool, true, false}
 use mathlib.Core.List.{List, [], _∷_, _++_}
 use lib.ListN.{length, take, replicate}
-use Rattle.desk_state.specs.Desks.{freshDesk}
+use Rattle.line_items.specs.Items.{itemCount}
+use Rattle.desk_state.specs.Desks.{sheetCount, sheetAt, freshDesk}
 use Rattle.desk_state.specs.declared.desk.Desk.{Desk}
 use Rattle.reader_cuts.specs.Reading.{Reading, ended, placeOf}
 use Rattle.reader_cuts.specs.Called.{joined, unmarked}
@@ -82,6 +83,25 @@ pub record StoresBefore (b : Between) (c : Part) : Type 0 where
   pub later : b .used ≤ fed b c .used
   pub sheets : readOn true (b .desk) (b .used) (take (fed b c .used - b .used) (keptIn (b .kept) (b .state) ++ c .0)) ≡ ended 0 (fed b c .desk) (fed b c .used)
 
+-- "After a refusal the sheets hold the records before it": a log's bytes before the place at which its reading ended are read with 0, and their sheets are those left
+abbrev pub RefusedBefore : List ℕ → Type 0
+RefusedBefore log = whole (take (whole log .at) log) ≡ ended 0 (whole log .sheets) (whole log .at)
+
 -- "with 2 the whole part changes nothing", and "parts after it, or after the last part, change nothing"
 abbrev pub ChangesNothing : Between → Part → Type 0
 ChangesNothing b c = between (fed b c) ≡ b
+
+-- a desk with both sheets and all items on each, as its types say; lent memory holds no other
+pub record AllThere (d : Desk) : Type 0 where
+  pub sheets : length (d .sheets) ≡ sheetCount
+  pub items : (s : ℕ) → s < sheetCount → length (sheetAt d s .items) ≡ itemCount
+
+-- a part with which the reading ends: it is refused, or marked as the last
+pub data Ends (b : Between) (c : Part) : Type 0 where
+  with-refusal : (fed b c .answer ≡ 0 → ⊥) → Ends b c
+  with-last : c .1 ≡ true → Ends b c
+
+-- "parts after it, or after the last part, change nothing and repeat its answer": whatever part e comes next, marked or not, its answer and place are those of c, and desk,
+-- used number and the reader's memory stay as c left them. So it is of every reader and every desk that has its sheets and items, sound or not.
+abbrev pub Repeats : Between → Part → Type 0
+Repeats b c = (e : Part) → fed (between (fed b c)) e ≡ fed b c

@@ -1,5 +1,6 @@
 -- The table of a part of a log, in the request's words (document 02, No. 10). That it is what a part is answered, where the reading goes on, is `feed-table`
--- (proofs/Answers.antt); where it is over, the answer is repeated.
+-- (proofs/Answers.antt), and that its place is where the record starts `feed-places`; of lent memory `lent-feed-table` and `lent-feed-places` (proofs/Lent.antt). Where the
+-- reading is over, answer and place are repeated (`Repeats`, specs/Parts.antt).
 -- Assumes nothing.
 use Prim.Native.Nat.{ℕ, _+_, _≤_, _<_}
 use mathlib.Core.Path.{_≡_}
@@ -68,3 +69,14 @@ feedTable Sound d at bs last =
     18 when ComesTo d at bs BadShape ∷
     19 when ComesTo d at bs ForeignOverwrite ∷
     20 when ((last ≡ true) × ComesTo d at bs EndInside) ∷ []
+
+-- P of bytes that start at the byte `place` of the log
+abbrev pub At : ℕ → (Desk → ℕ → List ℕ → Type 0) → Desk → ℕ → List ℕ → Type 0
+At place P d start cs = (place ≡ start) × P d start cs
+
+-- "each with the byte where the record starts, the log's first being 0; else that number is 0": an answer and its place
+pub record Placed (d : Desk) (at : ℕ) (bs : List ℕ) (answer place : ℕ) : Type 0 where
+  pub of-18 : answer ≡ 18 → ComesTo d at bs (At place BadShape)
+  pub of-19 : answer ≡ 19 → ComesTo d at bs (At place ForeignOverwrite)
+  pub of-20 : answer ≡ 20 → ComesTo d at bs (At place EndInside)
+  pub of-others : (answer ≡ 18 → ⊥) → (answer ≡ 19 → ⊥) → (answer ≡ 20 → ⊥) → place ≡ 0
