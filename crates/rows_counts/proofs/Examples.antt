@@ -11,9 +11,9 @@ use Rattle.line_values.specs.Value.{isUnassigned}
 use Rattle.rows.specs.Rows.{rowOf, noAlert, missing}
 use Rattle.rows_counts.specs.Counts.{orderOf, differRow, agreeRow, aboveRow}
 
--- row 21, total and gt the same: 0.0000, -0.0 and 0(5) are zero, 0.0001 is not, and without item 14 there is no alert
-zeros : map (λ (v : String). agreeRow (bytes v) (bytes "1200") (bytes "1200.0(3)")) ("0.0000" ∷ "-0.0" ∷ "0(5)" ∷ "0.0001" ∷ "?" ∷ [])
-    ≡ noAlert ∷ noAlert ∷ noAlert ∷ rowOf 2 0 ∷ rowOf 0 1 ∷ []
+-- row 21, total and gt the same: 0.0000, -0.0, 0., .0 and 0(5) are zero, 0.0001 is not, and without item 14 there is no alert
+zeros : map (λ (v : String). agreeRow (bytes v) (bytes "1200") (bytes "1200.0(3)")) ("0.0000" ∷ "-0.0" ∷ "0." ∷ ".0" ∷ "0(5)" ∷ "0.0001" ∷ "?" ∷ [])
+    ≡ noAlert ∷ noAlert ∷ noAlert ∷ noAlert ∷ noAlert ∷ rowOf 2 0 ∷ rowOf 0 1 ∷ []
 unfolding orderOf readingOf unsignedOf sizeOf runOf hasAt kindAt between isTail closes valueFrom
 zeros = refl
 

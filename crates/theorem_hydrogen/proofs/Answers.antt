@@ -25,10 +25,11 @@ module _ (f w : List ℕ) where
   by-start false e d = this (λ s. fails e (is-start f w s)) (ap proposedNumber (helper-stops f w e))
   by-start true e (inl g) =
       let is = helper-sought f w e ∙ g .is in
-      next (λ n. n (start-is f w e)) (next (λ none. none (g .count) (helper-right f w (g .count) is)) (ap proposedNumber is))
+      let zero = ap proposedNumber is in
+      next (λ n. n (start-is f w e)) (next (λ none. none _ (helper-right f w zero)) zero)
   by-start true e (inr n) =
       let is = helper-sought f w e ∙ n in
-      next (λ n. n (start-is f w e)) (this (helper-none f w .0 is .1) (ap proposedNumber is))
+      next (λ n. n (start-is f w e)) (this (helper-none f w .0 (ap proposedNumber is) .1) (ap proposedNumber is))
 
   pub helper-first : First (helperTable f w) (proposedNumber (helperOf f w))
   helper-first = by-start (isStart f w) refl (first-either (isRight f w) 0 (mostHydrogens + 1))

@@ -1,2 +1,3 @@
 pub mod Table
 pub mod Smallest
+pub mod Lent

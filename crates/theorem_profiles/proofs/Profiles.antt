@@ -27,7 +27,10 @@ use Rattle.desk_state.specs.Desks.{sheetCount, sheetAt}
 use Rattle.desk_state.specs.declared.desk.Desk.{Desk}
 use Rattle.desk_state.specs.declared.sheet.Item.{Item}
 use Rattle.desk_state.specs.declared.sheet.Sheet.{Sheet}
+use Rattle.desk_memory.specs.Memory.{isDesk, deskOf}
+use Rattle.desk_memory.proofs.Desks.{sheets-long}
 use Rattle.desk_soundness.specs.Sound.{soundDesk}
+use Rattle.desk_soundness.specs.SoundMemory.{soundMemory}
 use Rattle.desk_soundness.specs.Wording.{SoundItem, Sound}
 use Rattle.desk_soundness.proofs.Wording.{sound-is}
 use Rattle.rows.specs.Rows.{profileCount, powder, noAlert, missing}
@@ -41,8 +44,8 @@ use Rattle.rows_moiety.specs.Wording.{Row25}
 use Rattle.rows_moiety.proofs.Words.{row-25-words}
 use Rattle.rows_sheet.specs.Sheet.{value, firstRows, rowsOf, rowAt}
 use Rattle.rows_sheet.proofs.Profiles.{powder-no-more}
-use Rattle.desk_questions.specs.Report.{reportedOf}
-use Rattle.theorem_profiles.specs.Profiles.{NoneMissing, reportedRow, Profiled}
+use Rattle.desk_questions.specs.Report.{Report, reportedOf, reportLent}
+use Rattle.theorem_profiles.specs.Profiles.{NoneMissing, reportedRow, Profiled, DeskProfiled, LentProfiled}
 
 -- a value of kind number is missing or a number
 pub number-or-missing : (item : ℕ) (v : List ℕ) → itemRow item .kind ≡ kind.Number → Passes item v → (missing v ≡ true) ⊎ There v
@@ -134,38 +137,52 @@ report-rows : (d : Desk) (sheet profile : ℕ) → soundDesk d ≡ true → shee
 unfolding reportedOf
 report-rows d sheet profile e on p = simp (lt-ltb sheet sheetCount on, lt-ltb profile profileCount p, e)
 
--- the reports of every sheet of a sound desk
-pub profiled : (d : Desk) → soundDesk d ≡ true → (sheet : ℕ) → sheet < sheetCount → sheet < length (d .sheets) → Profiled d sheet
-profiled d e sheet on here = record { counted = counted; left-out = left-out; first = first; last = last; no-more = no-more }
+-- reports that have the rows of a sheet of a sound desk
+rows-profiled : (d : Desk) → soundDesk d ≡ true → (sheet : ℕ) → sheet < length (d .sheets) → (of : ℕ → Report)
+    → ((profile : ℕ) → profile < profileCount → of profile .rows ≡ rowsOf profile (sheetAt d sheet)) → Profiled (sheetAt d sheet) of
+rows-profiled d e sheet here of report = record { counted = counted; left-out = left-out; first = first; last = last; no-more = no-more }
   where
-    report : (profile : ℕ) → profile < profileCount → reportedOf d sheet profile .rows ≡ rowsOf profile (sheetAt d sheet)
-    report profile p = report-rows d sheet profile e on p
-
     counted : (profile row : ℕ) → profile < profileCount → 13 ≤ row → row ≤ 24 → keeps profile row ≡ true
-        → Judges (NoneMissing (value (sheetAt d sheet)) (compared (ruleOf row))) (Broken (value (sheetAt d sheet)) (ruleOf row)) (reasonOf row) (reportedRow d sheet profile row)
+        → Judges (NoneMissing (value (sheetAt d sheet)) (compared (ruleOf row))) (Broken (value (sheetAt d sheet)) (ruleOf row)) (reasonOf row) (reportedRow (sheetAt d sheet) of profile row)
     counted profile row p first last kept =
         let k : 13 + (row - 13) ≡ row = omega arith in
-        let q : rowAt (reportedOf d sheet profile .rows) row ≡ countRow profile (value (sheetAt d sheet)) row =
+        let q : rowAt (of profile .rows) row ≡ countRow profile (value (sheetAt d sheet)) row =
         ap (λ (r : Rows). rowAt r row) (report profile p) ∙ row-is profile (sheetAt d sheet) row first last in
         let named : all (between 11 18) (compared (ruleOf row)) ≡ true = rw k at (in-table (row - 13) (omega arith)) in
         subst⁻¹ (Judges (NoneMissing (value (sheetAt d sheet)) (compared (ruleOf row))) (Broken (value (sheetAt d sheet)) (ruleOf row)) (reasonOf row)) q
         (said-as (none-missing d (sound-is d e) sheet here (compared (ruleOf row)) named) (count-rows profile (value (sheetAt d sheet)) row first last kept))
 
-    left-out : (profile row : ℕ) → profile < profileCount → 13 ≤ row → row ≤ 24 → keeps profile row ≡ false → reportedRow d sheet profile row ≡ noAlert
+    left-out : (profile row : ℕ) → profile < profileCount → 13 ≤ row → row ≤ 24 → keeps profile row ≡ false → reportedRow (sheetAt d sheet) of profile row ≡ noAlert
     left-out profile row p first last left =
         ap (λ (r : Rows). rowAt r row) (report profile p) ∙ row-is profile (sheetAt d sheet) row first last ∙ row-left-out profile (value (sheetAt d sheet)) row left
 
-    first : (profile : ℕ) → profile < profileCount → take 12 (reportedOf d sheet profile .rows .rows) ≡ firstRows (sheetAt d sheet)
+    first : (profile : ℕ) → profile < profileCount → take 12 (of profile .rows .rows) ≡ firstRows (sheetAt d sheet)
     first profile p = ap (λ (r : Rows). take 12 (r .rows)) (report profile p)
 
-    last : (profile : ℕ) → profile < profileCount → Row25 (value (sheetAt d sheet) 1) (value (sheetAt d sheet) 19) (reportedRow d sheet profile 25)
+    last : (profile : ℕ) → profile < profileCount → Row25 (value (sheetAt d sheet) 1) (value (sheetAt d sheet) 19) (reportedRow (sheetAt d sheet) of profile 25)
     last profile p =
         let typed = short d (sound-is d e) sheet here in
         subst⁻¹ (Row25 (value (sheetAt d sheet) 1) (value (sheetAt d sheet) 19)) (ap (λ (r : Rows). rowAt r 25) (report profile p))
         (row-25-words (value (sheetAt d sheet) 1) (value (sheetAt d sheet) 19) (typed 1 (omega arith)) (typed 19 (omega arith)))
 
-    no-more : (row : ℕ) → (reportedRow d sheet powder row .level ≡ 0) ⊎ (reportedRow d sheet powder row .level ≡ reportedRow d sheet 0 row .level)
+    no-more : (row : ℕ) → (reportedRow (sheetAt d sheet) of powder row .level ≡ 0) ⊎ (reportedRow (sheetAt d sheet) of powder row .level ≡ reportedRow (sheetAt d sheet) of 0 row .level)
     no-more row =
         let a = report powder (omega arith) in
         let b = report 0 (omega arith) in
         rw (a, b) (powder-no-more (sheetAt d sheet) row)
+
+-- the reports of every sheet of a sound desk
+pub profiled : (d : Desk) → soundDesk d ≡ true → (sheet : ℕ) → sheet < sheetCount → sheet < length (d .sheets) → DeskProfiled d sheet
+profiled d e sheet on here = rows-profiled d e sheet here (reportedOf d sheet) (λ profile p. report-rows d sheet profile e on p)
+
+lent-is : (t n : List ℕ) → isDesk t n ≡ true → (sheet profile : ℕ) → reportLent t n sheet profile ≡ reportedOf (deskOf t n) sheet profile
+unfolding reportLent
+lent-is t n e sheet profile = rw e
+
+-- the reports of every sheet of a sound desk in lent memory
+pub lent-profiled : (t n : List ℕ) → soundMemory t n ≡ true → (sheet : ℕ) → sheet < sheetCount → LentProfiled t n sheet
+unfolding soundMemory
+lent-profiled t n e sheet on =
+    let b = and-both (isDesk t n) (soundDesk (deskOf t n)) e in
+    rows-profiled (deskOf t n) (b .1) sheet (omega (arith, on, sheets-long t n)) (reportLent t n sheet)
+    (λ profile p. ap (λ (r : Report). r .rows) (lent-is t n (b .0) sheet profile) ∙ report-rows (deskOf t n) sheet profile (b .1) on p)

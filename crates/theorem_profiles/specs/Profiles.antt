@@ -8,34 +8,44 @@ use mathlib.Core.Logic.{_⊎_}
 use lib.ListN.{take}
 use Rattle.desk_state.specs.Desks.{sheetAt}
 use Rattle.desk_state.specs.declared.desk.Desk.{Desk}
+use Rattle.desk_state.specs.declared.sheet.Sheet.{Sheet}
+use Rattle.desk_memory.specs.Memory.{deskOf}
 use Rattle.rows.specs.Rows.{profileCount, powder, noAlert, missing}
 use Rattle.rows.specs.declared.Row.{Row}
 use Rattle.rows_counts.specs.Counts.{ruleOf, keeps}
 use Rattle.rows_counts.specs.Wording.{compared, Broken, reasonOf, Judges}
 use Rattle.rows_moiety.specs.Wording.{Row25}
 use Rattle.rows_sheet.specs.Sheet.{value, firstRows, rowAt}
-use Rattle.desk_questions.specs.Report.{reportedOf}
+use Rattle.desk_questions.specs.Report.{Report, reportedOf, reportLent}
 
 -- "with no compared item missing"
 abbrev pub NoneMissing : (ℕ → List ℕ) → List ℕ → Type 0
 NoneMissing at [] = Unit {0}
 NoneMissing at (i ∷ is) = (missing (at i) ≡ false) × NoneMissing at is
 
-module _ (d : Desk) (sheet : ℕ) where
+-- the reports of a sheet, by profile
+module _ (s : Sheet) (report : ℕ → Report) where
   -- a row of a report
   abbrev pub reportedRow : ℕ → ℕ → Row
-  reportedRow profile row = rowAt (reportedOf d sheet profile .rows) row
+  reportedRow profile row = rowAt (report profile .rows) row
 
-  -- the reports of a sheet
   pub record Profiled : Type 0 where
     -- "Shown once over rows 13 to 24: a row the profile keeps fires exactly when its rule, with no compared item missing, is broken."
     pub counted : (profile row : ℕ) → profile < profileCount → 13 ≤ row → row ≤ 24 → keeps profile row ≡ true
-        → Judges (NoneMissing (value (sheetAt d sheet)) (compared (ruleOf row))) (Broken (value (sheetAt d sheet)) (ruleOf row)) (reasonOf row) (reportedRow profile row)
+        → Judges (NoneMissing (value s) (compared (ruleOf row))) (Broken (value s) (ruleOf row)) (reasonOf row) (reportedRow profile row)
     -- "For powder rows 13 to 18, 20 and 21 are level 0, reason 0."
     pub left-out : (profile row : ℕ) → profile < profileCount → 13 ≤ row → row ≤ 24 → keeps profile row ≡ false → reportedRow profile row ≡ noAlert
     -- rows 1 to 12 are those of document 01 in both profiles
-    pub first : (profile : ℕ) → profile < profileCount → take 12 (reportedOf d sheet profile .rows .rows) ≡ firstRows (sheetAt d sheet)
+    pub first : (profile : ℕ) → profile < profileCount → take 12 (report profile .rows .rows) ≡ firstRows s
     -- document 02, No. 12: row 25 is what the request says of items 1 and 19, in both profiles
-    pub last : (profile : ℕ) → profile < profileCount → Row25 (value (sheetAt d sheet) 1) (value (sheetAt d sheet) 19) (reportedRow profile 25)
+    pub last : (profile : ℕ) → profile < profileCount → Row25 (value s 1) (value s 19) (reportedRow profile 25)
     -- "Powder gives no alert that the other profile lacks."
     pub no-more : (row : ℕ) → (reportedRow powder row .level ≡ 0) ⊎ (reportedRow powder row .level ≡ reportedRow 0 row .level)
+
+-- of a desk
+abbrev pub DeskProfiled : Desk → ℕ → Type 0
+DeskProfiled d sheet = Profiled (sheetAt d sheet) (reportedOf d sheet)
+
+-- of a desk in lent memory, which is what `desk_report` tells
+abbrev pub LentProfiled : List ℕ → List ℕ → ℕ → Type 0
+LentProfiled t n sheet = Profiled (sheetAt (deskOf t n) sheet) (reportLent t n sheet)
