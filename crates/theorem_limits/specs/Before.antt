@@ -5,10 +5,14 @@ use mathlib.Core.Path.{_≡_}
 use mathlib.Core.Bool.{Bool, cond, _&&_}
 use mathlib.Core.List.{List, _∷_}
 use lib.Dec.{leb, ltb}
-use lib.ListN.{length, drop}
+use lib.ListN.{length, take}
 use Rattle.text.specs.Run.{all}
+use Rattle.line_items.specs.Items.{items, findFrom}
 use Rattle.line_items.specs.Typed.{isTyped}
-use Rattle.line_reader.specs.Line.{splitOf, splitClass}
+use Rattle.line_items.specs.declared.Named.{Named}
+use Rattle.line_reader.specs.Line.{splitOf, namedClass}
+use Rattle.line_reader.specs.declared.line.Split.{Split}
+use Rattle.line_reader.specs.declared.line.Split.the-variants.{Parts, Malformed}
 use Rattle.line_reader.specs.declared.line.Class.{Class}
 use Rattle.line_reader.specs.declared.line.Class.the-variants.{BadForm}
 use Rattle.desk_log.specs.Record.{recordFits, recordLength}
@@ -26,9 +30,22 @@ use Rattle.file_cif.specs.Answers.{noFile, fileLent}
 abbrev pub oldMost : ℕ
 oldMost = 80
 
--- what a line was by that limit
+-- the items of document 01, the first of the table: "6 .. the name is none of the ten"
+abbrev pub oldCount : ℕ
+oldCount = 10
+
+-- the item of a name, if it is one of the ten
+abbrev pub oldItemOf : List ℕ → Named
+oldItemOf s = findFrom 1 (take oldCount items) s
+
+-- the line t by its parts, with those names
+abbrev pub oldSplitClass : List ℕ → Split → Class
+oldSplitClass t Malformed = BadForm
+oldSplitClass t (Parts n v) = namedClass t v (oldItemOf (take n t))
+
+-- what a line was by that limit, with those names
 unfoldable pub oldClass : List ℕ → Class
-oldClass t = cond (leb (length t) oldMost && all isTyped t) (splitClass t (splitOf t)) BadForm
+oldClass t = cond (leb (length t) oldMost && all isTyped t) (oldSplitClass t (splitOf t)) BadForm
 
 -- a record, byte by byte: "length of the whole record (two bytes), kind 1 (two bytes), bench, item, the value as typed; numbers are little-endian"
 abbrev pub oldRecord : ℕ → ℕ → List ℕ → List ℕ
