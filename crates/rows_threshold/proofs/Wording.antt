@@ -96,21 +96,22 @@ module _ {x : List ℕ} {m : ℕ} (h : IsMultiplier x m) where
       let n : IsNumber x (pos m) = record { negative = false; sign = []; rest = x; size = m; text = refl; is-sign = SignText.unsigned; is-size = s; worth = refl } in
       simp (first-no-sign s 43 (omega arith), first-no-sign s 45 (omega arith), lacks-nowhere 41 x (length x - 1) lacks-bracket, number-taken x (pos m) n)
 
--- an uncertainty ends with its bracket
-ends-bracket : (y : List ℕ) → hasAt (y ++ (41 ∷ [])) (length (y ++ (41 ∷ [])) - 1) 41 ≡ true
-ends-bracket y =
-    let s : List ℕ = y ++ (41 ∷ []) in
-    let long : length s ≡ length y + 1 = length-append y (41 ∷ []) in
+-- a text with b after it ends with b
+pub ends-with : (y : List ℕ) (b : ℕ) → hasAt (y ++ (b ∷ [])) (length (y ++ (b ∷ [])) - 1) b ≡ true
+ends-with y b =
+    let s : List ℕ = y ++ (b ∷ []) in
+    let long : length s ≡ length y + 1 = length-append y (b ∷ []) in
     let at : length s - 1 ≡ length y = omega arith in
-    has-here s (length s - 1) 41 (omega arith) (ap (λ (n : ℕ). getD s n 0) at ∙ getD-append-seam y 41 [] 0)
+    has-here s (length s - 1) b (omega arith) (ap (λ (n : ℕ). getD s n 0) at ∙ getD-append-seam y b [] 0)
 
+-- an uncertainty ends with its bracket
 certain-by : (a b : List ℕ) {tail : List ℕ} → UncertaintyText tail → hasAt (a ++ (b ++ tail)) (length (a ++ (b ++ tail)) - 1) 41 ≡ false → tail ≡ []
 certain-by a b UncertaintyText.none h = refl
 certain-by a b (UncertaintyText.bracket u d some few) h =
     let y : List ℕ = a ++ (b ++ (40 ∷ u)) in
     let e : a ++ (b ++ (40 ∷ (u ++ (41 ∷ [])))) ≡ y ++ (41 ∷ [])
     = ap (λ (l : List ℕ). a ++ l) (sym (append-assoc b (40 ∷ u) (41 ∷ []))) ∙ sym (append-assoc a (b ++ (40 ∷ u)) (41 ∷ [])) in
-    absurd (false≢true (sym h ∙ ap (λ (s : List ℕ). hasAt s (length s - 1) 41) e ∙ ends-bracket y))
+    absurd (false≢true (sym h ∙ ap (λ (s : List ℕ). hasAt s (length s - 1) 41) e ∙ ends-with y 41))
 
 size-by : {x sign rest : List ℕ} {negative : Bool} {m n : ℕ} → x ≡ sign ++ rest → SignText negative sign → IsSize rest n → pos m ≡ cond negative (negℤ (pos n)) (pos n)
     → hasAt x 0 43 ≡ false → hasAt x 0 45 ≡ false → IsSize x m

@@ -11,6 +11,7 @@ use Rattle.rows.specs.Rows.{isProfile, noRows}
 use Rattle.desk_memory.specs.Memory.{textsLength, numbersLength, isDesk, deskOf}
 use Rattle.desk_questions.specs.Report.{Report, reportedAs, reportedOf, reportLent}
 use Rattle.desk_questions.specs.Who.{nobody, whoOf, whoLent}
+use Rattle.desk_hydrogen.specs.Hydrogens.{noCount, helperLent, checkLent}
 use Rattle.file_cif.specs.Answers.{noFile, fileStep, fileLent}
 use Rattle.theorem_limits.specs.Before.{SavedBefore, NotTaken}
 
@@ -38,8 +39,24 @@ module _ (t n : List ℕ) (e : isDesk t n ≡ false) (sheet : ℕ) where
   unfolding fileLent
   no-file name out = simp e (chosen (λ (a : ℕ). noFile a out) (isSheet sheet) 2 12)
 
+  no-hydrogens : helperLent t n sheet ≡ noCount (cond (isSheet sheet) 2 12)
+  unfolding helperLent
+  no-hydrogens = simp e (chosen noCount (isSheet sheet) 2 12)
+
+  no-right : (count : ℕ) → checkLent t n sheet count ≡ noCount (cond (isSheet sheet) 2 12)
+  unfolding checkLent
+  no-right count = simp e (chosen noCount (isSheet sheet) 2 12)
+
 -- every call answers 2, or 12 where there is no such sheet and 21 where there is no such profile, and changes nothing
 pub saved-not-taken : (t n : List ℕ) → SavedBefore t n → NotTaken t n
 saved-not-taken t n s =
     let e = no-desk t n s in
-    record { key = λ k. k .no-desk e; report = no-report t n e; who = no-who t n e; file = no-file t n e }
+    record {
+      key = λ k. k .no-desk e;
+      report = no-report t n e;
+      who = no-who t n e;
+      file = no-file t n e;
+      hydrogens = no-hydrogens t n e;
+      right = no-right t n e;
+      feed = λ f. f .no-desk e;
+    }

@@ -62,5 +62,5 @@ module _ (t n : List ℕ) (sheet : ℕ) (name out : List ℕ) where
         accepted = ap (map (λ (p : Call × Reply Rows). p .1)) (s .answers) ∙ whole .accepted;
         values = λ k some known. ap (λ (x : State). valueIn (itemAt (sheetAt (x .desk) own) k)) (s .state) ∙ whole .values k some known;
         count = ap (λ (x : State). sheetAt (x .desk) own .count) (s .state) ∙ whole .count;
-        elsewhere = λ other on n. ap (λ (x : State). sheetAt (x .desk) other .count) (s .state) ∙ whole .elsewhere other on n;
+        elsewhere = λ other on n. ap (λ (x : State). sheetAt (x .desk) other) (s .state) ∙ whole .elsewhere other on n;
       }

@@ -7,7 +7,7 @@ use mathlib.Core.Path.{_≡_}
 use mathlib.Core.List.{List, map}
 use lib.ListN.{length, replicate}
 use Rattle.line_items.specs.Items.{itemCount}
-use Rattle.desk_state.specs.Sheets.{itemAt, valueIn}
+use Rattle.desk_state.specs.Sheets.{itemAt, valueIn, emptySheet}
 use Rattle.desk_state.specs.Desks.{sheetCount, sheetOfBench, sheetAt}
 use Rattle.rows.specs.declared.Rows.{Rows}
 use Rattle.desk_memory.specs.Memory.{deskOf}
@@ -25,6 +25,6 @@ pub record MemoryRoundTrip (t n : List ℕ) (sheet : ℕ) (name out : List ℕ) 
   pub accepted : map (λ p. p .1) ps ≡ replicate (length (fileKeys t n sheet name out bench)) (keyed 0)
   -- "every value is there again", and an item that was empty is empty
   pub values : (k : ℕ) → 1 ≤ k → k ≤ itemCount → valueIn (itemAt (sheetAt (stateIn m .desk) (sheetOfBench bench)) k) ≡ valueIn (itemAt (sheetAt (deskOf t n) sheet) k)
-  -- one entry for each filled item, and no other
+  -- one entry for each filled item, and no other: the other sheet stays empty
   pub count : sheetAt (stateIn m .desk) (sheetOfBench bench) .count ≡ filledCount (sheetAt (deskOf t n) sheet .items)
-  pub elsewhere : (other : ℕ) → other < sheetCount → (sheetOfBench bench ≡ other → ⊥) → sheetAt (stateIn m .desk) other .count ≡ 0
+  pub elsewhere : (other : ℕ) → other < sheetCount → (sheetOfBench bench ≡ other → ⊥) → sheetAt (stateIn m .desk) other ≡ emptySheet

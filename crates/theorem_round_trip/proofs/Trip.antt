@@ -15,7 +15,7 @@ use Rattle.text.proofs.Bools.{and-both}
 use Rattle.line_items.specs.Typed.{lineMost}
 use Rattle.desk_log.specs.Record.{headLength}
 use Rattle.line_items.specs.Items.{itemCount}
-use Rattle.desk_state.specs.Sheets.{itemAt, valueIn}
+use Rattle.desk_state.specs.Sheets.{itemAt, valueIn, emptySheet}
 use Rattle.desk_state.specs.Desks.{benchCount, sheetCount, sheetOfBench, noSheet, sheetAt}
 use Rattle.desk_soundness.specs.Sound.{every, soundItem, soundLines, soundSheet, soundSheets, soundDesk}
 use Rattle.desk_soundness.specs.SoundLog.{logMost}
@@ -27,10 +27,13 @@ use Rattle.file_cif.specs.Answers.{fileStep}
 use Rattle.rows.specs.Rows.{noRows}
 use Rattle.rows_sheet.specs.Sheet.{rowsOf}
 use Rattle.theorem_work.specs.Calls.{Call, keyed, typing}
-use Rattle.theorem_work.specs.Work.{Entry, Work, noWork, entriesOf, lastOf}
+use Rattle.theorem_work.specs.Work.{Entry, Work, noWork, entriesOf, lastOf, sheetOf}
 use Rattle.desk_entries.proofs.Camps.{sheet-in}
 use Rattle.theorem_work.proofs.OwnerLaws.{one-bench-sheet, one-bench-elsewhere}
+use Rattle.theorem_sequences.specs.Calls.{State}
 use Rattle.theorem_sequences.specs.Sequences.{workAfter}
+use Rattle.theorem_sequences.proofs.Sheets.{sheet-at}
+use Rattle.theorem_sequences.proofs.Demand3.{follows}
 use Rattle.theorem_sequences.proofs.Desk.{desk-sequences}
 use Rattle.theorem_round_trip.specs.RoundTrip.{filedBytes, roomFor, filledCount, replies, endOf, ownSheet, RoundTrip}
 use Rattle.theorem_round_trip.proofs.Lines.{is-written, written-lines}
@@ -92,9 +95,10 @@ module _ (s : Sheet) (sheet bench : ℕ) (log : List ℕ) (all-items : length (s
       desk-sequences log keys .count (sheetOfBench bench) (sheet-in bench there) ∙ ap length (left-entries (sheetOfBench bench) ∙ own-entries)
       ∙ items-count bench 1 (s .items) [] ∙ zero-add (filledCount (s .items))
 
-  lines-elsewhere : (other : ℕ) → other < sheetCount → (sheetOfBench bench ≡ other → ⊥) → sheetAt (endOf log keys .desk) other .count ≡ 0
+  lines-elsewhere : (other : ℕ) → other < sheetCount → (sheetOfBench bench ≡ other → ⊥) → sheetAt (endOf log keys .desk) other ≡ emptySheet
   lines-elsewhere other on n =
-      desk-sequences log keys .count other on ∙ ap length (left-entries other ∙ one-bench-elsewhere es bench other n (items-alone bench 1 (s .items) [] tt))
+      let on-desk = ap (λ (x : State). sheetAt (x .desk) other) (follows rowsOf noRows log keys .end) ∙ sheet-at (workAfter rowsOf noRows log keys .entries) other on in
+      on-desk ∙ ap sheetOf (left-entries other ∙ one-bench-elsewhere es bench other n (items-alone bench 1 (s .items) [] tt))
 
 -- The premise on the length of the items holds of every sheet of the code's desks, whose array has them all.
 pub round-trip : (d : Desk) (sheet : ℕ) (name out : List ℕ) (bench : ℕ) (log : List ℕ) → length (sheetAt d sheet .items) ≡ itemCount
@@ -111,7 +115,7 @@ round-trip d sheet name out bench log all-items answer there small room =
       values = λ k some known. ap (λ (t : List ℕ). valueIn (itemAt (ownSheet log bench (typing bench t)) k)) e
           ∙ lines-values s sheet bench log all-items sound there small room k some known;
       count = ap (λ (t : List ℕ). ownSheet log bench (typing bench t) .count) e ∙ lines-count s sheet bench log all-items sound there small room;
-      elsewhere = λ other on n. ap (λ (t : List ℕ). sheetAt (endOf log (typing bench t) .desk) other .count) e
+      elsewhere = λ other on n. ap (λ (t : List ℕ). sheetAt (endOf log (typing bench t) .desk) other) e
           ∙ lines-elsewhere s sheet bench log all-items sound there small room other on n;
     }
 

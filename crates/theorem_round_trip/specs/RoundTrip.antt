@@ -11,7 +11,7 @@ use lib.Dec.{eqb}
 use lib.ListN.{length, take, drop, replicate}
 use Rattle.text.specs.Run.{runOf, other}
 use Rattle.line_items.specs.Items.{itemCount}
-use Rattle.desk_state.specs.Sheets.{itemAt, valueIn}
+use Rattle.desk_state.specs.Sheets.{itemAt, valueIn, emptySheet}
 use Rattle.desk_state.specs.Desks.{sheetCount, sheetOfBench, sheetAt}
 use Rattle.desk_state.specs.declared.sheet.Item.{Item}
 use Rattle.desk_state.specs.declared.sheet.Sheet.{Sheet}
@@ -66,6 +66,6 @@ pub record RoundTrip (s : Sheet) (file : List ℕ) (bench : ℕ) (log : List ℕ
   pub accepted : replies log (lineKeys bench file) ≡ replicate (length (lineKeys bench file)) (keyed 0)
   -- "every value is there again", and an item that was empty is empty
   pub values : (k : ℕ) → 1 ≤ k → k ≤ itemCount → valueIn (itemAt (ownSheet log bench (lineKeys bench file)) k) ≡ valueIn (itemAt s k)
-  -- one entry for each filled item, and no other
+  -- one entry for each filled item, and no other: the other sheet stays empty
   pub count : ownSheet log bench (lineKeys bench file) .count ≡ filledCount (s .items)
-  pub elsewhere : (other : ℕ) → other < sheetCount → (sheetOfBench bench ≡ other → ⊥) → sheetAt (endOf log (lineKeys bench file) .desk) other .count ≡ 0
+  pub elsewhere : (other : ℕ) → other < sheetCount → (sheetOfBench bench ≡ other → ⊥) → sheetAt (endOf log (lineKeys bench file) .desk) other ≡ emptySheet
