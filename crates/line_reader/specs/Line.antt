@@ -46,7 +46,8 @@ splitClass t (Parts n v) = namedClass t v (itemOf (take n t))
 unfoldable pub classOf : List ℕ → Class
 classOf t = cond (leb (length t) lineMost && all isTyped t) (splitClass t (splitOf t)) BadForm
 
--- document 01's number: "0 accepted", "5 .. the line is not of the form", "6 .. the name is none of the ten", "7 .. the value fails its item's kind"
+-- document 01's number: "0 accepted", "5 .. the line is not of the form", "6 .. the name is none of the ten" (document 02, No. 11 and 12: of the
+-- nineteen), "7 .. the value fails its item's kind"
 abbrev pub classNumber : Class → ℕ
 classNumber (Entry k v) = 0
 classNumber BadForm = 5

@@ -33,7 +33,7 @@ pub record OfItem (t : List ℕ) (P : ℕ → List ℕ → Type 0) : Type 0 wher
 abbrev pub BadForm : List ℕ → Type 0
 BadForm t = (name value : List ℕ) → IsLine t name value → ⊥
 
--- "the name is none of the ten"
+-- "the name is none of the ten"; document 02, No. 11 and 12: of the nineteen
 abbrev pub UnknownName : List ℕ → Type 0
 UnknownName t = OfForm t (λ name value. (item : ℕ) → IsName name item → ⊥)
 
