@@ -343,6 +343,10 @@ who() {
     awk '/^    sheet .*, entry/ { print substr($0, 5) }' docs/guide/files.md >"$work/want"
     "$camp" history "$work/stick.log" >"$work/out"
     same "camp history: the guide's example is true" "$work/want" "$work/out"
+    mkdir "$work/cut"
+    head -c 39 "$work/stick.log" >"$work/cut/stick.log"
+    runs "camp history: the guide's damaged log" 1 "$(sed '$d' "$work/want")"$'\n' "$(sed -n 's/^    \(camp: stick.log: byte \)/\1/p' docs/guide/files.md)"$'\n' \
+        bash -c 'cd "$1" && "$2" history stick.log' - "$work/cut" "$camp"
     fails "who: no such file" "none: No such file or directory" "$camp" who --session none
     fails "who: a folder" "harness: Is a directory" "$camp" who 4 --session harness
     fails "who: input is closed" "standard input: Bad file descriptor" bash -c 'exec "$1" who --session - <&-' - "$camp"
@@ -372,17 +376,29 @@ damage_of() {
     { echo stick; echo "feed 1 $(od -An -v -tx1 "$1" | tr -d ' \n' | sed 's/^$/-/')"; } | "$harness" reference-trace | tail -n 1
 }
 
-# damaged NAME FILE: each command that reads the log tells its damage, by the reference's answer, with exit 1.
+# damaged NAME FILE: each command that reads the log tells its damage, by the reference's answer, with exit 1, and prints what it prints of a log that
+# ends before it.
 damaged() {
     local means=([18]="no record of an entry begins here" [19]="this record overwrites a value of another bench" [20]="the log ends inside this record")
-    local number byte words status message wrong=
+    local number byte words status message wrong= tail
     read -r number byte < <(damage_of "$2")
     message="camp: $2: byte $byte: $number, ${means[number]-}; what stands before it was read"
+    cp "$2" "$work/whole"
     for words in report history who 'cif x --log' 'report --json' 'history --json' 'who --json'; do
+        head -c "$byte" "$work/whole" >"$2"
+        "$camp" $words "$2" >"$work/want" 2>"$work/err"
+        [ ! -s "$work/err" ] || wrong="$words, before the damage: $(head -c 200 "$work/err")"
+        cp "$work/whole" "$2"
         "$camp" $words "$2" >"$work/out" 2>"$work/err"
         status=$?
         [ $status -eq 1 ] && [ "$(cat "$work/err")" = "$message" ] || wrong="$words: exit $status, $(head -c 200 "$work/err")"
-        case $words in *--json) grep -q "\"damage\":{\"byte\":$byte,\"number\":$number,\"meaning\":\"${means[number]-}\"}}\$" "$work/out" || wrong="$words: $(head -c 200 "$work/out")" ;; esac
+        case $words in *--json)
+            tail="{\"byte\":$byte,\"number\":$number,\"meaning\":\"${means[number]-}\"}}"
+            sed -i "s/\"damage\":null}\$/\"damage\":$tail/" "$work/want"
+            ;;
+        esac
+        [ -s "$work/want" ] || [ "$byte" -eq 0 ] || wrong="$words: nothing stands before the damage"
+        cmp -s "$work/want" "$work/out" || wrong="$words: $(cmp "$work/want" "$work/out" 2>&1), $(head -c 200 "$work/out")"
     done
     if [ -n "$wrong" ]; then fail "$1" "$wrong"; else ok "$1"; fi
 }
