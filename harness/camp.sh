@@ -38,8 +38,12 @@ commands() {
         runs "camp help: $name is listed" 0 $'1\n' '' bash -c '"$1" help | grep -c "^  $2  *[a-z]"' - "$camp" "$name"
         runs "camp help: $name" 0 $'usage: camp '"$name"$'\n' '' bash -c '"$1" help "$2" | head -n 1 | cut -d " " -f 1-3' - "$camp" "$name"
         runs "camp help: $name has an example" 0 $'Example:\n' '' bash -c '"$1" help "$2" | grep -x Example:' - "$camp" "$name"
+        runs "camp help: $name is at most 100 columns wide" 0 '' '' bash -c '"$1" help "$2" | sed "/^Example:/,\$d" | awk "length > 100"' - "$camp" "$name"
         runs "camp: $name --help" 0 "$("$camp" help "$name")"$'\n' '' "$camp" "$name" --help
     done
+    sed -n 's/^    \[\([0-9]*\)\] = ".*/\1/p' client/camp/meanings.c >"$work/out"
+    seq "$(cat docs/guide/{refusals,files,hydrogen,symmetry}.md | sed -n 's/^| \([0-9]*\) |.*/\1/p' | sort -n | tail -n 1)" >"$work/want"
+    same "camp: every refusal has a meaning" "$work/want" "$work/out"
     runs "camp help: nothing else is listed" 0 $'10\n' '' bash -c '"$1" help | sed -n "/The commands:/,/^.camp help/p" | grep -c "^  "' - "$camp"
     misuse "no command" "a command is missing; $help"
     misuse "no such command" "'xyz' is not a command; $help" xyz
@@ -408,9 +412,21 @@ powder_of() {
     sed -E 's/^(1[3-8]|20|21) (R[0-9]+) .*/\1 \2 - 0/' "$1"
 }
 
+# read_fails FILE COMMAND..: the command with the file's bytes on standard input, and after them an error of reading: that of a terminal's other end, which
+# is closed.
+read_fails() {
+    python3 -c '
+import os, pty, subprocess, sys, tty
+ours, theirs = pty.openpty()
+tty.setraw(theirs)
+os.write(theirs, open(sys.argv[1], "rb").read())
+os.close(theirs)
+sys.exit(subprocess.run(sys.argv[2:], stdin=ours).returncode)' "$@"
+}
+
 # From sessions to logs and back: what each command tells of a log is what it tells of the session.
 logs() {
-    local input name log at
+    local input name log at told
     mkdir "$work/logs"
     for input in $sessions/*.in; do
         name=$(basename "$input" .in) log=$work/logs/$(basename "$input" .in)
@@ -457,6 +473,14 @@ logs() {
         fails "$name: a log by closed input" "standard input: Bad file descriptor" bash -c 'exec "$1" $2 - <&-' - "$camp" "$name"
     done
     fails "history: JSON of no such log" "none: No such file or directory" "$camp" history --json none
+    if command -v python3 >/dev/null; then
+        "$camp" history --json "$log" | sed 's/,"damage":null}$/}/' >"$work/want"
+        runs "camp history: JSON of a log that cannot be read to its end" 1 "$(cat "$work/want")"$'\n' $'camp: standard input: Input/output error\n' read_fails "$log" "$camp" history --json -
+        : >"$work/logs/none"
+        runs "camp history: JSON of a log that cannot be read" 1 '' $'camp: standard input: Input/output error\n' read_fails "$work/logs/none" "$camp" history --json -
+    else
+        echo "skipped: a log that cannot be read to its end (no python3)"
+    fi
 
     for at in $(seq 1 $(($(wc -c <"$log") - 1))); do
         head -c "$at" "$log" >"$work/logs/cut"
@@ -470,6 +494,10 @@ logs() {
     damaged "camp: a log of before owners" "$work/logs/foreign"
     runs "camp history: before a foreign record" 1 "$("$camp" history "$log")"$'\n' "camp: $work/logs/foreign: byte $(wc -c <"$log"): 19, this record overwrites a value of another bench; what stands before it was read"$'\n' \
         "$camp" history "$work/logs/foreign"
+    told="camp: $work/logs/foreign: byte $(wc -c <"$log"): 19, this record overwrites a value of another bench; what stands before it was read"
+    runs "camp cif: a damaged log and a bad block name" 1 '' $'camp: block name \'a_b\': 11, not 1 to 32 letters, digits or -\n'"$told"$'\n' "$camp" cif a_b --log "$work/logs/foreign"
+    runs "camp cif: a damaged log and no such sheet" 1 '' "camp: sheet 2: 12, $no_sheet"$'\n'"$told"$'\n' "$camp" cif x --sheet 2 --log "$work/logs/foreign"
+    runs "camp cif: a damaged log and no such folder" 1 '' "camp: $work/none/a.cif: No such file or directory"$'\n'"$told"$'\n' "$camp" cif x --log "$work/logs/foreign" "$work/none/a.cif"
     head -c 100000 /dev/urandom >"$work/logs/random"
     damaged "camp: random bytes for a log" "$work/logs/random"
     for at in $(seq 9363); do printf '\007\0\001\0\002\0041'; done >"$work/logs/long"
