@@ -619,7 +619,7 @@ hydrogen_of() {
     { [ -z "$1" ] || echo "_chemical_formula_sum $1"; [ -z "$2" ] || echo "_chemical_formula_weight $2"; } | typed 0 >"$work/session"
 }
 
-# hydrogen_agrees NAME FILE: what camp hydrogen tells of each sheet is the reference's count or refusal, and its line has it.
+# hydrogen_agrees NAME FILE: what camp hydrogen tells of each sheet is the reference's count or refusal, and its line to be typed.
 hydrogen_agrees() {
     local sheet answer count want='' told='' state
     state=$({ echo "new 4096 0"; pairs "$2" | sed 's/^/k /'; echo dump; echo hyd 0; echo hyd 1; } | "$harness" reference-trace | tail -n 3)
@@ -627,12 +627,14 @@ hydrogen_agrees() {
     for sheet in 0 1; do
         head -n 1 <<<"$state" | grep -q "[=;]$sheet:[12]:" || continue
         read -r answer count <<<"$(sed -n $((sheet + 2))p <<<"$state")"
-        want+="$sheet $answer $count "
+        want+="$sheet $answer $count $("$harness" hydrogen-line $sheet <"$2")|"
         told+=$(sed -n "s/^camp: .*: sheet $sheet: //p" "$work/out" | awk -v sheet=$sheet -v count="$count" '
-            NR == 1 && /^2[23],/ { sub(/,.*/, ""); print sheet, $0, 0 }
-            NR == 1 && /; it fits the weight / { print sheet, 0, count }
-            NR == 1 && /; without H it would fit / { print sheet, 0, 0 }
-            NR == 1 && /; H[0-9]* would fit / { sub(/.*; H/, ""); print sheet, 0, ($1 == "would" ? 1 : $1) }')" "
+            NR == 1 && /^2[23],/ { sub(/,.*/, ""); printf "%s %s 0 ", sheet, $0 }
+            NR == 1 && /; it fits the weight / { printf "%s 0 %s ", sheet, count }
+            NR == 1 && /; without H it would fit / { printf "%s 0 0 ", sheet }
+            NR == 1 && /; H[0-9]* would fit / { sub(/.*; H/, ""); printf "%s 0 %s ", sheet, ($1 == "would" ? 1 : $1) }
+            NR == 2 && sub(/^to be typed: /, "") { printf "%s", $0 }
+            NR > 2 { printf "and %s", $0 }')"|"
     done
     if [ "$want" = "$told" ]; then ok "$1"; else fail "$1" "told '$told', reference '$want'"; fi
 }
@@ -644,6 +646,7 @@ hydrogen() {
         hydrogen_of "$formula" "$weight"
         [ -z "$line" ] || line=$'\n'"camp: $work/session: sheet 0: to be typed: _chemical_formula_sum $line"
         runs "camp hydrogen: $formula, $weight" "$status" "camp: $work/session: sheet 0: $told$line"$'\n' '' "$camp" hydrogen --session "$work/session"
+        hydrogen_agrees "camp hydrogen: $formula, $weight, by the reference" "$work/session"
     done <<'END'
 'C10 H20'|142.286|1|H20 typed; H21 would fit the weight 142.286, and so would H22 and H23|'C10 H21'
 'C10 H22'|142.286|0|H22 typed; it fits the weight 142.286
@@ -682,6 +685,10 @@ END
     runs "camp hydrogen: a damaged log" 1 "$(cat "$work/want")"$'\n' "camp: $work/log: byte 28: 18, no record of an entry begins here; what stands before it was read"$'\n' "$camp" hydrogen "$work/log"
     for name in $sessions/*.in; do
         hydrogen_agrees "camp hydrogen: $(basename "$name" .in)" "$name"
+    done
+    for name in {1..30}; do
+        "$harness" hydrogen-input "$name" >"$work/generated"
+        hydrogen_agrees "camp hydrogen: generated input $name" "$work/generated"
     done
 }
 
