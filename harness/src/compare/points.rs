@@ -47,7 +47,7 @@ impl Comparison<'_> {
         self.tally.note(Question::PointLine, place);
     }
 
-    /// An accepted entry of a sheet's item, 1 to 10.
+    /// An accepted entry of a sheet's item, 1 to 19.
     pub(super) fn note_entry(&mut self, after: &Memory, sheet: usize, item: usize) {
         let place = match Pointed::read(value(after, sheet, item)).map(|pointed| pointed.side) {
             Some(Side::First) => 0,
