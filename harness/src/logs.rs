@@ -80,13 +80,15 @@ impl Logs {
 
     /// One or two bytes changed.
     fn damage(&mut self, log: &mut [u8]) {
+        let no_item = ITEMS.len() as u8 + 1;
+        let telling = [0, 1, 2, 3, 4, 6, 7, no_item, 206, 207, b' ', b'\'', 127];
         for _ in 0..self.random.pick(&[1, 1, 2]) {
             if !log.is_empty() {
                 let at = self.random.below(log.len());
                 log[at] = match self.random.below(3) {
                     0 => self.random.byte(),
                     1 => log[at] ^ 1 << self.random.below(8),
-                    _ => self.random.pick(&[0, 1, 2, 3, 4, 6, 7, 11, 206, 207, b' ', b'\'', 127]),
+                    _ => self.random.pick(&telling),
                 };
             }
         }
@@ -196,7 +198,7 @@ pub fn fault(log: &[u8], place: usize) -> usize {
     1 + tests.iter().position(|holds| !holds).unwrap_or(FAULTS.len())
 }
 
-/// How often a log is damaged at one byte.
+/// What each byte of a log is changed to.
 pub const OTHER_BYTES: [u8; 8] = [0, 1, BENCHES as u8, 7, ITEMS.len() as u8 + 1, b'x', 0x80, 0xff];
 
 type Break = fn(&mut Memory, &mut Stick, &mut Random);
