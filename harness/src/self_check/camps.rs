@@ -13,7 +13,7 @@ use reference::desk::{
 };
 use reference::line::ACCEPTED;
 
-pub const FAULTS: [(&str, Wrong); 22] = [
+pub const FAULTS: [(&str, Wrong); 23] = [
     ("one count for both sheets", Wrong::Key(one_count)),
     ("bench 2 writes sheet 0", Wrong::Key(bench_2_on_sheet_0)),
     ("the owner is looked up on the other sheet", Wrong::Key(other_owner)),
@@ -49,6 +49,15 @@ pub const FAULTS: [(&str, Wrong); 22] = [
     (
         "Report takes sheets modulo 2",
         Wrong::Report(|m, sheet, profile| Reference.report(m, sheet % 2, profile)),
+    ),
+    (
+        "Report tells sheet 0's rows with 12",
+        Wrong::Report(|m, sheet, profile| match Reference.report(m, sheet, profile) {
+            Reported { answer: NO_SUCH_SHEET, .. } => {
+                Reported { answer: NO_SUCH_SHEET, ..Reference.report(m, 0, profile) }
+            }
+            right => right,
+        }),
     ),
     (
         "Who takes sheets modulo 2^32",
