@@ -18,11 +18,11 @@ use std::fmt::Display;
 
 /// One log for each thousand lines, one that is read byte by byte or cut and damaged everywhere, one about
 /// the limit and one reader broken in every way for each twenty thousand; one grown log for each five
-/// hundred, one sound reader for each two hundred.
+/// hundred, one sound reader for each hundred.
 const LOGS_ONE_IN: u64 = 1000;
 const LONG_ONE_IN: u64 = 20_000;
 const GROWN_ONE_IN: u64 = 500;
-const READERS_ONE_IN: u64 = 200;
+const READERS_ONE_IN: u64 = 100;
 /// What marks the last part.
 const LAST: [u8; 3] = [1, 2, 255];
 
