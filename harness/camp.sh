@@ -38,8 +38,12 @@ commands() {
         runs "camp help: $name is listed" 0 $'1\n' '' bash -c '"$1" help | grep -c "^  $2  *[a-z]"' - "$camp" "$name"
         runs "camp help: $name" 0 $'usage: camp '"$name"$'\n' '' bash -c '"$1" help "$2" | head -n 1 | cut -d " " -f 1-3' - "$camp" "$name"
         runs "camp help: $name has an example" 0 $'Example:\n' '' bash -c '"$1" help "$2" | grep -x Example:' - "$camp" "$name"
+        runs "camp help: $name is at most 100 columns wide" 0 '' '' bash -c '"$1" help "$2" | sed "/^Example:/,\$d" | awk "length > 100"' - "$camp" "$name"
         runs "camp: $name --help" 0 "$("$camp" help "$name")"$'\n' '' "$camp" "$name" --help
     done
+    sed -n 's/^    \[\([0-9]*\)\] = ".*/\1/p' client/camp/meanings.c >"$work/out"
+    seq "$(cat docs/guide/{refusals,files,hydrogen,symmetry}.md | sed -n 's/^| \([0-9]*\) |.*/\1/p' | sort -n | tail -n 1)" >"$work/want"
+    same "camp: every refusal has a meaning" "$work/want" "$work/out"
     runs "camp help: nothing else is listed" 0 $'10\n' '' bash -c '"$1" help | sed -n "/The commands:/,/^.camp help/p" | grep -c "^  "' - "$camp"
     misuse "no command" "a command is missing; $help"
     misuse "no such command" "'xyz' is not a command; $help" xyz
@@ -343,6 +347,10 @@ who() {
     awk '/^    sheet .*, entry/ { print substr($0, 5) }' docs/guide/files.md >"$work/want"
     "$camp" history "$work/stick.log" >"$work/out"
     same "camp history: the guide's example is true" "$work/want" "$work/out"
+    mkdir "$work/cut"
+    head -c 39 "$work/stick.log" >"$work/cut/stick.log"
+    runs "camp history: the guide's damaged log" 1 "$(sed '$d' "$work/want")"$'\n' "$(sed -n 's/^    \(camp: stick.log: byte \)/\1/p' docs/guide/files.md)"$'\n' \
+        bash -c 'cd "$1" && "$2" history stick.log' - "$work/cut" "$camp"
     fails "who: no such file" "none: No such file or directory" "$camp" who --session none
     fails "who: a folder" "harness: Is a directory" "$camp" who 4 --session harness
     fails "who: input is closed" "standard input: Bad file descriptor" bash -c 'exec "$1" who --session - <&-' - "$camp"
@@ -372,17 +380,29 @@ damage_of() {
     { echo stick; echo "feed 1 $(od -An -v -tx1 "$1" | tr -d ' \n' | sed 's/^$/-/')"; } | "$harness" reference-trace | tail -n 1
 }
 
-# damaged NAME FILE: each command that reads the log tells its damage, by the reference's answer, with exit 1.
+# damaged NAME FILE: each command that reads the log tells its damage, by the reference's answer, with exit 1, and prints what it prints of a log that
+# ends before it.
 damaged() {
     local means=([18]="no record of an entry begins here" [19]="this record overwrites a value of another bench" [20]="the log ends inside this record")
-    local number byte words status message wrong=
+    local number byte words status message wrong= tail
     read -r number byte < <(damage_of "$2")
     message="camp: $2: byte $byte: $number, ${means[number]-}; what stands before it was read"
+    cp "$2" "$work/whole"
     for words in report history who 'cif x --log' 'report --json' 'history --json' 'who --json'; do
+        head -c "$byte" "$work/whole" >"$2"
+        "$camp" $words "$2" >"$work/want" 2>"$work/err"
+        [ ! -s "$work/err" ] || wrong="$words, before the damage: $(head -c 200 "$work/err")"
+        cp "$work/whole" "$2"
         "$camp" $words "$2" >"$work/out" 2>"$work/err"
         status=$?
         [ $status -eq 1 ] && [ "$(cat "$work/err")" = "$message" ] || wrong="$words: exit $status, $(head -c 200 "$work/err")"
-        case $words in *--json) grep -q "\"damage\":{\"byte\":$byte,\"number\":$number,\"meaning\":\"${means[number]-}\"}}\$" "$work/out" || wrong="$words: $(head -c 200 "$work/out")" ;; esac
+        case $words in *--json)
+            tail="{\"byte\":$byte,\"number\":$number,\"meaning\":\"${means[number]-}\"}}"
+            sed -i "s/\"damage\":null}\$/\"damage\":$tail/" "$work/want"
+            ;;
+        esac
+        [ -s "$work/want" ] || [ "$byte" -eq 0 ] || wrong="$words: nothing stands before the damage"
+        cmp -s "$work/want" "$work/out" || wrong="$words: $(cmp "$work/want" "$work/out" 2>&1), $(head -c 200 "$work/out")"
     done
     if [ -n "$wrong" ]; then fail "$1" "$wrong"; else ok "$1"; fi
 }
@@ -392,9 +412,21 @@ powder_of() {
     sed -E 's/^(1[3-8]|20|21) (R[0-9]+) .*/\1 \2 - 0/' "$1"
 }
 
+# read_fails FILE COMMAND..: the command with the file's bytes on standard input, and after them an error of reading: that of a terminal's other end, which
+# is closed.
+read_fails() {
+    python3 -c '
+import os, pty, subprocess, sys, tty
+ours, theirs = pty.openpty()
+tty.setraw(theirs)
+os.write(theirs, open(sys.argv[1], "rb").read())
+os.close(theirs)
+sys.exit(subprocess.run(sys.argv[2:], stdin=ours).returncode)' "$@"
+}
+
 # From sessions to logs and back: what each command tells of a log is what it tells of the session.
 logs() {
-    local input name log at
+    local input name log at told
     mkdir "$work/logs"
     for input in $sessions/*.in; do
         name=$(basename "$input" .in) log=$work/logs/$(basename "$input" .in)
@@ -441,6 +473,14 @@ logs() {
         fails "$name: a log by closed input" "standard input: Bad file descriptor" bash -c 'exec "$1" $2 - <&-' - "$camp" "$name"
     done
     fails "history: JSON of no such log" "none: No such file or directory" "$camp" history --json none
+    if command -v python3 >/dev/null; then
+        "$camp" history --json "$log" | sed 's/,"damage":null}$/}/' >"$work/want"
+        runs "camp history: JSON of a log that cannot be read to its end" 1 "$(cat "$work/want")"$'\n' $'camp: standard input: Input/output error\n' read_fails "$log" "$camp" history --json -
+        : >"$work/logs/none"
+        runs "camp history: JSON of a log that cannot be read" 1 '' $'camp: standard input: Input/output error\n' read_fails "$work/logs/none" "$camp" history --json -
+    else
+        echo "skipped: a log that cannot be read to its end (no python3)"
+    fi
 
     for at in $(seq 1 $(($(wc -c <"$log") - 1))); do
         head -c "$at" "$log" >"$work/logs/cut"
@@ -454,6 +494,10 @@ logs() {
     damaged "camp: a log of before owners" "$work/logs/foreign"
     runs "camp history: before a foreign record" 1 "$("$camp" history "$log")"$'\n' "camp: $work/logs/foreign: byte $(wc -c <"$log"): 19, this record overwrites a value of another bench; what stands before it was read"$'\n' \
         "$camp" history "$work/logs/foreign"
+    told="camp: $work/logs/foreign: byte $(wc -c <"$log"): 19, this record overwrites a value of another bench; what stands before it was read"
+    runs "camp cif: a damaged log and a bad block name" 1 '' $'camp: block name \'a_b\': 11, not 1 to 32 letters, digits or -\n'"$told"$'\n' "$camp" cif a_b --log "$work/logs/foreign"
+    runs "camp cif: a damaged log and no such sheet" 1 '' "camp: sheet 2: 12, $no_sheet"$'\n'"$told"$'\n' "$camp" cif x --sheet 2 --log "$work/logs/foreign"
+    runs "camp cif: a damaged log and no such folder" 1 '' "camp: $work/none/a.cif: No such file or directory"$'\n'"$told"$'\n' "$camp" cif x --log "$work/logs/foreign" "$work/none/a.cif"
     head -c 100000 /dev/urandom >"$work/logs/random"
     damaged "camp: random bytes for a log" "$work/logs/random"
     for at in $(seq 9363); do printf '\007\0\001\0\002\0041'; done >"$work/logs/long"
@@ -575,7 +619,7 @@ hydrogen_of() {
     { [ -z "$1" ] || echo "_chemical_formula_sum $1"; [ -z "$2" ] || echo "_chemical_formula_weight $2"; } | typed 0 >"$work/session"
 }
 
-# hydrogen_agrees NAME FILE: what camp hydrogen tells of each sheet is the reference's count or refusal, and its line has it.
+# hydrogen_agrees NAME FILE: what camp hydrogen tells of each sheet is the reference's count or refusal, and its line to be typed.
 hydrogen_agrees() {
     local sheet answer count want='' told='' state
     state=$({ echo "new 4096 0"; pairs "$2" | sed 's/^/k /'; echo dump; echo hyd 0; echo hyd 1; } | "$harness" reference-trace | tail -n 3)
@@ -583,12 +627,14 @@ hydrogen_agrees() {
     for sheet in 0 1; do
         head -n 1 <<<"$state" | grep -q "[=;]$sheet:[12]:" || continue
         read -r answer count <<<"$(sed -n $((sheet + 2))p <<<"$state")"
-        want+="$sheet $answer $count "
+        want+="$sheet $answer $count $("$harness" hydrogen-line $sheet <"$2")|"
         told+=$(sed -n "s/^camp: .*: sheet $sheet: //p" "$work/out" | awk -v sheet=$sheet -v count="$count" '
-            NR == 1 && /^2[23],/ { sub(/,.*/, ""); print sheet, $0, 0 }
-            NR == 1 && /; it fits the weight / { print sheet, 0, count }
-            NR == 1 && /; without H it would fit / { print sheet, 0, 0 }
-            NR == 1 && /; H[0-9]* would fit / { sub(/.*; H/, ""); print sheet, 0, ($1 == "would" ? 1 : $1) }')" "
+            NR == 1 && /^2[23],/ { sub(/,.*/, ""); printf "%s %s 0 ", sheet, $0 }
+            NR == 1 && /; it fits the weight / { printf "%s 0 %s ", sheet, count }
+            NR == 1 && /; without H it would fit / { printf "%s 0 0 ", sheet }
+            NR == 1 && /; H[0-9]* would fit / { sub(/.*; H/, ""); printf "%s 0 %s ", sheet, ($1 == "would" ? 1 : $1) }
+            NR == 2 && sub(/^to be typed: /, "") { printf "%s", $0 }
+            NR > 2 { printf "and %s", $0 }')"|"
     done
     if [ "$want" = "$told" ]; then ok "$1"; else fail "$1" "told '$told', reference '$want'"; fi
 }
@@ -600,6 +646,7 @@ hydrogen() {
         hydrogen_of "$formula" "$weight"
         [ -z "$line" ] || line=$'\n'"camp: $work/session: sheet 0: to be typed: _chemical_formula_sum $line"
         runs "camp hydrogen: $formula, $weight" "$status" "camp: $work/session: sheet 0: $told$line"$'\n' '' "$camp" hydrogen --session "$work/session"
+        hydrogen_agrees "camp hydrogen: $formula, $weight, by the reference" "$work/session"
     done <<'END'
 'C10 H20'|142.286|1|H20 typed; H21 would fit the weight 142.286, and so would H22 and H23|'C10 H21'
 'C10 H22'|142.286|0|H22 typed; it fits the weight 142.286
@@ -638,6 +685,10 @@ END
     runs "camp hydrogen: a damaged log" 1 "$(cat "$work/want")"$'\n' "camp: $work/log: byte 28: 18, no record of an entry begins here; what stands before it was read"$'\n' "$camp" hydrogen "$work/log"
     for name in $sessions/*.in; do
         hydrogen_agrees "camp hydrogen: $(basename "$name" .in)" "$name"
+    done
+    for name in {1..30}; do
+        "$harness" hydrogen-input "$name" >"$work/generated"
+        hydrogen_agrees "camp hydrogen: generated input $name" "$work/generated"
     done
 }
 

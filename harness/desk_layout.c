@@ -6,9 +6,11 @@
 #include <string.h>
 
 enum { LONGEST = DESK_TEXTS + 1, MOST = DESK_NUMBERS + 1, NAME_MOST = 32 };
-/* The desk of the build whose lines had 80 bytes and whose items had three numbers, and of that with one sheet; both had ten items. */
+/* The desk of the build whose lines had 80 bytes and whose items had three numbers, and of those with one sheet of ten items, two of ten and two of
+ * eighteen. */
 enum { OLD_LINE = 80, OLD_ITEMS = 10, OLD_TEXTS = (DESK_BENCHES + OLD_ITEMS) * OLD_LINE, OLD_ITEM_NUMBERS = 3 };
 enum { ONE_TEXTS = (DESK_BENCHES + OLD_ITEMS) * DESK_LINE, ONE_NUMBERS = DESK_ITEMS_AT + OLD_ITEMS * DESK_ITEM_NUMBERS + 2 };
+enum { TEN_TEXTS = 4800, TEN_NUMBERS = 87, EIGHTEEN_TEXTS = 8000, EIGHTEEN_NUMBERS = 151 };
 /* A sheet's benches. */
 enum { OF_SHEET = DESK_BENCHES / DESK_SHEETS };
 enum { OLD_COUNT_AT = DESK_ITEMS_AT + OLD_ITEMS * OLD_ITEM_NUMBERS, OLD_USED_AT, OLD_NUMBERS };
@@ -77,14 +79,37 @@ static void lengths(void)
     expect(desk_key(texts, DESK_TEXTS, numbers, DESK_NUMBERS, log_bytes, DESK_LOG + 1, 0, 24) == 2, "a longer log is taken", DESK_LOG + 1);
 }
 
-/* A desk that the old build saved, with an entry and an unfinished line: every call refuses it with 2 and
- * changes nothing. */
+/* Every call refuses such a desk with 2, or where a sheet is asked for that is not there with 12, and writes nothing but to its memory and log. */
+static void refused(uint8_t *old, size_t old_texts, size_t *of, size_t old_numbers, uint8_t *old_log, size_t log_length)
+{
+    static const uint8_t record[] = {10, 0, 1, 0, 0, 4, '0', '.', '1', '6'}, keys[] = {8, 10, 24, 'a', 0};
+    static uint8_t paper[DESK_FILE], kept[DESK_KEPT];
+    static size_t state[DESK_STATE];
+    size_t i, s;
+    expect(desk_fresh(old, old_texts, of, old_numbers) == 2, "desk_fresh takes a desk of an old build", old_texts);
+    for (i = 0; i < DESK_BENCHES * sizeof keys; i++)
+        expect(desk_key(old, old_texts, of, old_numbers, old_log, log_length, i % DESK_BENCHES, keys[i / DESK_BENCHES]) == 2, "desk_key takes a desk of an old build", i);
+    for (s = 0; s <= DESK_SHEETS; s++) {
+        uint8_t refusal = s < DESK_SHEETS ? 2 : 12;
+        expect(desk_report(old, old_texts, of, old_numbers, s, 0).answer == refusal, "desk_report takes a desk of an old build", s);
+        for (i = 0; i <= DESK_ITEMS + 1; i++) expect(desk_who(old, old_texts, of, old_numbers, s, i).answer == refusal, "desk_who takes a desk of an old build", i);
+        expect(desk_file(old, old_texts, of, old_numbers, s, (const uint8_t *)"camp", 4, paper, DESK_FILE).answer == refusal, "desk_file takes a desk of an old build", s);
+        expect(desk_hydrogens(old, old_texts, of, old_numbers, s).answer == refusal, "desk_hydrogens takes a desk of an old build", s);
+        expect(desk_hydrogens_right(old, old_texts, of, old_numbers, s, 0).answer == refusal, "desk_hydrogens_right takes a desk of an old build", s);
+    }
+    for (i = 0; i <= sizeof record; i++)
+        expect(desk_feed(old, old_texts, of, old_numbers, kept, DESK_KEPT, state, DESK_STATE, record, i, i % 2 == 0).answer == 2, "desk_feed takes a desk of an old build", i);
+    for (i = 0; i < DESK_FILE; i++) expect(paper[i] == 0, "a file of a desk of an old build", i);
+    for (i = 0; i < DESK_KEPT; i++) expect(kept[i] == 0, "a reader keeps a byte on a desk of an old build", i);
+    for (i = 0; i < DESK_STATE; i++) expect(state[i] == 0, "a reader stands on a desk of an old build", i);
+}
+
+/* A desk that the old build saved, with an entry and an unfinished line, is refused and not changed. */
 static void old_build(void)
 {
-    static uint8_t old[OLD_TEXTS], old_log[64], was[OLD_TEXTS], log_was[sizeof old_log], paper[DESK_FILE];
+    static uint8_t old[OLD_TEXTS], old_log[64], was[OLD_TEXTS], log_was[sizeof old_log];
     static size_t of[OLD_NUMBERS], of_was[OLD_NUMBERS];
-    static const uint8_t record[] = {10, 0, 1, 0, 0, 4, '0', '.', '1', '6'}, keys[] = {8, 10, 24, 'a', 0};
-    size_t i, s;
+    static const uint8_t record[] = {10, 0, 1, 0, 0, 4, '0', '.', '1', '6'};
     memcpy(old + OLD_LINE, "_refine", 7);
     of[1] = 7;
     memcpy(old + (DESK_ITEMS_SLOT + 3) * OLD_LINE, "0.16", 4);
@@ -95,28 +120,19 @@ static void old_build(void)
     memcpy(was, old, sizeof old);
     memcpy(of_was, of, sizeof of);
     memcpy(log_was, old_log, sizeof old_log);
-    expect(desk_fresh(old, OLD_TEXTS, of, OLD_NUMBERS) == 2, "desk_fresh takes a desk of the old build", OLD_TEXTS);
-    for (i = 0; i < DESK_BENCHES * sizeof keys; i++)
-        expect(desk_key(old, OLD_TEXTS, of, OLD_NUMBERS, old_log, sizeof old_log, i % DESK_BENCHES, keys[i / DESK_BENCHES]) == 2, "desk_key takes a desk of the old build", i);
-    for (s = 0; s <= DESK_SHEETS; s++) {
-        uint8_t refusal = s < DESK_SHEETS ? 2 : 12;
-        expect(desk_report(old, OLD_TEXTS, of, OLD_NUMBERS, s, 0).answer == refusal, "desk_report takes a desk of the old build", s);
-        for (i = 0; i <= DESK_ITEMS + 1; i++) expect(desk_who(old, OLD_TEXTS, of, OLD_NUMBERS, s, i).answer == refusal, "desk_who takes a desk of the old build", i);
-        expect(desk_file(old, OLD_TEXTS, of, OLD_NUMBERS, s, (const uint8_t *)"camp", 4, paper, DESK_FILE).answer == refusal, "desk_file takes a desk of the old build", s);
-    }
-    for (i = 0; i < DESK_FILE; i++) expect(paper[i] == 0, "a file of a desk of the old build", i);
+    refused(old, OLD_TEXTS, of, OLD_NUMBERS, old_log, sizeof old_log);
     expect(memcmp(was, old, sizeof old) == 0 && memcmp(of_was, of, sizeof of) == 0 && memcmp(log_was, old_log, sizeof old_log) == 0, "a desk of the old build is changed", 0);
 }
 
-/* A fresh desk that was saved with one sheet is no desk. */
-static void one_sheet(void)
+/* Fresh desks that were saved with one sheet, with ten items and with eighteen are no desks. */
+static void earlier_sheets(void)
 {
     memset(texts, 0, sizeof texts);
     memset(numbers, 0, sizeof numbers);
-    expect(desk_fresh(texts, ONE_TEXTS, numbers, ONE_NUMBERS) == 2, "desk_fresh takes a desk of one sheet", ONE_TEXTS);
-    expect(desk_key(texts, ONE_TEXTS, numbers, ONE_NUMBERS, log_bytes, DESK_LOG, 0, 'a') == 2, "desk_key takes a desk of one sheet", ONE_TEXTS);
-    expect(desk_report(texts, ONE_TEXTS, numbers, ONE_NUMBERS, 0, 0).answer == 2, "desk_report takes a desk of one sheet", ONE_TEXTS);
-    expect(set() == 0, "a desk of one sheet is changed", 0);
+    refused(texts, ONE_TEXTS, numbers, ONE_NUMBERS, log_bytes, DESK_LOG);
+    refused(texts, TEN_TEXTS, numbers, TEN_NUMBERS, log_bytes, DESK_LOG);
+    refused(texts, EIGHTEEN_TEXTS, numbers, EIGHTEEN_NUMBERS, log_bytes, DESK_LOG);
+    expect(set() == 0, "a desk of earlier sheets is changed", 0);
 }
 
 static void benches(void)
@@ -218,14 +234,14 @@ static void sheets(void)
     expect(desk_report(texts, DESK_TEXTS, numbers, DESK_NUMBERS, DESK_SHEETS, DESK_PROFILES).answer == 12 && who(DESK_SHEETS, 1).answer == 12, "there is a further sheet", DESK_SHEETS);
     expect(DESK_FILE == 6 + NAME_MOST + DESK_ITEMS * (DESK_LINE + 1), "the room for a file", DESK_FILE);
     expect(DESK_LINE == 200 && DESK_TEXTS == 8400 && DESK_NUMBERS == 159 && DESK_FILE == 3857, "a number that the comments of desk.h tell", 0);
-    expect((DESK_BENCHES + DESK_SHEETS * OLD_ITEMS) * DESK_LINE == 4800 && ONE_TEXTS == 2800 && OLD_TEXTS == 1120, "the texts of an earlier desk that the comments of desk.h tell", 0);
+    expect((DESK_BENCHES + DESK_SHEETS * 18) * DESK_LINE == EIGHTEEN_TEXTS && (DESK_BENCHES + DESK_SHEETS * OLD_ITEMS) * DESK_LINE == TEN_TEXTS && ONE_TEXTS == 2800 && OLD_TEXTS == 1120, "the texts of an earlier desk that the comments of desk.h tell", 0);
 }
 
 int main(void)
 {
     lengths();
     old_build();
-    one_sheet();
+    earlier_sheets();
     benches();
     sheets();
     read_back();

@@ -38,7 +38,7 @@ typedef struct {
 
 probe_line_result probe_line(const uint8_t *text, size_t length);
 
-/* The item of a name, 1 to 10; 0 for none of the ten names. */
+/* The item of a name, 1 to 19; 0 for none of the nineteen names. */
 uint64_t probe_item(const uint8_t *name, size_t length);
 
 #ifdef __cplusplus

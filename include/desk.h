@@ -55,9 +55,9 @@ extern "C" {
  * What stands for sheet 0 at a slot or number below stands for sheet 1 so many further on: DESK_ITEMS
  * slots, or DESK_SHEET_NUMBERS numbers.
  *
- * A desk that was saved with ten items on each sheet has 4800 texts, one that was saved with one sheet
- * 2800, one that was saved when lines had 80 bytes 1120. None of them is a desk any more: every call
- * answers 2, but for 1, 12 and 21 as above, and leaves it as it is.
+ * A desk that was saved with eighteen items on each sheet has 8000 texts, one that was saved with ten
+ * 4800, one that was saved with one sheet 2800, one that was saved when lines had 80 bytes 1120. None of
+ * them is a desk any more: every call answers 2, but for 1, 12 and 21 as above, and leaves it as it is.
  */
 #define DESK_TEXTS ((DESK_BENCHES + DESK_SHEETS * DESK_ITEMS) * DESK_LINE)
 #define DESK_ITEM_NUMBERS 4

@@ -98,5 +98,6 @@ int cif_run(int count, char **words)
         return STATUS_FOUND;
     const char *file = input_name(log == NULL ? "-" : log);
     int status = write_sheet(&reader.desk, asked.first, words[0], path, file);
-    return status == STATUS_DONE ? tell_damage(file, &reader) : status;
+    int damage = tell_damage(file, &reader);
+    return status == STATUS_DONE ? damage : status;
 }

@@ -19,7 +19,8 @@ const char history_usage[] =
     "\n"
     "Exit status: 0 the log was read to its end; 1 it is damaged, or there is no such sheet, or it\n"
     "cannot be read; 2 wrong use. Of a damaged log all that stands before the damage is told, and\n"
-    "standard error tells the byte, the number of the refusal and what it means.\n"
+    "standard error tells the byte, the number of the refusal and what it means. Where the log cannot be\n"
+    "read to its end, the entries before that are told, and the JSON, if there are any, has no damage.\n"
     "\n"
     "Example:\n"
     "\n"
@@ -77,8 +78,11 @@ int history_run(int count, char **words)
     start(&fresh);
     if (no_such_sheet(&fresh, told.of.first))
         return no_sheet(told.of.first);
-    if (!read_log(log, &reader, tell_entry, &told))
+    if (!read_log(log, &reader, tell_entry, &told)) {
+        if (told.json && told.any)
+            puts("]}");
         return STATUS_FOUND;
+    }
     if (told.json) {
         if (!told.any)
             fputs(json_begin, stdout);

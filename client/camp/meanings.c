@@ -24,6 +24,7 @@ static const char *const meanings[] = {
     [18] = "no record of an entry begins here",
     [19] = "this record overwrites a value of another bench",
     [20] = "the log ends inside this record",
+    [21] = "no such profile: 0 is single-crystal, 1 powder",
     [22] = "the helper cannot start",
     [23] = "no count of hydrogens, 0 to 9999, fits the weight",
     [24] = "this count of hydrogens does not fit the weight",

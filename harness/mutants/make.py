@@ -486,14 +486,15 @@ pub(crate) fn mutant(number: usize) -> bool {
 /// A table, made anew when another mutant is switched on.
 macro_rules! table {
     ($kind:ty, $value:expr) => {{
-        static HELD: std::sync::Mutex<Option<(usize, &'static $kind)>> = std::sync::Mutex::new(None);
-        let mut held = HELD.lock().unwrap();
-        match *held {
+        thread_local! {
+            static HELD: std::cell::Cell<Option<(usize, &'static $kind)>> = const { std::cell::Cell::new(None) };
+        }
+        match HELD.get() {
             Some((number, table)) if number == crate::now() => table,
             _ => {
                 let value: $kind = $value;
                 let table: &'static $kind = Box::leak(Box::new(value));
-                *held = Some((crate::now(), table));
+                HELD.set(Some((crate::now(), table)));
                 table
             }
         }

@@ -45,11 +45,13 @@ def listed():
     return reasons
 
 
-def run(numbers, count, seconds):
-    """How each of these mutants is found, None for those that are not. One that ends the program, or does not end, is found."""
+def run(numbers, names, count, seconds):
+    """How each of these mutants is found, None for those that are not. One that ends the program, or does not end, is found. A name begins with
+    the mutant's file; number 0 has none."""
     told, waiting = {}, list(numbers)
     while waiting:
-        words = [TARGET / "release" / "mutants", str(count), *map(str, waiting)]
+        files = [names[number - 1].split(".rs ")[0] if number else "" for number in waiting]
+        words = [TARGET / "release" / "mutants", str(count), *(f"{number}:{file}" for number, file in zip(waiting, files))]
         try:
             lines = subprocess.run(words, stdout=subprocess.PIPE, text=True, timeout=seconds * len(waiting)).stdout
         except subprocess.TimeoutExpired as late:
@@ -63,11 +65,11 @@ def run(numbers, count, seconds):
     return told
 
 
-def run_all(numbers, count, seconds):
+def run_all(numbers, names, count, seconds):
     """The same of many, as many at once as there are processors."""
     at_once = os.cpu_count() or 1
     with ThreadPoolExecutor(at_once) as pool:
-        parts = list(pool.map(lambda at: run(numbers[at::at_once], count, seconds), range(at_once)))
+        parts = list(pool.map(lambda at: run(numbers[at::at_once], names, count, seconds), range(at_once)))
     return {number: how for part in parts for number, how in part.items()}
 
 
@@ -101,9 +103,10 @@ def main():
     tried = range(1, len(names) + 1) if sys.argv[1:] else range(SHARE, len(names) + 1, SHARE)
     expected = [number for number in tried if names[number - 1] not in reasons]
     survivors = [number for number in tried if names[number - 1] in reasons]
-    found = run([0], SHORT, SECONDS[SHORT])
+    found = run([0], names, SHORT, SECONDS[SHORT])
     faults = [] if found[0] is None else [f"the reference itself differs: {found[0]}"]
-    found |= run_all(expected, count, SECONDS[count]) | run_all(survivors, count if count == LONG else 0, SECONDS[count])
+    found |= run_all(expected, names, count, SECONDS[count])
+    found |= run_all(survivors, names, count if count == LONG else 0, SECONDS[count])
     faults += wrong(names, found, reasons)
     if not can_fail(names, found, reasons):
         faults.append("a wrong list is not told")

@@ -73,6 +73,37 @@ impl Plan {
     }
 }
 
+/// What is compared for one subject: generated inputs and fixed lists.
+#[derive(Clone, Copy, Debug, PartialEq, Eq)]
+pub enum Part {
+    Texts,
+    Sheets,
+    Keys,
+    Memories,
+    Sequences,
+    Camps,
+    Files,
+    Logs,
+    Symmetry,
+    Moieties,
+    Hydrogens,
+}
+
+/// All of them.
+pub const PARTS: [Part; 11] = [
+    Part::Texts,
+    Part::Sheets,
+    Part::Keys,
+    Part::Memories,
+    Part::Sequences,
+    Part::Camps,
+    Part::Files,
+    Part::Logs,
+    Part::Symmetry,
+    Part::Moieties,
+    Part::Hydrogens,
+];
+
 /// One named check and what it compared.
 pub struct Group {
     pub name: &'static str,
@@ -110,7 +141,7 @@ pub fn compare<'a>(
     plan: &Plan,
 ) -> Comparison<'a> {
     let mut run = Comparison::new(tested, expected, gathered, plan);
-    run.whole(plan);
+    run.some(plan, &PARTS);
     run
 }
 
@@ -129,19 +160,21 @@ pub fn moieties<'a>(
 /// What unwinds a run that its first difference ends.
 struct Difference(String);
 
-/// The first difference, or that a program panicked, or an answer that was never seen; none where the
-/// comparison passes.
+/// The first difference in these parts, or that a program panicked, or, of all parts, an answer that was
+/// never seen; none where the comparison passes.
 pub fn first_difference(
     tested: &dyn Program,
     expected: &dyn Program,
     gather: Gather,
     plan: &Plan,
+    parts: &[Part],
 ) -> Option<String> {
     let run = AssertUnwindSafe(|| {
         let mut run = Comparison::new(tested, expected, gather, plan);
         run.ends = true;
-        run.whole(plan);
-        run.missing().first().map(|answer| format!("never seen: {answer}"))
+        run.some(plan, parts);
+        let missing = if parts == PARTS { run.missing() } else { vec![] };
+        missing.first().map(|answer| format!("never seen: {answer}"))
     });
     catch_unwind(run).unwrap_or_else(|panic| match panic.downcast::<Difference>() {
         Ok(difference) => Some(difference.0),
@@ -189,29 +222,36 @@ impl<'a> Comparison<'a> {
         }
     }
 
-    /// First what is generated, then the fixed lists.
-    fn whole(&mut self, plan: &Plan) {
-        self.some_texts(plan);
-        self.some_sheets(plan);
-        self.some_keys(plan);
-        self.some_memories(plan);
-        self.some_sequences(plan);
-        self.some_camps(plan);
-        self.some_files(plan);
-        self.some_logs(plan);
-        self.some_symmetry(plan);
-        self.some_moieties(plan);
-        self.some_hydrogens(plan);
-        if plan.lists {
-            self.listed_sheets();
-            self.listed_keys(plan);
-            self.listed_sequences();
-            self.listed_files();
-            self.listed_symmetry();
-            self.listed_texts();
-            self.listed_hydrogens();
-            self.listed_moieties();
-            self.listed_logs(plan);
+    /// Of some parts first what is generated, then the fixed lists.
+    fn some(&mut self, plan: &Plan, parts: &[Part]) {
+        for part in parts {
+            match part {
+                Part::Texts => self.some_texts(plan),
+                Part::Sheets => self.some_sheets(plan),
+                Part::Keys => self.some_keys(plan),
+                Part::Memories => self.some_memories(plan),
+                Part::Sequences => self.some_sequences(plan),
+                Part::Camps => self.some_camps(plan),
+                Part::Files => self.some_files(plan),
+                Part::Logs => self.some_logs(plan),
+                Part::Symmetry => self.some_symmetry(plan),
+                Part::Moieties => self.some_moieties(plan),
+                Part::Hydrogens => self.some_hydrogens(plan),
+            }
+        }
+        for part in parts.iter().filter(|_| plan.lists) {
+            match part {
+                Part::Texts => self.listed_texts(),
+                Part::Sheets => self.listed_sheets(),
+                Part::Keys => self.listed_keys(plan),
+                Part::Memories | Part::Camps => {}
+                Part::Sequences => self.listed_sequences(),
+                Part::Files => self.listed_files(),
+                Part::Logs => self.listed_logs(plan),
+                Part::Symmetry => self.listed_symmetry(),
+                Part::Moieties => self.listed_moieties(),
+                Part::Hydrogens => self.listed_hydrogens(),
+            }
         }
     }
 

@@ -148,8 +148,9 @@ pub fn names_by_length() -> impl Iterator<Item = Vec<u8>> {
     lengths.flat_map(|length| b"aZ09-".map(|byte| vec![byte; length]))
 }
 
-/// Every subset of items 1 to 10 filled, and with it all of the others or none: with short values, with
-/// the longest in either quotes, and unassigned. So also every number of filled items.
+/// Every subset of items 1 to 10 filled, and of the items from 11 on those that stand at its places; and
+/// the first items up to each: with short values, with the longest in either quotes, and unassigned. So
+/// also every number of filled items.
 pub fn subsets() -> impl Iterator<Item = Desk> {
     let sets = [short_values(), longest_values(b'\''), longest_values(b'"'), unassigned_values()];
     sets.into_iter().flat_map(|values| {

@@ -6,6 +6,7 @@ mod bench;
 pub mod boundary;
 mod broken;
 mod by_reference;
+mod camp_hydrogen;
 mod camp_symmetry;
 mod cif_files;
 mod client;
@@ -77,6 +78,9 @@ const USAGE: &str = "usage: harness MODE
   desk-runs PROGRAM SEED COUNT    run the program desk on generated inputs
   cif-runs PROGRAM SEED COUNT     run the program's command cif on generated inputs and block names
   desk-input SEED                 write one such input
+  hydrogen-input SEED             write an input that types formulas and weights
+  hydrogen-line SHEET             the line that camp hydrogen must propose for a sheet that the input
+                                  leaves, nothing where it proposes none
   frames FOLDER, frames SEED COUNT FOLDER, example-frames FOLDER
                                   write calls for a program that reads them, fixed ones, generated ones or
                                   the measured examples alone, to the file stdin, and what it must answer
@@ -160,6 +164,14 @@ fn run(words: &[&str]) -> Outcome {
         ["desk-input", seed] => {
             let input = Sequences::new(number(2, seed)?).desk_input();
             done(output.write_all(&input).and_then(|()| output.flush()))
+        }
+        ["hydrogen-input", seed] => {
+            let input = camp_hydrogen::input(number(2, seed)?);
+            done(output.write_all(&input).and_then(|()| output.flush()))
+        }
+        ["hydrogen-line", sheet @ ("0" | "1")] => {
+            let line = camp_hydrogen::line(&whole_input()?, usize::from(*sheet == "1"));
+            write(line.into_iter().map(String::into_bytes), output)
         }
         ["example-frames", folder] => frames::write_examples(Path::new(folder)).and(DONE),
         ["frames", folder] => frames::write_lists(Path::new(folder)).and(DONE),

@@ -8,11 +8,14 @@ use crate::memory::{held, put, put_reader};
 use crate::random::Random;
 use crate::sheets::Sheets;
 use reference::desk::{record, BENCHES, LOG_LIMIT, RECORD_HEAD, SHEETS};
-use reference::line::{BYTES, LIMIT};
+use reference::line::{ACCEPTED, BYTES, LIMIT};
 use reference::names::{passes, Kind, ITEMS};
 use reference::reader::{Reader, BAD_SHAPE, END_INSIDE, FOREIGN_OVERWRITE, LENGTHS};
 use reference::value::form;
 
+/// How a reading may stand, in turn: going on, or over with an answer.
+const OVER: [Option<u8>; 6] =
+    [None, Some(ACCEPTED), Some(BAD_SHAPE), None, Some(FOREIGN_OVERWRITE), Some(END_INSIDE)];
 /// What a record can lack.
 pub const FAULTS: [&str; 9] =
     ["length", "kind", "bench", "item", "form", "item's kind", "byte", "line", "limit"];
@@ -80,13 +83,15 @@ impl Logs {
 
     /// One or two bytes changed.
     fn damage(&mut self, log: &mut [u8]) {
+        let no_item = ITEMS.len() as u8 + 1;
+        let telling = [0, 1, 2, 3, 4, 6, 7, no_item, 206, 207, b' ', b'\'', 127];
         for _ in 0..self.random.pick(&[1, 1, 2]) {
             if !log.is_empty() {
                 let at = self.random.below(log.len());
                 log[at] = match self.random.below(3) {
                     0 => self.random.byte(),
                     1 => log[at] ^ 1 << self.random.below(8),
-                    _ => self.random.pick(&[0, 1, 2, 3, 4, 6, 7, 11, 206, 207, b' ', b'\'', 127]),
+                    _ => self.random.pick(&telling),
                 };
             }
         }
@@ -144,19 +149,21 @@ impl Logs {
         parts
     }
 
-    /// A reader in the middle of a log, on a sound desk.
-    fn reader(&mut self) -> (State, Stick) {
+    /// A reader in the middle of a log, on a sound desk. By its number it is over or not; one that is over
+    /// has kept bytes too.
+    fn reader(&mut self, number: u64) -> (State, Stick) {
         let (State { desk, used, .. }, mut stick) = (self.desks.sound(), Stick::zeros());
         let next = record(3, 4, b"0.123456");
         let kept = &next[..self.random.below(next.len())];
-        let reader = Reader { desk, start: used, kept: kept.to_vec(), over: None };
+        let over = OVER[number as usize % OVER.len()];
+        let reader = Reader { desk, start: used, kept: kept.to_vec(), over };
         put_reader(&mut State::fresh(0, 0).memory(), &mut stick, &reader);
         (State { desk, log: vec![], used }, stick)
     }
 
-    /// A reader that has kept the first bytes of a log, with anything behind them, and the log's rest.
-    pub fn begun(&mut self) -> (Memory, Stick, Vec<u8>) {
-        let (state, mut stick) = self.reader();
+    /// Such a reader that has kept the first bytes of a log, with anything behind them, and the log's rest.
+    pub fn begun(&mut self, number: u64) -> (Memory, Stick, Vec<u8>) {
+        let (state, mut stick) = self.reader(number);
         let (log, most) = (self.log(6), self.random.below(30));
         let kept = log.len().min(most);
         let kept = (0..=kept).rev().find(|&end| is_undecided(&log[..end])).unwrap_or(0);
@@ -196,7 +203,7 @@ pub fn fault(log: &[u8], place: usize) -> usize {
     1 + tests.iter().position(|holds| !holds).unwrap_or(FAULTS.len())
 }
 
-/// How often a log is damaged at one byte.
+/// What each byte of a log is changed to.
 pub const OTHER_BYTES: [u8; 8] = [0, 1, BENCHES as u8, 7, ITEMS.len() as u8 + 1, b'x', 0x80, 0xff];
 
 type Break = fn(&mut Memory, &mut Stick, &mut Random);
@@ -270,19 +277,20 @@ pub fn each_broken_reader(
     for number in 0..count {
         each_way(&mut Desks::new(seed.wrapping_add(number)), &mut random, |way, state, random| {
             if way < DESK_WAYS {
-                given(number, way, state.memory(), logs.reader().1, random);
+                let (_, stick) = logs.reader(seed.wrapping_add(number + way as u64));
+                given(number, way, state.memory(), stick, random);
             }
         });
-        let (state, stick) = loop {
-            let (state, stick) = logs.reader();
-            if state.desk.sheets.iter().any(|sheet| sheet.count > 0) {
-                break (state, stick);
-            }
-        };
-        for (at, (_, change)) in READER_WAYS.iter().enumerate() {
-            let (mut memory, mut stick) = (state.memory(), stick.clone());
+        for (at, (_, change)) in (DESK_WAYS..).zip(&READER_WAYS) {
+            let (state, mut stick) = loop {
+                let (state, stick) = logs.reader(seed.wrapping_add(number + at as u64));
+                if state.desk.sheets.iter().any(|sheet| sheet.count > 0) {
+                    break (state, stick);
+                }
+            };
+            let mut memory = state.memory();
             change(&mut memory, &mut stick, &mut random);
-            given(number, DESK_WAYS + at, memory, stick, &mut random);
+            given(number, at, memory, stick, &mut random);
         }
     }
 }

@@ -12,15 +12,19 @@ pub const ITEMS: usize = 8;
 /// Numbers that are none of a profile: neighbours, and what a cut-off number would turn into one.
 pub const OTHER_PROFILES: [u64; 9] =
     [2, 3, 255, 256, 257, 1 << 16, 1 << 32, (1 << 32) + 1, u64::MAX];
+/// Rows 20 to 24 with the items that they compare.
+pub const COMPARED: [(usize, &[usize]); 5] =
+    [(20, &[12, 13]), (21, &[12, 13, 14]), (22, &[11, 12]), (23, &[12, 13]), (24, &[15, 16, 17])];
 /// Numbers that are zero, and such as are not.
 pub const ZEROS: [&str; 9] =
     ["0", "0.0000", "-0.0", "0(5)", "0.", ".0", "+0", "-.0(12)", "000000000"];
 const NOT_ZEROS: [&str; 6] = ["0.000001", "-0.000001", "0.03", "1", "-.5(3)", "0.0310(12)"];
 /// Numbers of reflections that are equal, one millionth beside, and far.
-const REFLECTIONS: [&str; 8] = ["", "?", "5", "5.0(9)", "4.999999", "+5.000001", "-5", "999999999"];
+const REFLECTIONS: [&str; 9] =
+    ["", "?", "5", "5.", "5.0(9)", "4.999999", "+5.000001", "-5", "999999999"];
 const EQUIVALENTS: [&str; 7] = ["", ".", "0.0000", "-0.0", "0(5)", "0.03", "-.000001"];
 /// The same for sizes.
-const SIZES: [&str; 8] = ["", ".", "0.2", ".20(5)", "0.200001", "+.199999", "-0.2", "3"];
+const SIZES: [&str; 9] = ["", ".", "0.2", ".20(5)", "0.200001", "+.199999", "-0.2", "3", "3."];
 /// A value for each of the items, with no alert.
 const WITHOUT_ALERT: [&str; ITEMS] = ["8", "7", "6", "0.03", "0.3", "0.2", "0.1", "0.71073"];
 

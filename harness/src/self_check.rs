@@ -20,7 +20,7 @@ use crate::boundary::{
     Stick, Told,
 };
 use crate::by_reference::{gathered, Reference};
-use crate::compare::{compare, first_difference, Gather, Plan};
+use crate::compare::{compare, first_difference, Part, Plan};
 use crate::memory::{held, put};
 use crate::program::Program;
 use crate::tally::Tally;
@@ -89,29 +89,49 @@ fn change(memory: &mut Memory, change: impl FnOnce(&mut Desk)) {
     }
 }
 
+/// Faults that must be found in these parts of the comparison, and no others are run.
+type Faults = (&'static [Part], &'static [(&'static str, Wrong)]);
+
+const FAULTS: [Faults; 13] = [
+    (&[Part::Texts], &texts::FAULTS),
+    (&[Part::Sheets], &rows::FAULTS),
+    (&[Part::Memories, Part::Sheets], &powder::FAULTS),
+    (&[Part::Moieties, Part::Sheets], &moieties::FAULTS),
+    (&[Part::Hydrogens, Part::Memories], &hydrogens::FAULTS),
+    (&[Part::Keys, Part::Memories, Part::Sequences], &keys::FAULTS),
+    (&[Part::Memories, Part::Sequences], &questions::FAULTS),
+    (&[Part::Memories, Part::Sequences, Part::Files], &times::FAULTS),
+    (&[Part::Sequences], &owners::FAULTS),
+    (&[Part::Memories, Part::Sequences, Part::Files], &camps::FAULTS),
+    (&[Part::Files, Part::Memories], &files::FAULTS),
+    (&[Part::Logs], &logs::FAULTS),
+    (&[Part::Symmetry], &symmetry::FAULTS),
+];
+
+/// Faults of both programs at once, each of which only this part tells: the log's bytes, two runs held side
+/// by side, or a file typed back.
+const IN_BOTH: [(Part, &str, &Wrong); 4] = [
+    (Part::Sequences, times::FAULTS[0].0, &times::FAULTS[0].1),
+    (Part::Camps, camps::FAULTS[0].0, &camps::FAULTS[0].1),
+    (Part::Camps, camps::EMPTIED_BY_8.0, &camps::EMPTIED_BY_8.1),
+    (Part::Files, camps::OTHER_COUNTED.0, &camps::OTHER_COUNTED.1),
+];
+
 /// Prints one line for each fault; answers how many were found and how many not.
 pub fn run() -> (usize, usize) {
-    let lists: [&[(&str, Wrong)]; 13] = [
-        &texts::FAULTS,
-        &rows::FAULTS,
-        &powder::FAULTS,
-        &moieties::FAULTS,
-        &hydrogens::FAULTS,
-        &keys::FAULTS,
-        &questions::FAULTS,
-        &times::FAULTS,
-        &owners::FAULTS,
-        &camps::FAULTS,
-        &files::FAULTS,
-        &logs::FAULTS,
-        &symmetry::FAULTS,
-    ];
-    let faults = lists.into_iter().flatten();
-    let mut results: Vec<(String, bool)> =
-        faults.map(|(name, wrong)| found(name, wrong, gathered)).collect();
-    results.extend(questions::ORDERS.map(|(name, order)| found(name, &Reference, order)));
-    results.push(found_in_both(&times::FAULTS[0]));
-    results.push(found_in_both(&camps::FAULTS[0]));
+    let mut results = vec![];
+    for (parts, faults) in FAULTS {
+        results.extend(faults.iter().map(|(name, wrong)| {
+            told(name, first_difference(wrong, &Reference, gathered, &PLAN, parts))
+        }));
+    }
+    results.extend(questions::ORDERS.map(|(name, order)| {
+        told(name, first_difference(&Reference, &Reference, order, &PLAN, &[Part::Sequences]))
+    }));
+    results.extend(IN_BOTH.map(|(part, name, wrong)| {
+        let name = format!("{name}, in both");
+        told(&name, first_difference(wrong, wrong, gathered, &PLAN, &[part]))
+    }));
     let none = compare(&Reference, &Reference, &PLAN);
     let same = none.differences() == 0 && none.missing().is_empty();
     let never =
@@ -123,15 +143,6 @@ pub fn run() -> (usize, usize) {
     }
     let passed = results.iter().filter(|(_, passed)| *passed).count();
     (passed, results.len() - passed)
-}
-
-/// A fault of both programs, which only the log's bytes tell, or two runs held side by side.
-fn found_in_both((name, wrong): &(&str, Wrong)) -> (String, bool) {
-    told(&format!("{name}, in both"), first_difference(wrong, wrong, gathered, &PLAN))
-}
-
-fn found(name: &str, wrong: &dyn Program, gather: Gather) -> (String, bool) {
-    told(name, first_difference(wrong, &Reference, gather, &PLAN))
 }
 
 fn told(name: &str, difference: Option<String>) -> (String, bool) {

@@ -215,7 +215,7 @@ impl Sequences {
     fn places(&mut self) -> Vec<usize> {
         match self.random.below(4) {
             0 => (0..=self.random.below(2)).map(|_| self.random.below(ITEMS.len())).collect(),
-            _ => vec![0, 0, 1, 1, 2, 2, 3, 4, 5, 6, 7, 8, 9],
+            _ => (0..ITEMS.len()).chain([0, 1, 2]).collect(),
         }
     }
 

@@ -38,9 +38,14 @@ const WITHOUT_CARBON: &[&str] = &[
 /// What stands around a point that lacks digits on a side: numbers where it is first or last, none
 /// where it is alone.
 const AROUND_POINT: &[&str] = &["plain", "signed", "uncertain", "both"];
+/// Rows 20 to 24, and on which side a number has its point that they compare.
+const POINT_COMPARED: &[&str] = &[
+    "20 first", "20 last", "21 first", "21 last", "22 first", "22 last", "23 first", "23 last",
+    "24 first", "24 last",
+];
 
 /// Each question with its possible answers; an answer without a name is none.
-const QUESTIONS: [(&str, &[&str]); 78] = [
+const QUESTIONS: [(&str, &[&str]); 83] = [
     ("line", &["0", "5", "6", "7"]),
     ("row 6", GRADES),
     ("row 8", GRADES),
@@ -78,6 +83,7 @@ const QUESTIONS: [(&str, &[&str]); 78] = [
     ("point, line", &["first 0", "last 0", "alone 0", "alone 7"]),
     ("point, entry", &["first", "last"]),
     ("point, row 12", &["first 0/0", "last 0/0", "last 2/0", "last 3/0", "last 4/0", "alone 2/2"]),
+    ("point, row", POINT_COMPARED),
     ("operator", &["0", "13"]),
     ("its letters", &["1", "2", "3"]),
     ("it begins", &["bare", "with +", "with -"]),
@@ -101,11 +107,15 @@ const QUESTIONS: [(&str, &[&str]); 78] = [
     ("9 with", &["room", "exact room", "one byte less", "no room"]),
     ("9 of", &["a value", "?", "."]),
     ("of one sheet", REFUSED),
+    ("of ten items", REFUSED),
+    ("of 18 items", REFUSED),
     ("asked sheet", &["Report 0", "Report 1", "Who 0", "Who 1", "file 0", "file 1"]),
     ("on the other", &["empty", "filled"]),
-    ("camps apart", &["camp 0", "camp 1", "with 8, equal", "with 8, not"]),
+    ("camps apart", &["camp 0", "camp 1", "other's 8", "own 8, equal", "own 8, not"]),
     ("log's part", &["0", "0 again", "18", "18 again", "19", "19 again", "20", "20 again"]),
     ("bytes kept", &["none", "1 to 5", "more"]),
+    ("reader, kept", STANDS),
+    ("reader gets 2", STANDS),
     ("18 for a", &FAULTS),
     ("20 after", &["1 to 5 bytes", "more"]),
     ("log grown", &["of nothing", "of entries"]),
@@ -121,7 +131,21 @@ const QUESTIONS: [(&str, &[&str]); 78] = [
     ("checked", &["one below", "smallest", "largest", "one above", "9999", "beyond 9999"]),
 ];
 /// What a desk of an earlier build is answered.
-const REFUSED: &[&str] = &["fresh 2", "key 2", "key 1", "Report 2", "Who 2", "file 2", "12", "21"];
+const REFUSED: &[&str] = &[
+    "fresh 2",
+    "key 2",
+    "key 1",
+    "Report 2",
+    "Who 2",
+    "file 2",
+    "12",
+    "21",
+    "feed 2",
+    "hydrogens 2",
+    "right 2",
+];
+/// How a reading stands: going on, or over with an answer.
+const STANDS: &[&str] = &["going on", "ended", "18", "19", "20"];
 /// The places of a row of an operator.
 const PLACES: &[&str] = &["1", "2", "3", "4", "5", "6", "7", "8", "9", "10", "11", "12"];
 /// The items by number, after none; and how many of them may be filled.
@@ -185,6 +209,7 @@ pub enum Question {
     PointLine,
     PointEntry,
     PointMultiplier,
+    PointCompared,
     Operator,
     PartLetters,
     PartBegins,
@@ -208,11 +233,15 @@ pub enum Question {
     NotOwnerRoom,
     NotOwnerValue,
     OneSheet,
+    TenItems,
+    EighteenItems,
     AskedSheet,
     OnOtherSheet,
     Camps,
     Fed,
     Kept,
+    KeptStands,
+    BrokenStands,
     BadShape,
     EndInside,
     Grown,

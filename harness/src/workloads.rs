@@ -144,14 +144,14 @@ fn reports(inputs: usize) -> (usize, Round) {
     (inputs, Box::new(round))
 }
 
-/// Keys of four benches at two sheets of which nine items each are filled, each key a call.
+/// Keys of four benches at two sheets of which eighteen items each are filled, each key a call.
 fn keys(inputs: usize) -> (usize, Round) {
     let (_, start) = nearly_full();
     let calls = keys_from(&start, inputs);
     (inputs, played(start, vec![calls]))
 }
 
-/// The same keys, after those that fill the nine items of each.
+/// The same keys, after those that fill the eighteen items of each.
 fn session(inputs: usize) -> (usize, Round) {
     let (first, start) = nearly_full();
     let calls = [first, keys_from(&start, inputs)].concat();

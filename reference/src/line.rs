@@ -14,7 +14,7 @@ pub const BYTES: RangeInclusive<u8> = 32..=126;
 pub const ACCEPTED: u8 = 0;
 /// "the line is not of the form below (the empty line too)"
 pub const NOT_A_LINE: u8 = 5;
-/// "the name is none of the ten"
+/// "the name is none of the ten"; document 02, No. 11 and 12: of the nineteen
 pub const NO_SUCH_NAME: u8 = 6;
 /// "the value fails its item's kind"
 pub const WRONG_KIND: u8 = 7;

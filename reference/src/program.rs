@@ -28,7 +28,7 @@ pub fn cif_program(input: &[u8], sheet: usize, block: &[u8]) -> Option<Vec<u8>> 
 }
 
 /// The desk after an input; refusals are passed over.
-fn played(input: &[u8]) -> Desk {
+pub fn played(input: &[u8]) -> Desk {
     let (mut desk, mut log, mut used) = (FRESH, [0; LOG], 0);
     for (bench, byte) in keys(input) {
         key(&mut desk, &mut log, &mut used, bench, byte);

@@ -1,6 +1,7 @@
 //! The camps do not see each other: document 02, request No. 9. "For two runs with the same calls by one
 //! camp in the same order, in which no Enter gets 8, that camp's answers, sheet and lines are equal
-//! whatever keys the other camp presses."
+//! whatever keys the other camp presses." More is proved (as-if-alone), and held here: only an 8 of the
+//! camp's own Enters may make them differ.
 
 use super::sequences::Played;
 use super::{from_seeds, Comparison, Plan};
@@ -40,24 +41,29 @@ impl Comparison<'_> {
         let (Some(first), Some(second)) = (first, second) else {
             return;
         };
-        let full = gets_8(&runs[0], &first) || gets_8(&runs[1], &second);
+        let gets_8 = |own: bool| {
+            let counts = |call: &Call| !own || is_own(*camp, call);
+            gets_8(&runs[0], &first, counts) || gets_8(&runs[1], &second, counts)
+        };
+        let (full, own_full) = (gets_8(false), gets_8(true));
         let same = seen(*camp, &runs[0], &first) == seen(*camp, &runs[1], &second);
         self.group().answers += 1;
-        let place_in_list = match (full, same) {
-            (false, _) => *camp,
-            (true, true) => 2,
-            (true, false) => 3,
+        let place_in_list = match (full, own_full, same) {
+            (false, ..) => *camp,
+            (_, false, _) => 2,
+            (.., true) => 3,
+            (.., false) => 4,
         };
         self.tally.note(Question::Camps, place_in_list);
-        if !full && !same {
+        if !own_full && !same {
             self.different(|| format!("{place}: camp {camp} sees what the other camp does"));
         }
     }
 }
 
-/// Whether an Enter gets 8.
-fn gets_8(calls: &[Call], (answers, _): &Played) -> bool {
-    let is_enter = |call: &Call| matches!(call, Call::Key { byte: ENTER, .. });
+/// Whether an Enter that counts gets 8.
+fn gets_8(calls: &[Call], (answers, _): &Played, counts: impl Fn(&Call) -> bool) -> bool {
+    let is_enter = |call: &Call| matches!(call, Call::Key { byte: ENTER, .. }) && counts(call);
     calls.iter().zip(answers).any(|(call, answer)| is_enter(call) && answer.number() == LOG_FULL)
 }
 

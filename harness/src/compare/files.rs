@@ -9,7 +9,9 @@ use crate::memory::held;
 use crate::program::Program;
 use crate::tally::Question;
 use reference::cif_file::{BAD_BLOCK_NAME, BLOCK_LENGTHS, LINE_END, NO_ROOM};
-use reference::desk::{Desk, Sheet, BENCHES, LOG_LIMIT, NOT_SOUND, NO_SUCH_SHEET, RECORD_HEAD};
+use reference::desk::{
+    Desk, Sheet, BENCHES, FRESH, LOG_LIMIT, NOT_SOUND, NO_SUCH_SHEET, RECORD_HEAD,
+};
 use reference::line::ACCEPTED;
 use std::fmt::Display;
 
@@ -152,7 +154,7 @@ pub(super) fn file_place(filed: &Filed) -> usize {
 
 /// Types the lines of a sheet's file after its first into a fresh desk by one bench. The log has exactly
 /// enough room, or so many bytes more, or none is a log of the limit. What is wrong: a call that is
-/// not accepted, or a value that is not there again on the bench's sheet.
+/// not accepted, a value that is not there again on the bench's sheet, or something on another sheet.
 fn typed_back(
     program: &dyn Program,
     sheet: &Sheet,
@@ -171,7 +173,12 @@ fn typed_back(
         }
     }
     let (again, used) = held(&memory)?;
-    let again = again.sheets[bench / OF_SHEET].items;
+    let own = bench / OF_SHEET;
+    let mut others = (0..).zip(&again.sheets).filter(|(at, _)| *at != own);
+    if let Some((at, _)) = others.find(|(_, other)| **other != FRESH.sheets[0]) {
+        return Some(format!("sheet {at} is not empty"));
+    }
+    let again = again.sheets[own].items;
     for (number, (again, typed)) in (1..).zip(again.iter().zip(sheet.items)) {
         if (again.len, again.value) != (typed.len, typed.value) {
             return Some(format!("item {number} is {}", hex(&again.value)));

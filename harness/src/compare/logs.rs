@@ -17,21 +17,23 @@ use reference::reader::{BAD_SHAPE, END_INSIDE, FOREIGN_OVERWRITE};
 use std::fmt::Display;
 
 /// One log for each thousand lines, one that is read byte by byte or cut and damaged everywhere, one about
-/// the limit and one broken reader for each twenty thousand; one grown log for each five hundred.
+/// the limit and one reader broken in every way for each twenty thousand; one grown log for each five
+/// hundred, one sound reader for each hundred.
 const LOGS_ONE_IN: u64 = 1000;
 const LONG_ONE_IN: u64 = 20_000;
 const GROWN_ONE_IN: u64 = 500;
+const READERS_ONE_IN: u64 = 100;
 /// What marks the last part.
 const LAST: [u8; 3] = [1, 2, 255];
 
 /// A reader in the hands of both programs.
-struct Readers {
-    tested: (Memory, Stick),
+pub(super) struct Readers {
+    pub tested: (Memory, Stick),
     expected: (Memory, Stick),
 }
 
 impl Readers {
-    fn new(memory: Memory, stick: Stick) -> Self {
+    pub fn new(memory: Memory, stick: Stick) -> Self {
         Readers { tested: (memory.clone(), stick.clone()), expected: (memory, stick) }
     }
 
@@ -49,7 +51,7 @@ impl Comparison<'_> {
         self.seeded(plan, from_seeds!("logs byte by byte"), LONG_ONE_IN, Self::byte_by_byte);
         self.seeded(plan, from_seeds!("logs about the limit"), LONG_ONE_IN, Self::about_limit);
         self.seeded(plan, from_seeds!("grown logs"), GROWN_ONE_IN, Self::grown_logs);
-        self.seeded(plan, from_seeds!("readers"), LOGS_ONE_IN, Self::sound_readers);
+        self.seeded(plan, from_seeds!("readers"), READERS_ONE_IN, Self::sound_readers);
         self.seeded(plan, from_seeds!("broken readers"), LONG_ONE_IN, Self::broken_readers);
     }
 
@@ -126,14 +128,17 @@ impl Comparison<'_> {
         }
     }
 
-    /// Readers in the middle of a log, on any sound desk, with anything behind their kept bytes: some parts
-    /// of the log's rest.
+    /// Readers in the middle of a log or over, on any sound desk, with anything behind their kept bytes: some
+    /// parts of the log's rest.
     fn sound_readers(&mut self, name: &'static str, seed: u64, count: u64) {
         self.begin(name);
         let mut logs = Logs::new(seed.rotate_left(14));
         for number in 0..count {
             self.group().inputs += 1;
-            let (memory, stick, rest) = logs.begun();
+            let (memory, stick, rest) = logs.begun(number);
+            if stick.state[0] > 0 {
+                self.note_stands(Question::KeptStands, &stick);
+            }
             let (mut readers, place) =
                 (Readers::new(memory, stick), format_args!("{name}, reader {number}"));
             let parts = logs.parts(&rest);
@@ -167,6 +172,7 @@ impl Comparison<'_> {
                 self.different(|| format!("{name}, reader {number}, {}: not refused", way(at)));
             }
             self.tally.note_reader(at, refused);
+            self.note_stands(Question::BrokenStands, &stick);
         });
     }
 
@@ -320,7 +326,7 @@ impl Comparison<'_> {
     }
 
     /// One part by both programs: the answers and all that is lent held equal.
-    fn feed(
+    pub(super) fn feed(
         &mut self,
         readers: &mut Readers,
         part: &[u8],
@@ -344,6 +350,13 @@ impl Comparison<'_> {
             });
         }
         same.then_some(tested)
+    }
+
+    /// Counts how a reading stands.
+    fn note_stands(&mut self, question: Question, stick: &Stick) {
+        let stands = stick.state.get(1).copied();
+        let place = [0, 1, 18, 19, 20].iter().position(|number| Some(*number) == stands);
+        self.tally.note(question, place.unwrap_or(usize::MAX));
     }
 
     /// Counts what a whole log came to.

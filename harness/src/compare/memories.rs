@@ -2,18 +2,19 @@
 //! random ones, and on memory of other lengths.
 
 use super::calls::Both;
+use super::logs::Readers;
 use super::{from_seeds, Comparison, Plan};
-use crate::boundary::{Memory, Proposed, DESK_FILE, DESK_NUMBERS, DESK_TEXTS};
+use crate::boundary::{Fed, Memory, Proposed, Stick, DESK_FILE, DESK_NUMBERS, DESK_TEXTS};
 use crate::broken::{each_broken, WAYS};
 use crate::desks::Desks;
-use crate::old_build::{BEFORE_LINES_OF_200, BEFORE_SHEETS, BEFORE_TIMES};
+use crate::old_build::BUILDS;
 use crate::powder::OTHER_PROFILES;
 use crate::program::Call;
 use crate::random::Random;
 use crate::session::{OTHER_BENCHES, OTHER_SHEETS};
 use crate::tally::{Question, CALLS};
 use reference::desk::{
-    BENCHES, EMPTY, ENTER, ERASE, NOT_SOUND, NO_SUCH_BENCH, NO_SUCH_SHEET, SHEETS,
+    record, BENCHES, EMPTY, ENTER, ERASE, NOT_SOUND, NO_SUCH_BENCH, NO_SUCH_SHEET, SHEETS,
 };
 use reference::names::ITEMS;
 use reference::powder::{NO_SUCH_PROFILE, PROFILES};
@@ -78,11 +79,13 @@ impl Comparison<'_> {
         self.begin(name);
         let mut desks = Desks::new(seed.rotate_left(56));
         for number in 0..count {
-            for (build, question) in [
-                (BEFORE_LINES_OF_200, Question::OldBuild),
-                (BEFORE_TIMES, Question::OldNumbers),
-                (BEFORE_SHEETS, Question::OneSheet),
-            ] {
+            for (build, question) in BUILDS.into_iter().zip([
+                Question::OldBuild,
+                Question::OldNumbers,
+                Question::OneSheet,
+                Question::TenItems,
+                Question::EighteenItems,
+            ]) {
                 let mut saved = build.saved(&mut desks);
                 if number == 0 {
                     saved.texts.fill(0);
@@ -107,6 +110,21 @@ impl Comparison<'_> {
                 let filed = self.file(&both, sheet, block, room, place);
                 refused.push((at, filed.is_some_and(|(filed, _)| filed.answer == number)));
             }
+        }
+        let is_refusal =
+            |told: Option<Proposed>, number| told.is_some_and(|told| told.answer == number);
+        for (sheet, at, number) in of_sheets(9) {
+            refused.push((at, is_refusal(self.proposed(&both, sheet, place), number)));
+        }
+        for (sheet, at, number) in of_sheets(10) {
+            refused.push((at, is_refusal(self.checked(&both, sheet, 20, place), number)));
+        }
+        let (part, stick) = (record(0, 4, b"0.16"), Stick::zeros());
+        for (part, last) in [(&part[..0], 0), (&part[..5], 0), (&part[..], 0), (&part[..], 1)] {
+            let mut readers = Readers::new(saved.clone(), stick.clone());
+            let fed = self.feed(&mut readers, part, last, place);
+            let same = readers.tested == (saved.clone(), stick.clone());
+            refused.push((8, same && fed == Some(Fed { place: 0, answer: NOT_SOUND })));
         }
         if both.tested != saved || refused.iter().any(|(_, so)| !so) {
             return self.different(|| format!("{place}: a desk of the old build is taken over"));

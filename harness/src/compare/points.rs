@@ -4,10 +4,12 @@ use super::calls::of_sheet;
 use super::Comparison;
 use crate::boundary::{Memory, Row, DESK_ITEMS, DESK_ITEMS_SLOT, DESK_LINE};
 use crate::points::{multiplier, Pointed, Side};
+use crate::powder::COMPARED;
 use crate::tally::Question;
 use reference::line::{ACCEPTED, WRONG_KIND};
 use reference::names::{Kind, ITEMS};
 use reference::number::{DIGITS, PLACES};
+use reference::rows::{Values, ROWS};
 
 impl Comparison<'_> {
     /// A text that was read as a number or not.
@@ -47,7 +49,7 @@ impl Comparison<'_> {
         self.tally.note(Question::PointLine, place);
     }
 
-    /// An accepted entry of a sheet's item, 1 to 10.
+    /// An accepted entry of a sheet's item, 1 to 19.
     pub(super) fn note_entry(&mut self, after: &Memory, sheet: usize, item: usize) {
         let place = match Pointed::read(value(after, sheet, item)).map(|pointed| pointed.side) {
             Some(Side::First) => 0,
@@ -56,6 +58,18 @@ impl Comparison<'_> {
         };
         if is_number_item(item) {
             self.tally.note(Question::PointEntry, place);
+        }
+    }
+
+    /// Rows 20 to 24 where they compare these values.
+    pub(super) fn note_compared(&mut self, values: &Values, rows: &[Row; ROWS]) {
+        let judged = COMPARED.iter().enumerate().filter(|(_, (row, _))| rows[row - 1].reason == 0);
+        for (at, item) in judged.flat_map(|(at, (_, items))| items.iter().map(move |n| (at, n))) {
+            match Pointed::read(values[item - 1]).map(|pointed| pointed.side) {
+                Some(Side::First) => self.tally.note(Question::PointCompared, 2 * at),
+                Some(Side::Last) => self.tally.note(Question::PointCompared, 2 * at + 1),
+                _ => {}
+            }
         }
     }
 

@@ -116,7 +116,9 @@ impl Comparison<'_> {
                 }
             });
             if let (Some(crystal), Some(powder)) = (crystal, powder) {
-                self.note_multiplier(value::text(values(&desk.sheets[0])[9]), &crystal[11]);
+                let held = values(&desk.sheets[0]);
+                self.note_multiplier(value::text(held[9]), &crystal[11]);
+                self.note_compared(&held, &crystal);
                 self.same_alerts(&crystal, &powder, &Told(&desk));
             }
         }

@@ -8,12 +8,12 @@ use crate::desks::OF_SHEET;
 use crate::memory::{held, put};
 use crate::program::Program;
 use reference::desk::{
-    is_sound, sheet_of, Desk, Item, Sheet, BENCHES, ENTER, FRESH, LOG_LIMIT, NOT_OWNER, NOT_SOUND,
-    NO_SUCH_SHEET, RECORD_HEAD, SHEETS,
+    is_sound, sheet_of, Desk, Item, Line, Sheet, BENCHES, ENTER, FRESH, LOG_FULL, LOG_LIMIT,
+    NOT_OWNER, NOT_SOUND, NO_SUCH_SHEET, RECORD_HEAD, SHEETS,
 };
 use reference::line::ACCEPTED;
 
-pub const FAULTS: [(&str, Wrong); 22] = [
+pub const FAULTS: [(&str, Wrong); 23] = [
     ("one count for both sheets", Wrong::Key(one_count)),
     ("bench 2 writes sheet 0", Wrong::Key(bench_2_on_sheet_0)),
     ("the owner is looked up on the other sheet", Wrong::Key(other_owner)),
@@ -51,6 +51,15 @@ pub const FAULTS: [(&str, Wrong); 22] = [
         Wrong::Report(|m, sheet, profile| Reference.report(m, sheet % 2, profile)),
     ),
     (
+        "Report tells sheet 0's rows with 12",
+        Wrong::Report(|m, sheet, profile| match Reference.report(m, sheet, profile) {
+            Reported { answer: NO_SUCH_SHEET, .. } => {
+                Reported { answer: NO_SUCH_SHEET, ..Reference.report(m, 0, profile) }
+            }
+            right => right,
+        }),
+    ),
+    (
         "Who takes sheets modulo 2^32",
         Wrong::Who(|m, sheet, item| Reference.who(m, sheet % (1 << 32), item)),
     ),
@@ -82,6 +91,41 @@ pub const FAULTS: [(&str, Wrong); 22] = [
     ),
     ("a fresh desk keeps the visitors' sheet", Wrong::Fresh(visitors_kept)),
 ];
+
+/// A camp sees the other camp's Enter that gets 8: its lines are emptied.
+pub const EMPTIED_BY_8: (&str, Wrong) =
+    ("an Enter that gets 8 empties the other camp's lines", Wrong::Key(emptied_by_8));
+/// What one camp types is on its sheet, and something on the other.
+pub const OTHER_COUNTED: (&str, Wrong) =
+    ("an Enter is counted on the other sheet too", Wrong::Key(other_counted));
+
+fn emptied_by_8(memory: &mut Memory, bench: u64, byte: u8) -> u8 {
+    let answer = Reference.key(memory, bench, byte);
+    if (byte, answer) == (ENTER, LOG_FULL) {
+        let own = sheet_of(bench);
+        change(memory, |desk| {
+            for (bench, line) in (0..).zip(&mut desk.lines) {
+                if sheet_of(bench) != own {
+                    *line = Line::holding(b"");
+                }
+            }
+        });
+    }
+    answer
+}
+
+/// An Enter is counted twice where the desk stays sound with its log.
+fn other_counted(memory: &mut Memory, bench: u64, byte: u8) -> u8 {
+    let answer = Reference.key(memory, bench, byte);
+    if let (ENTER, ACCEPTED, Some((mut desk, used))) = (byte, answer, held(memory)) {
+        let count: u64 = desk.sheets.iter().map(|sheet| sheet.count).sum();
+        if RECORD_HEAD as u64 * (count + 1) <= used {
+            desk.sheets[1 - sheet_of(bench)].count += 1;
+            put(memory, &desk, used);
+        }
+    }
+    answer
+}
 
 /// The right answer; after an accepted Enter the desk is changed, of which the item at this place of the
 /// bench's sheet was entered.

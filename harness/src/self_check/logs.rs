@@ -17,6 +17,8 @@ use reference::reader::{Reader, BAD_SHAPE, END_INSIDE, FOREIGN_OVERWRITE};
 struct Rules {
     shortest: usize,
     longest: usize,
+    /// The numbers of the items that are known end here.
+    items: usize,
     /// A record ends at this byte at the latest.
     limit: u64,
     /// Missing bytes are refused before the last part too.
@@ -45,6 +47,7 @@ struct Rules {
 const RIGHT: Rules = Rules {
     shortest: 7,
     longest: 206,
+    items: ITEMS.len(),
     limit: LOG_LIMIT as u64,
     early: false,
     of_part: false,
@@ -66,11 +69,14 @@ macro_rules! by {
     };
 }
 
-pub const FAULTS: [(&str, Wrong); 21] = [
+pub const FAULTS: [(&str, Wrong); 25] = [
     ("a record of length 6 is taken", by!(shortest: 6)),
     ("a record of length 207 is taken", by!(longest: 207)),
     ("a record of length 8 is the shortest", by!(shortest: 8)),
     ("a record of length 205 is the longest", by!(longest: 205)),
+    ("items 11 to 19 are unknown", by!(items: 10)),
+    ("item 19 is unknown", by!(items: ITEMS.len() - 1)),
+    ("item 20 is known", by!(items: ITEMS.len() + 1)),
     ("a record that ends at byte 65,537 is taken", by!(limit: LOG_LIMIT as u64 + 1)),
     ("a record that ends at byte 65,536 is refused", by!(limit: LOG_LIMIT as u64 - 1)),
     ("20 is given before the last part", by!(early: true)),
@@ -91,6 +97,7 @@ pub const FAULTS: [(&str, Wrong); 21] = [
         Wrong::Feed(|m, s, part, last| Reference.feed(m, s, part, u8::from(last == 1))),
     ),
     ("kept bytes that decide a record are read", Wrong::Feed(kept_read)),
+    ("a reader that is over and not sound repeats its answer", Wrong::Feed(repeated)),
 ];
 
 /// What a reader by such rules makes of the first bytes.
@@ -148,7 +155,9 @@ fn next<'a>(desk: &Desk, start: u64, bytes: &'a [u8], rules: Rules) -> Next<'a> 
         return Next::Refused(BAD_SHAPE);
     }
     let (bench, item) = (u64::from(bytes[4]), usize::from(bytes[5]));
-    let known = (1..=ITEMS.len()).contains(&item) && bench < BENCHES as u64;
+    let known = (1..=rules.items).contains(&item) && bench < BENCHES as u64;
+    // One that is known beyond the last is taken for that.
+    let item = item.min(ITEMS.len());
     let head = bytes[2..4] == [1, 0] && known && start + length as u64 <= rules.limit;
     if !head && rules.shape_first {
         return Next::Refused(BAD_SHAPE);
@@ -228,6 +237,17 @@ fn kept_read(memory: &mut Memory, stick: &mut Stick, part: &[u8], last: u8) -> F
                 put_reader(memory, stick, &reader);
             }
             Fed { place: place as usize, answer }
+        }
+        _ => fed,
+    }
+}
+
+/// Whether the reading is over is looked at before the reader is sound.
+fn repeated(memory: &mut Memory, stick: &mut Stick, part: &[u8], last: u8) -> Fed {
+    let fed = Reference.feed(memory, stick, part, last);
+    match held_reader(memory, stick) {
+        Some(Reader { over: Some(answer), start, .. }) if fed.answer == NOT_SOUND => {
+            Fed { place: if answer == ACCEPTED { 0 } else { start as usize }, answer }
         }
         _ => fed,
     }

@@ -4,6 +4,8 @@ use super::Wrong;
 use crate::boundary::{Memory, Reported, Row};
 use crate::by_reference::Reference;
 use crate::memory::held;
+use crate::points::{Pointed, Side};
+use crate::powder::COMPARED;
 use crate::program::Program;
 use reference::desk::{values, NOT_SOUND, NO_SUCH_SHEET};
 use reference::line::ACCEPTED;
@@ -15,7 +17,7 @@ const NOTHING: Row = Row { level: 0, reason: 0 };
 const FIRED: Row = Row { level: 2, reason: 0 };
 const LACKING: Row = Row { level: 0, reason: 1 };
 
-pub const FAULTS: [(&str, Wrong); 20] = [
+pub const FAULTS: [(&str, Wrong); 22] = [
     ("row 22 compares total with gt", Wrong::Report(|m, s, p| compared(m, s, p, 22, 12, 13))),
     (
         "row 22 compares gt with the measured",
@@ -40,6 +42,14 @@ pub const FAULTS: [(&str, Wrong); 20] = [
     ("row 21 without item 14 is judged", Wrong::Report(judged_without)),
     ("row 21 wants the text 0", Wrong::Report(zero_by_text)),
     ("uncertainties are compared too", Wrong::Report(uncertainties)),
+    (
+        "rows 20 to 24 do not read a point first",
+        Wrong::Report(|m, s, p| unread(m, s, p, Side::First)),
+    ),
+    (
+        "rows 20 to 24 do not read a point last",
+        Wrong::Report(|m, s, p| unread(m, s, p, Side::Last)),
+    ),
     (
         "row 13 has reason 0",
         Wrong::Report(|m, s, p| changed(m, s, p, |_, rows| rows[12].reason = 0)),
@@ -140,6 +150,18 @@ fn uncertainties(memory: &Memory, sheet: u64, profile: u64) -> Reported {
         let uncertain = |item: usize| values[item - 1].contains(&b'(');
         if profile == 0 && rows[20].reason == 0 && uncertain(12) != uncertain(13) {
             rows[20] = NOTHING;
+        }
+    })
+}
+
+/// A row that compares a number with the point on this side takes it for missing.
+fn unread(memory: &Memory, sheet: u64, profile: u64, side: Side) -> Reported {
+    changed(memory, sheet, profile, |values, rows| {
+        let so = |item: &usize| Pointed::read(values[item - 1]).is_some_and(|at| at.side == side);
+        for (row, _) in COMPARED.iter().filter(|(_, items)| items.iter().any(so)) {
+            if profile == 0 || !NOT_FOR_POWDER.contains(row) {
+                rows[row - 1] = LACKING;
+            }
         }
     })
 }

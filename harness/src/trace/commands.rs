@@ -10,6 +10,7 @@ use crate::operators::Operators;
 use crate::powder::Powder;
 use crate::random::Random;
 use crate::session::Session;
+use reference::names::ITEMS;
 use std::collections::VecDeque;
 
 /// Commands that are not there or lack something.
@@ -49,7 +50,7 @@ pub fn commands(seed: u64, count: u64) -> impl Iterator<Item = Vec<u8>> {
             2 => "dump".into(),
             3 => format!("report {} {}", files.sheet(), powder.profile()),
             4 if random.once_in(8) => format!("who {} {}", files.sheet(), random.next()),
-            4 => format!("who {} {}", files.sheet(), random.below(20)),
+            4 => format!("who {} {}", files.sheet(), random.below(ITEMS.len() + 3)),
             5 => {
                 let (sheet, block) = (files.sheet(), files.block());
                 let room = random.pick(&files.rooms(length(&state.desk, sheet, &block)));
