@@ -1,8 +1,7 @@
 #!/usr/bin/env python3
 """Holds the comparison to mutants of the reference: each must be found, or stand in survivors.txt with its reason.
 
-  harness/mutants/mutants.py           as the gate runs it: each third mutant; the survivors of the list have a few inputs alone
-  harness/mutants/mutants.py --all     the same of all mutants
+  harness/mutants/mutants.py           as the gate runs it: the survivors of the list have a few inputs alone
   harness/mutants/mutants.py --long    each mutant that lives so long gets the whole comparison, with a million lines
 
 Needs the proved archives. Prints what is not as it must be, and at the end 'N passed, M failed'.
@@ -20,8 +19,6 @@ HERE = pathlib.Path(__file__).resolve().parent
 TREE = HERE.parent.parent
 TARGET = TREE / "build" / "cargo"
 SHORT, LONG = 4000, 1_000_000
-# The gate tries one mutant in so many.
-SHARE = 3
 # A mutant that takes longer does not end; it is found.
 SECONDS = {SHORT: 120, LONG: 3600}
 
@@ -78,8 +75,6 @@ def wrong(names, found, reasons):
     out = [f"no reason in survivors.txt: {name}" for name, reason in reasons.items() if not reason]
     out += [f"no such mutant, but in survivors.txt: {name}" for name in reasons if name not in names]
     for number, name in enumerate(names, 1):
-        if number not in found:
-            continue
         if found[number] is None and name not in reasons:
             out.append(f"not found: {name}")
         elif found[number] is not None and name in reasons:
@@ -89,20 +84,19 @@ def wrong(names, found, reasons):
 
 def can_fail(names, found, reasons):
     """A survivor that is not listed, a listed mutant that is found, and a name of none are each told."""
-    some = next(name for number, name in enumerate(names, 1) if number in found and name in reasons)
-    other = next(name for number, name in enumerate(names, 1) if found.get(number) is not None)
+    some = next(iter(reasons))
+    other = next(name for number, name in enumerate(names, 1) if found[number] is not None)
     less = {name: reason for name, reason in reasons.items() if name != some}
     changed = [less, reasons | {other: "-"}, reasons | {"no mutant": "-"}]
     return all(len(wrong(names, found, case)) > len(wrong(names, found, reasons)) for case in changed)
 
 
 def main():
-    if sys.argv[1:] not in ([], ["--all"], ["--long"]):
-        sys.exit("usage: mutants.py [--all | --long]")
+    if sys.argv[1:] not in ([], ["--long"]):
+        sys.exit("usage: mutants.py [--long]")
     names, reasons, count = built(), listed(), LONG if sys.argv[1:] == ["--long"] else SHORT
-    tried = range(1, len(names) + 1) if sys.argv[1:] else range(SHARE, len(names) + 1, SHARE)
-    expected = [number for number in tried if names[number - 1] not in reasons]
-    survivors = [number for number in tried if names[number - 1] in reasons]
+    expected = [number for number, name in enumerate(names, 1) if name not in reasons]
+    survivors = [number for number, name in enumerate(names, 1) if name in reasons]
     found = run([0], names, SHORT, SECONDS[SHORT])
     faults = [] if found[0] is None else [f"the reference itself differs: {found[0]}"]
     found |= run_all(expected, names, count, SECONDS[count])
@@ -111,8 +105,8 @@ def main():
     if not can_fail(names, found, reasons):
         faults.append("a wrong list is not told")
     print("\n".join(faults), end="\n" if faults else "")
-    print(f"{len(tried)} of {len(names)} mutants, {len(survivors)} of them listed as survivors")
-    print(f"{len(tried) - len(faults)} passed, {len(faults)} failed")
+    print(f"{len(names)} mutants, {len(survivors)} of them listed as survivors")
+    print(f"{len(names) - len(faults)} passed, {len(faults)} failed")
     sys.exit(bool(faults))
 
 
