@@ -97,6 +97,19 @@ logs() {
         timeout 10 "$camp" run --plain --log "$folder/log" --pairs - < <(:)
 }
 
+# shut NAME N: with standard stream N shut, the log has the records and nothing else.
+shut() {
+    rm -f "$work/shut" "$work/recorded"
+    "$camp" record $first "$work/recorded"
+    case $2 in
+        0) timeout 10 "$camp" run --plain --log "$work/shut" --pairs $first <&- >"$work/out" 2>"$work/err" ;;
+        1) timeout 10 "$camp" run --plain --log "$work/shut" --pairs $first </dev/null >&- 2>"$work/err" ;;
+        2) timeout 10 "$camp" run --plain --log "$work/shut" --pairs $first </dev/null >"$work/out" 2>&- ;;
+    esac
+    local status=$?
+    if [ $status -ne 0 ]; then fail "camp run: $1 is shut" "exit $status"; else same "camp run: $1 is shut" "$work/recorded" "$work/shut"; fi
+}
+
 # A session played by pairs leaves the log that camp record writes, whatever the session is.
 played() {
     local input name
@@ -212,6 +225,9 @@ ensure_tmux() {
 
 misuses
 logs
+shut "standard input" 0
+shut "standard output" 1
+shut "standard error" 2
 played
 driven torn
 full

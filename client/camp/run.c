@@ -1,6 +1,7 @@
 /* camp run: the desk at the camp, with its keypads, its log and its screen. */
 #define _POSIX_C_SOURCE 200809L
 
+#include <fcntl.h>
 #include <inttypes.h>
 #include <stdlib.h>
 #include <string.h>
@@ -172,10 +173,24 @@ static void tell_lines(const live_desk *live)
     }
 }
 
+/*
+ * Holds the numbers of the standard streams that are shut, so that no other file gets one: what is printed
+ * would go into the log.
+ */
+static bool hold_streams(void)
+{
+    for (int file = STDIN_FILENO; file <= STDERR_FILENO; file++)
+        if (fcntl(file, F_GETFD) < 0 && open("/dev/null", O_RDWR) != file)
+            return false;
+    return true;
+}
+
 static int run_desk(run_options *options)
 {
     static live_desk live;
     static view shown;
+    if (!hold_streams())
+        return STATUS_FOUND;
     take_signals();
     if (!start_live(&live, options->log))
         return STATUS_FOUND;
