@@ -310,9 +310,12 @@ def sync(camp, library):
     """A record that is not on the disk is no entry: the desk and the file are as before, and a later Enter keeps it."""
     folder = tempfile.mkdtemp()
     log, sign = os.path.join(folder, "camp.log"), os.path.join(folder, "sign")
+    calls = os.path.join(folder, "calls")
     pads = Keypads([0, 1])
-    desk = Desk(camp, log, pads.options(), env={**os.environ, "LD_PRELOAD": library, "SYNC_FAILS": sign})
+    how = {"env": {**os.environ, "LD_PRELOAD": library, "SYNC_FAILS": sign, "SYNC_TOLD": calls}}
+    desk = Desk(camp, log, pads.options(), **how)
     desk.until(r"^bench 1: \S+ is open")
+    check("the name of a new log is kept", "" if read(calls) == b"fsync folder\n" else repr(read(calls)))
     pads.type(0, f"{NAMES[4]} 0.1\n")
     desk.until(r"^bench 0: accepted, sheet 0, entry 1: ")
     before = read(log)
@@ -320,6 +323,10 @@ def sync(camp, library):
     pads.type(0, f"{NAMES[4]} 0.2\n")
     told = desk.until(r"^bench 0: not kept, Input/output error: %s 0\.2$" % NAMES[4])
     check("a disk that fails: told, and not in the log", "" if told and read(log) == before and desk.text.count(b"accepted") == 1 else f"{desk.text!r} {read(log)!r}")
+    pads.type(0, "\n")
+    told = desk.until(r"^bench 0: not kept, the log file cannot be cut back: %s 0\.2$" % NAMES[4])
+    want = b"fdatasync 9\nfdatasync 18 fails\nftruncate 9\nfdatasync 9 fails\nftruncate 9\nfdatasync 9 fails\n"
+    check("what is cut off is flushed too", "" if told and read(calls).endswith(want) else f"{desk.text!r} {read(calls)!r}")
     os.remove(sign)
     pads.type(1, f"{NAMES[6]} 0.3\n")
     desk.until(r"^bench 1: accepted")
@@ -328,6 +335,14 @@ def sync(camp, library):
     desk.quit()
     check("a disk that works again: the line is entered, once", "" if records(read(log)) == ([(0, 4, "0.1"), (1, 6, "0.3"), (0, 4, "0.2")], b"") else repr(read(log)))
     pads.close()
+    write(calls, b"")
+    again = Desk(camp, log, ["--bench", "0=/dev/null"], **how)
+    again.until(r"bytes left")
+    check("the name of a log that was there is kept", "" if read(calls) == b"fsync folder\n" else repr(read(calls)))
+    again.quit()
+    write(sign, b"")
+    status, said = Desk(camp, log, ["--bench", "0=/dev/null"], **how).quit()
+    check("a folder that cannot be flushed", "" if status == 1 and said == f"camp: {log}: Input/output error\n" else f"{status} {said!r}")
     subprocess.run(["rm", "-r", folder], check=True)
 
 

@@ -34,7 +34,7 @@ static char *folder_of(const char *path)
     return strndup(path, slash == path ? 1 : (size_t)(slash - path));
 }
 
-/* Makes sure that the name of a new file is kept as well as its bytes. */
+/* Makes sure that the name of a file is kept as well as its bytes. */
 static bool keep_name(const char *path)
 {
     char *folder = folder_of(path);
@@ -48,20 +48,15 @@ static bool keep_name(const char *path)
     return kept;
 }
 
-/* The file, or an errno. It is no pipe that would be waited for. */
+/* The file, which is made where it is not there, or an errno. It is no pipe that would be waited for. */
 static int open_file(const char *path)
 {
     int file = open(path, O_RDWR | O_NONBLOCK | O_NOCTTY | O_CLOEXEC);
     if (file >= 0 || errno != ENOENT)
         return file;
     file = open(path, O_RDWR | O_CREAT | O_EXCL | O_NOCTTY | O_CLOEXEC, 0666);
-    if (file >= 0 && !keep_name(path)) {
-        int error = errno;
-        close(file);
-        errno = error;
-        return -1;
-    }
-    return file;
+    /* Another program made it meanwhile. */
+    return file >= 0 || errno != EEXIST ? file : open(path, O_RDWR | O_NONBLOCK | O_NOCTTY | O_CLOEXEC);
 }
 
 static bool lock(const log_file *log)
@@ -81,7 +76,8 @@ bool open_log(log_file *log, const char *path)
     *log = (log_file){path, open_file(path), 0, false};
     if (log->file < 0)
         return told(path, strerror(errno));
-    if (lock(log))
+    /* Whoever made the file may have ended before its name was kept. */
+    if (lock(log) && (keep_name(path) || told(path, strerror(errno))))
         return true;
     close(log->file);
     return false;
@@ -165,10 +161,10 @@ bool load_log(log_file *log, log_reader *reader, uint8_t bytes[DESK_LOG])
     return tell_damage(log->path, reader) == STATUS_DONE;
 }
 
-/* Cuts off what a failed write left behind the whole records. */
+/* Cuts off what a failed write left behind the whole records, on the disk too. */
 static void cut_back(log_file *log)
 {
-    log->unclean = ftruncate(log->file, (off_t)log->length) != 0;
+    log->unclean = ftruncate(log->file, (off_t)log->length) != 0 || fdatasync(log->file) != 0;
 }
 
 /* Why the file is no longer the log; NULL where it is. */

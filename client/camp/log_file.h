@@ -11,12 +11,12 @@ typedef struct {
     const char *path;
     int file;
     size_t length;    /* of the whole records, which is all that the file holds between two calls */
-    bool unclean;     /* but for what a failed write left, which could not be cut off yet */
+    bool unclean;     /* but for what a failed write left, which is not yet cut off on the disk */
 } log_file;
 
 /*
- * Opens the log, or makes an empty one, and locks it. Where that fails it tells so, and nothing is
- * changed.
+ * Opens the log, or makes an empty one, and locks it. Where that fails it tells so; a log that was there
+ * is as it was, and an empty one that was made stays.
  */
 bool open_log(log_file *log, const char *path);
 
