@@ -234,6 +234,7 @@ full
 sync_fails
 driven removed
 driven inputs
+driven signals
 driven console
 if [ $kills -eq 0 ]; then
     finish

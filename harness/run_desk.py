@@ -7,6 +7,7 @@
   run_desk.py CAMP sync LIBRARY         a disk that fails when it is flushed, by that library
   run_desk.py CAMP removed              a log that others remove, cut or lengthen
   run_desk.py CAMP inputs               keypads that end and come back, raw mode put back, two on one device
+  run_desk.py CAMP signals              the signals that end the desk, and those that do not
   run_desk.py CAMP console              the counsellor's commands
   run_desk.py CAMP load SECONDS         four benches at 50 keys a second each: how long until a key is shown
   run_desk.py CAMP memory KEYS          the program's memory over so many keys
@@ -118,8 +119,12 @@ class Desk:
         return self.text.decode(errors="replace").split("\n")[:-1]
 
     def say(self, line):
-        self.process.stdin.write(line.encode() + b"\n")
-        self.process.stdin.flush()
+        """A line of the counsellor, who does not know whether the desk has ended."""
+        try:
+            self.process.stdin.write(line.encode() + b"\n")
+            self.process.stdin.flush()
+        except OSError:
+            pass
 
     def kill(self):
         self.process.kill()
@@ -129,10 +134,7 @@ class Desk:
 
     def quit(self, seconds=10.0):
         """Its exit status and what it said on standard error."""
-        try:
-            self.say("quit")
-        except OSError:
-            pass
+        self.say("quit")
         end = time.monotonic() + seconds
         while self.read(0.05) and time.monotonic() < end:
             pass
@@ -422,6 +424,49 @@ def inputs(camp):
     subprocess.run(["rm", "-r", folder], check=True)
 
 
+def signals(camp):
+    """Signals that end the desk, also where an input always has something; and those that it leaves as they were."""
+    folder = tempfile.mkdtemp()
+    log, keys = os.path.join(folder, "camp.log"), os.path.join(folder, "keys")
+    write(keys, b"0\x07" * 4000000)
+    for name, options in [("a keypad that floods", ["--bench", "0=/dev/zero"]), ("a long file of pairs", ["--pairs", keys])]:
+        desk = Desk(camp, log, options)
+        desk.until(r"refused, 3, ")
+        desk.process.send_signal(signal.SIGTERM)
+        end = time.monotonic() + 10
+        while desk.process.poll() is None and time.monotonic() < end:
+            desk.read(0.05)
+            desk.text = desk.text[-100000:]
+        check(f"ended by a signal beside {name}", "" if desk.process.poll() == 0 else f"{desk.process.poll()}")
+        desk.kill()
+    os.remove(keys)
+    for number in (signal.SIGTERM, signal.SIGINT, signal.SIGHUP, signal.SIGQUIT):
+        master, slave = pty.openpty()
+        before = termios.tcgetattr(slave)
+        desk = Desk(camp, log, ["--bench", f"0={os.ttyname(slave)}"])
+        desk.until(r"is open$")
+        raw = termios.tcgetattr(slave)
+        desk.process.send_signal(number)
+        try:
+            status = desk.process.wait(timeout=10)
+        except subprocess.TimeoutExpired:
+            status = "none"
+        right = status == 0 and desk.until(r"(?s)bytes left.*bytes left") and raw[3] != before[3] and termios.tcgetattr(slave) == before
+        check(f"ended by {signal.Signals(number).name}, modes put back", "" if right else f"{status} {desk.text!r}")
+        desk.kill()
+        os.close(master)
+        os.close(slave)
+    # nohup ignores the one, a shell's background the other.
+    desk = Desk(camp, log, ["--bench", "0=/dev/null"], preexec_fn=lambda: signal.signal(signal.SIGHUP, signal.SIG_IGN))
+    desk.until(r"is open$")
+    for number in (signal.SIGHUP, signal.SIGTTIN, signal.SIGTTOU, signal.SIGTSTP):
+        desk.process.send_signal(number)
+    desk.say("who 4")
+    check("goes on after nohup's SIGHUP, SIGTTIN, SIGTTOU and SIGTSTP", "" if desk.until(r"^item 4 is empty$", 3) else f"{desk.process.poll()} {desk.text!r}")
+    desk.kill()
+    subprocess.run(["rm", "-r", folder], check=True)
+
+
 def console(camp):
     folder = tempfile.mkdtemp()
     log = os.path.join(folder, "camp.log")
@@ -472,6 +517,10 @@ def console(camp):
     status, said = desk.quit()
     check("console: quit", "" if status == 0 and not said and "bench 1 has not entered `_half a line`" in desk.lines() else f"{status} {said!r} {desk.text!r}")
     pads.close()
+    write(os.path.join(folder, "none"), b"")
+    for name, text, times in [("a last line without its end", "who 5\nwho 5", 2), ("a command behind quit", "who 5\nquit\nwho 5\n", 1)]:
+        answered = subprocess.run([camp, "run", "--plain", "--log", log, "--pairs", os.path.join(folder, "none")], input=text, capture_output=True, text=True, timeout=20)
+        check(f"console: {name}", "" if answered.returncode == 0 and answered.stdout.count("item 5 is empty\n") == times else repr(answered))
     subprocess.run(["rm", "-r", folder], check=True)
 
 
@@ -592,6 +641,8 @@ def main(camp, what, *words):
         removed(camp)
     elif what == "inputs":
         inputs(camp)
+    elif what == "signals":
+        signals(camp)
     elif what == "console":
         console(camp)
     elif what == "load":
