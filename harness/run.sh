@@ -90,10 +90,13 @@ logs() {
     done
     stops "two programs" "$folder/log: another program writes this log" "$folder/log"
     stops "two programs, by another name" "$folder/again: another program writes this log" "$folder/again"
+    runs "camp record over the log of a running desk" 1 '' "camp: $folder/log: another program writes this file"$'\n' "$camp" record $first "$folder/log"
+    runs "camp cif over the log of a running desk" 1 '' "camp: $folder/again: another program writes this file"$'\n' "$camp" cif camp-1 "$folder/again" <$first
+    same "camp run: the log of a running desk stays" "$work/before" "$folder/log"
     echo quit >&8
     wait $!
     exec 8>&-
-    runs "camp run: the log is free again" 0 "$folder/log: 1 entry, 65526 of 65536 bytes left"$'\n'"pairs: /dev/stdin is open"$'\n'"pairs: /dev/stdin is at its end"$'\n'"$folder/log: 1 entry, 65526 of 65536 bytes left"$'\n' '' \
+    runs "camp run: the log is free again" 0 "$folder/log: 1 entry, 65526 of 65536 bytes left"$'\n'"pairs: standard input is open"$'\n'"pairs: standard input is at its end"$'\n'"$folder/log: 1 entry, 65526 of 65536 bytes left"$'\n' '' \
         timeout 10 "$camp" run --plain --log "$folder/log" --pairs - < <(:)
 }
 

@@ -1,12 +1,13 @@
 """Drives the running desk (camp run) over pseudo-terminals, for harness/run.sh.
 
   run_desk.py CAMP kills KILLS SEED     entries at four benches, killed at random moments, started again
-  run_desk.py CAMP torn                 the log cut at every byte of its last record
+  run_desk.py CAMP torn [LIBRARY]       the log cut at every byte of its last record; with the library of a disk that fails
   run_desk.py CAMP full FOLDER          a file system that runs full; FOLDER is on it
   run_desk.py CAMP limit                the same by a limit on the file's length
   run_desk.py CAMP sync LIBRARY         a disk that fails when it is flushed, by that library
   run_desk.py CAMP removed              a log that others remove, cut or lengthen
   run_desk.py CAMP inputs               keypads that end and come back, raw mode put back, two on one device
+  run_desk.py CAMP fifo LIBRARY         a FIFO between two writers, by the same library
   run_desk.py CAMP signals              the signals that end the desk, and those that do not
   run_desk.py CAMP console              the counsellor's commands
   run_desk.py CAMP load SECONDS         four benches at 50 keys a second each: how long until a key is shown
@@ -19,8 +20,10 @@ import os
 import pty
 import random
 import re
+import resource
 import select
 import signal
+import stat
 import struct
 import subprocess
 import sys
@@ -215,7 +218,7 @@ def compare(shown, data, typed):
     return ""
 
 
-def torn(camp):
+def torn(camp, library=None):
     """Cut at every byte of the last record: the others stay, what is torn is kept, and the next entry follows."""
     folder = tempfile.mkdtemp()
     log = os.path.join(folder, "camp.log")
@@ -252,10 +255,42 @@ def torn(camp):
         desk = Desk(camp, log, ["--bench", "0=/dev/null"])
         status, said = desk.quit()
         place = f"byte {byte}: " if byte is not None else "byte "
-        bad = "" if status == 1 and f"{log}: {place}" in said and f": {number}, " in said and read(log) == data and os.listdir(folder) == ["camp.log"] else f"status {status}, {said!r}"
+        told = f"{log}: {place}" in said and f": {number}, " in said and said.endswith("; the desk is not started, and nothing is changed; start with a copy or another --log\n")
+        bad = "" if status == 1 and told and read(log) == data and os.listdir(folder) == ["camp.log"] else f"status {status}, {said!r}"
         check(f"stopped by {name}", bad)
-    os.remove(log)
-    os.rmdir(folder)
+    beside = log + ".torn"
+
+    def start(name, why, **how):
+        """A start that cannot keep what is torn leaves the log as it is."""
+        write(log, whole + last[:5])
+        status, said = Desk(camp, log, ["--bench", "0=/dev/null"], **how).quit()
+        want = f"camp: {log}: byte {len(whole)}: 20, the log ends inside this record; {why}; the desk is not started, and the torn record not cut off\n"
+        check(f"torn, and {name}", "" if status == 1 and said == want and read(log) == whole + last[:5] else f"status {status}, {said!r}")
+
+    os.mkdir(beside)
+    start("LOG.torn is a folder", f"{beside}: Is a directory")
+    os.rmdir(beside)
+    os.mkfifo(beside)
+    start("LOG.torn is a pipe", f"{beside}: No such device or address")
+    os.remove(beside)
+    os.symlink("/dev/full", beside)
+    start("LOG.torn is a device", f"{beside}: not an ordinary file")
+    os.remove(beside)
+    os.symlink("none/none", beside)
+    start("LOG.torn cannot be made", f"{beside}: No such file or directory")
+    os.remove(beside)
+    write(beside, b"x" * 5000)
+    start("LOG.torn cannot grow", f"{beside}: File too large", preexec_fn=lambda: resource.setrlimit(resource.RLIMIT_FSIZE, (5000, 5000)))
+    write(beside, b"earlier")
+    if library:
+        sign = os.path.join(folder, "sign")
+        write(sign, b"")
+        start("it cannot be cut off", f"{log}: Input/output error", env={**os.environ, "LD_PRELOAD": library, "CUT_FAILS": sign})
+        write(beside, b"earlier")
+    write(log, whole + last[:5])
+    Desk(camp, log, ["--bench", "0=/dev/null"]).quit()
+    check("torn again: added to LOG.torn", "" if read(beside) == b"earlier" + last[:5] and read(log) == whole else repr(read(beside)))
+    subprocess.run(["rm", "-r", folder], check=True)
 
 
 def no_room(camp, log, name, why, **how):
@@ -300,7 +335,6 @@ def limit(camp):
     folder = tempfile.mkdtemp()
 
     def few():
-        import resource
         resource.setrlimit(resource.RLIMIT_FSIZE, (5000, 5000))
 
     no_room(camp, os.path.join(folder, "camp.log"), "the file cannot grow, in the middle of a record", "File too large", preexec_fn=few)
@@ -417,10 +451,44 @@ def inputs(camp):
     os.symlink(os.ttyname(slave), other)
     desk = Desk(camp, log, ["--bench", f"0={link}", "--bench", f"1={other}"])
     check("two benches on one device", "" if desk.until(r"^bench 1: \S+ is not there: this is the input of another bench$") else repr(desk.text))
+    # The device of bench 0 goes and comes back: it is not bench 1's meanwhile.
+    os.close(slave)
+    os.close(master)
+    desk.until(r"^bench 0: \S+ ended")
+    master, slave = pty.openpty()
+    for path in (other, link):
+        os.remove(path)
+        os.symlink(os.ttyname(slave), path)
+    desk.until(r"(?s)ended; .*^bench 0: \S+ is open$")
+    time.sleep(0.6)
+    os.write(master, f"{NAMES[4]} 0.17\n".encode())
+    check("they do not change places", "" if desk.until(r"^bench 0: accepted, .* 0\.17$") and b"bench 1: accepted" not in desk.text and desk.text.count(b"bench 1: ") == 1 else repr(desk.text))
     desk.process.send_signal(signal.SIGTERM)
     desk.process.wait(timeout=10)
     check("ended by a signal", "" if desk.process.returncode == 0 else str(desk.process.returncode))
+    if os.geteuid() == 0:
+        os.mknod(f"{folder}/null", 0o600 | stat.S_IFCHR, os.stat("/dev/null").st_rdev)
+        desk = Desk(camp, log, ["--bench", "0=/dev/null", "--bench", f"1={folder}/null"])
+        check("two benches on one device by two nodes", "" if desk.until(r"^bench 1: \S+ is not there: this is the input of another bench$", 3) else repr(desk.text))
+        desk.quit()
     pads.close()
+    subprocess.run(["rm", "-r", folder], check=True)
+
+
+def fifo(camp, library):
+    """A line that a second writer puts into a FIFO while the end of the first is told is not lost; closing takes its time."""
+    folder = tempfile.mkdtemp()
+    path = os.path.join(folder, "fifo")
+    os.mkfifo(path)
+    desk = Desk(camp, os.path.join(folder, "camp.log"), ["--bench", f"0={path}"], env={**os.environ, "LD_PRELOAD": library, "CLOSE_WAITS": "1"})
+    desk.until(r"is open$")
+    for number, pause in ((1, 0.3), (2, 0)):
+        file = os.open(path, os.O_WRONLY)
+        os.write(file, f"{NAMES[4]} 0.{number}\n".encode())
+        os.close(file)
+        time.sleep(pause)
+    check("a FIFO between two writers", "" if desk.until(r"^bench 0: accepted, sheet 0, entry 2: \S+ 0\.2$", 5) else repr(desk.text))
+    desk.kill()
     subprocess.run(["rm", "-r", folder], check=True)
 
 
@@ -630,7 +698,7 @@ def main(camp, what, *words):
     if what == "kills":
         kills(camp, int(words[0]), int(words[1]))
     elif what == "torn":
-        torn(camp)
+        torn(camp, *words)
     elif what == "full":
         no_room(camp, os.path.join(words[0], "camp.log"), "a file system that runs full in the middle of a record", "No space left on device")
     elif what == "limit":
@@ -641,6 +709,8 @@ def main(camp, what, *words):
         removed(camp)
     elif what == "inputs":
         inputs(camp)
+    elif what == "fifo":
+        fifo(camp, words[0])
     elif what == "signals":
         signals(camp)
     elif what == "console":

@@ -12,6 +12,7 @@ typedef struct {
     int file;
     size_t length;    /* of the whole records, which is all that the file holds between two calls */
     bool unclean;     /* but for what a failed write left, which is not yet cut off on the disk */
+    char *told;       /* of a torn record, as it was told at the start; NULL for none */
 } log_file;
 
 /*
@@ -22,7 +23,8 @@ bool open_log(log_file *log, const char *path);
 
 /*
  * Reads the log into a fresh desk, and its bytes too. A record that is torn at the end is told, kept in
- * FILE.torn, and cut off. Any other fault is told with its byte, and changes nothing: false.
+ * FILE.torn, and cut off; where it cannot be kept so, it is not cut off: false. Any other fault is told
+ * with its byte, and changes nothing: false.
  */
 bool load_log(log_file *log, log_reader *reader, uint8_t bytes[DESK_LOG]);
 

@@ -68,6 +68,7 @@ void take_signals(void)
 static void tell_open(view *shown, input *in, const char *why)
 {
     const char *what = why == NULL ? "is open" : why;
+    in->why = why;
     if (in->said != NULL && strcmp(in->said, what) == 0)
         return;
     in->said = what;
@@ -75,6 +76,14 @@ static void tell_open(view *shown, input *in, const char *why)
         tell_input(shown, in, GOOD, what, NULL);
     else
         tell_input(shown, in, BAD, "is not there", why);
+}
+
+static bool is_shared(const view *shown, const input *in)
+{
+    for (size_t at = 0; at < shown->input_count; at++)
+        if (&shown->inputs[at] != in && same_input(in, &shown->inputs[at]))
+            return true;
+    return false;
 }
 
 /* Opens what is away and due. */
@@ -85,11 +94,10 @@ static void open_inputs(view *shown, input *inputs)
         if (in->state != INPUT_AWAY || in->again > now())
             continue;
         const char *why = open_input(in);
-        for (size_t other = 0; why == NULL && other < shown->input_count; other++)
-            if (other != at && same_input(in, &inputs[other]))
-                why = "this is the input of another bench";
-        if (why != NULL)
-            close_input(in);
+        if (why == NULL && is_shared(shown, in)) {
+            refuse_input(in);
+            why = "this is the input of another bench";
+        }
         tell_open(shown, in, why);
     }
 }
@@ -129,6 +137,7 @@ static void take_input(view *shown, input *in)
     if (result != READ_ENDED && result != READ_FAILED)
         return;
     const char *why = result == READ_FAILED ? strerror(errno) : NULL;
+    in->why = why != NULL ? why : "it ended";
     if (in->state == INPUT_OVER)
         tell_input(shown, in, QUIET, "is at its end", why);
     else if (!brief)
@@ -182,7 +191,7 @@ static int64_t wait_most(const view *shown)
 static bool all_over(const view *shown)
 {
     for (size_t at = 0; at < shown->input_count; at++)
-        if (shown->inputs[at].state != INPUT_OVER)
+        if (shown->inputs[at].state != INPUT_OVER && shown->inputs[at].state != INPUT_REFUSED)
             return false;
     return true;
 }
@@ -194,7 +203,7 @@ static bool wait_for(struct pollfd *polls, size_t count, int64_t most)
     sigset_t none, blocked;
     sigemptyset(&none);
     bool came = ppoll(polls, count, most < 0 ? NULL : &time, &none) > 0;
-    /* Where something came, ppoll leaves signals for later: an input that always has something would starve them. */
+    /* Where something came, ppoll leaves signals for later: an input that floods would starve them. */
     sigprocmask(SIG_SETMASK, &none, &blocked);
     sigprocmask(SIG_SETMASK, &blocked, NULL);
     return came;
