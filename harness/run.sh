@@ -65,6 +65,8 @@ logs() {
     mkdir "$folder"
     chmod 755 "$work" "$folder"
     stops "the log is a folder" "$folder: Is a directory" "$folder"
+    ln -s none/none "$folder/link"
+    stops "the log is a link to nothing" "$folder/link: No such file or directory" "$folder/link"
     stops "no such folder" "$folder/none/log: No such file or directory" "$folder/none/log"
     mkfifo "$folder/pipe"
     stops "the log is a pipe" "$folder/pipe: not an ordinary file" "$folder/pipe"

@@ -434,12 +434,13 @@ def removed(camp):
 def inputs(camp):
     folder = tempfile.mkdtemp()
     log, fifo, link = (os.path.join(folder, name) for name in ("camp.log", "fifo", "keypad"))
+    none = os.path.join(folder, "n" * 200, "n" * 200, "none")
     os.mkfifo(fifo)
     pads = Keypads([1])
     master, slave = pty.openpty()
     before = termios.tcgetattr(slave)
     os.symlink(os.ttyname(slave), link)
-    desk = Desk(camp, log, ["--bench", f"0={link}", "--bench", f"2={fifo}", "--bench", f"3={folder}/none", "--speed", "4800", *pads.options()])
+    desk = Desk(camp, log, ["--bench", f"0={link}", "--bench", f"2={fifo}", "--bench", f"3={none}", "--speed", "4800", *pads.options()])
     desk.until(r"^bench 1: \S+ is open")
     check("a keypad that is not there is told", "" if desk.until(r"^bench 3: \S+/none is not there: No such file or directory$") else repr(desk.text))
     raw = termios.tcgetattr(slave)
@@ -645,18 +646,18 @@ class Screen:
         self.sent += got
         return got
 
-    def shows(self, *words, seconds=20.0):
-        """Has all drawn anew until the words stand there; whether they do."""
+    def shows(self, *words, seconds=60.0):
+        """Has all drawn anew until the words stand there, be they folded or not; whether they do."""
         end = time.monotonic() + seconds
         while time.monotonic() < end:
             self.bytes = b""
             self.process.send_signal(signal.SIGWINCH)
-            while self.read(0.2):
-                if all(word in plain(self.bytes) for word in words):
+            while self.read(1.0):
+                if all(word.replace(" ", "") in plain(self.bytes).replace(" ", "") for word in words):
                     return True
         return False
 
-    def until(self, *words, seconds=20.0):
+    def until(self, *words, seconds=60.0):
         """Reads until all words are drawn since the last time; whether they were."""
         end = time.monotonic() + seconds
         while not all(word in plain(self.bytes) for word in words):
@@ -677,7 +678,7 @@ class Screen:
     def modes(self):
         return termios.tcgetattr(self.slave)
 
-    def wait(self, seconds=20.0):
+    def wait(self, seconds=60.0):
         """The exit status, with what is drawn until then."""
         end = time.monotonic() + seconds
         while self.process.poll() is None and time.monotonic() < end:
@@ -702,7 +703,8 @@ def plain(drawn):
 def screen(camp, columns, rows):
     """What goes to the terminal at this size, and what becomes of the terminal."""
     folder = tempfile.mkdtemp()
-    log, size = os.path.join(folder, "camp.log"), f"{columns}x{rows}"
+    # The title has the name of the log, with bytes that no terminal may get.
+    log, size = os.path.join(folder, "\x07\x9b\xe9.log"), f"{columns}x{rows}"
     large = columns >= 80 and rows >= 24
     write(log, record(0, 4, "0.16") + record(1, 6, "0.2")[:5])
     pads = Keypads()
