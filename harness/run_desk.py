@@ -17,6 +17,7 @@
 
 Each prints one line for each check, 'ok NAME' or 'FAIL NAME: WHY', and what was measured.
 """
+import atexit
 import fcntl
 import os
 import pty
@@ -37,6 +38,11 @@ NAMES = {4: "_refine_ls_R_factor_gt", 6: "_refine_ls_wR_factor_ref", 8: "_refine
 # The item that each bench owns.
 OWN = {0: 4, 1: 6, 2: 4, 3: 8}
 ROOM = 65536
+
+
+# A desk that outlived its test would open keypads of the next by their names, and take their keys.
+STARTED = []
+atexit.register(lambda: [process.kill() for process in STARTED if process.poll() is None])
 
 
 def check(name, wrong):
@@ -94,6 +100,7 @@ class Desk:
     def __init__(self, camp, log, options, **how):
         self.process = subprocess.Popen([camp, "run", "--plain", "--log", log, *options], stdin=subprocess.PIPE,
                                         stdout=subprocess.PIPE, stderr=subprocess.PIPE, **how)
+        STARTED.append(self.process)
         self.text = b""
         os.set_blocking(self.process.stdout.fileno(), False)
 
@@ -106,7 +113,7 @@ class Desk:
             return got != b""
         return True
 
-    def until(self, pattern, seconds=10.0):
+    def until(self, pattern, seconds=30.0):
         """Reads until a pattern is printed; whether it was."""
         end = time.monotonic() + seconds
         while not re.search(pattern, self.text.decode(errors="replace"), re.M):
@@ -132,7 +139,7 @@ class Desk:
         while self.read(0.01) and select.select([self.process.stdout], [], [], 0)[0]:
             pass
 
-    def quit(self, seconds=10.0):
+    def quit(self, seconds=30.0):
         """Its exit status and what it said on standard error."""
         self.say("quit")
         end = time.monotonic() + seconds
@@ -445,15 +452,18 @@ def inputs(camp):
     check("a keypad that is not there is told", "" if desk.until(r"^bench 3: \S+/none is not there: No such file or directory$") else repr(desk.text))
     raw = termios.tcgetattr(slave)
     check("raw mode and speed", "" if raw[3] & (termios.ICANON | termios.ECHO | termios.ISIG) == 0 and raw[0] & termios.ICRNL == 0 and raw[4] == termios.B4800 else repr(raw))
-    os.write(master, f"{NAMES[4]} 0.1".encode())
+    # The last byte tells that the others were taken.
+    os.write(master, f"{NAMES[4]} 0.1\x07".encode())
+    desk.until(r"^bench 0: refused, 3, .*: byte 7$", 30)
     pads.type(1, f"{NAMES[6]} 0.2\n")
     check("a bench goes on beside it", "" if desk.until(r"^bench 1: accepted, sheet 0, entry 1: ") else repr(desk.text))
+    # The name goes first: the number of the pseudo-terminal may be another program's at once.
+    os.remove(link)
     os.close(slave)
     os.close(master)
     check("a keypad that ends is told", "" if desk.until(r"^bench 0: \S+ ended; it is opened again when it comes back$") else repr(desk.text))
     pads.type(1, f"{NAMES[6]} 0.3\n")
     check("the others go on without it", "" if desk.until(r"^bench 1: accepted, sheet 0, entry 2: ") else repr(desk.text))
-    os.remove(link)
     master, slave = pty.openpty()
     os.symlink(os.ttyname(slave), link)
     seen = len(desk.text)
@@ -466,7 +476,7 @@ def inputs(camp):
         check(f"a FIFO, writer {number}", "" if desk.until(r"^bench 2: accepted, sheet 1, entry %d: " % number) else repr(desk.text))
     os.write(master, bytes(range(128, 256)) + b"\x1b[2J\x07\r\x7f")
     desk.until(r"^bench 0: refused, 3, .*: byte 127$")
-    check("bytes that are no keys are told by number", "" if desk.text.count(b"bench 0: refused, 3, ") == 132 and all(byte == 10 or 32 <= byte <= 126 for byte in desk.text) else repr(desk.text[-300:]))
+    check("bytes that are no keys are told by number", "" if desk.text.count(b"bench 0: refused, 3, ") == 133 and all(byte == 10 or 32 <= byte <= 126 for byte in desk.text) else repr(desk.text[-300:]))
     status, said = desk.quit()
     after = termios.tcgetattr(slave)
     check("the end, and modes put back", "" if status == 0 and not said and after[3] & termios.ICANON and after[0] & termios.ICRNL and after[4] == before[4] else f"{status} {said!r} {after!r}")
@@ -477,12 +487,13 @@ def inputs(camp):
     # The device of bench 0 goes and comes back: it is not bench 1's meanwhile.
     os.write(master, b"\x07")
     desk.until(r"^bench 0: refused, 3, ")
+    for path in (other, link):
+        os.remove(path)
     os.close(slave)
     os.close(master)
     desk.until(r"^bench 0: \S+ ended")
     master, slave = pty.openpty()
     for path in (other, link):
-        os.remove(path)
         os.symlink(os.ttyname(slave), path)
     desk.until(r"(?s)ended; .*^bench 0: \S+ is open$")
     time.sleep(0.6)
@@ -632,6 +643,7 @@ class Screen:
 
         self.process = subprocess.Popen([camp, "run", "--log", log, *options], stdin=self.slave if stdin is None else stdin, stdout=self.slave, stderr=self.slave,
                                         env={**os.environ, "TERM": term}, preexec_fn=own)
+        STARTED.append(self.process)
         os.set_blocking(self.master, False)
 
     def read(self, seconds=0.0):
@@ -730,6 +742,7 @@ def screen(camp, columns, rows):
     pads.type(2, "_" * 300)
     pads.type(3, f"{NAMES[8]} abc\n")
     seen("answers to keys", "This is not a name", "Thank you! Entry 2 of sheet 0 is kept.", "The line is full", "This item wants a number")
+    os.remove(link)
     os.close(slave)
     os.close(master)
     seen("a keypad that is pulled out", "The keypad is not there: No such file or directory.")
