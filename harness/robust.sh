@@ -97,6 +97,18 @@ clean_ran() {
     said "$1"
 }
 
+# driven HOW CAMP WHAT..: a part of run_desk.py with a camp that is watched, its checks counted.
+driven() {
+    local how=$1 program=$2 status
+    shift 2
+    timeout 600 python3 harness/run_desk.py "$program" "$@" >"$work/told" 2>&1
+    status=$?
+    sed "s/^\(ok\|FAIL\) /\1 camp run $how: /" "$work/told"
+    passed=$((passed + $(grep -c '^ok ' "$work/told")))
+    failed=$((failed + $(grep -c '^FAIL ' "$work/told")))
+    [ $status -eq 0 ] || fail "camp run $how: run_desk.py $1" "exit $status"
+}
+
 # expect INPUT: what desk, camp cif and the client must print for the input.
 expect() {
     "$harness" desk-answers <"$1" >"$work/want.desk"
@@ -172,6 +184,10 @@ sanitized() {
     done
     ran "camp run with gcc's checks: 4000 random bytes" "$work/few" "$work/camp"
     ran "camp run with gcc's checks: two camps" harness/desk-sessions/two_camps.in "$work/camp"
+    for input in console inputs torn limit terminal 'screen 80 24' 'screen 20 10' 'screen 12 3'; do
+        # shellcheck disable=SC2086
+        driven "with gcc's checks" "$work/camp" $input
+    done
     for input in random operators many group; do
         told "camp symmetry with gcc's checks: $input" symmetry "$work/$input" "$work/camp"
     done

@@ -1,13 +1,13 @@
 #!/usr/bin/env bash
 # Tests the running desk (camp run): killed at random moments, a log that is torn, full, locked or damaged, keypads that go and come back,
 # the counsellor's console, the screen in a real terminal, how soon a key is shown, and memory.
-#   harness/run.sh           what does not go by the clock, as tools/test runs it: logs, keypads, the console
-#   harness/run.sh --live    that, and 25 kills, the screen in a terminal, how soon a key is shown, memory; under a minute on a quiet machine
+#   harness/run.sh           as tools/test runs it: logs, keypads, the console, 10 kills, the screen at 80x24; no check goes by the clock
+#   harness/run.sh --live    that with 25 kills, and larger screens, how soon a key is shown, memory; under a minute on a quiet machine
 #   harness/run.sh --long    the same with 300 kills, a minute of typing, a million keys
 # Needs the built harness, client and camp, and python3. Prints one line for each check and at the end 'N passed, M failed'.
 set -u
 case "$*" in
-    '') kills=0 ;;
+    '') kills=10 load=0 ;;
     --live) kills=25 load=4 keys=30000 ;;
     --long) kills=300 load=60 keys=1000000 ;;
     *) echo "usage: harness/run.sh [--live | --long]" >&2; exit 2 ;;
@@ -65,6 +65,8 @@ logs() {
     mkdir "$folder"
     chmod 755 "$work" "$folder"
     stops "the log is a folder" "$folder: Is a directory" "$folder"
+    ln -s none/none "$folder/link"
+    stops "the log is a link to nothing" "$folder/link: No such file or directory" "$folder/link"
     stops "no such folder" "$folder/none/log: No such file or directory" "$folder/none/log"
     mkfifo "$folder/pipe"
     stops "the log is a pipe" "$folder/pipe: not an ordinary file" "$folder/pipe"
@@ -90,11 +92,27 @@ logs() {
     done
     stops "two programs" "$folder/log: another program writes this log" "$folder/log"
     stops "two programs, by another name" "$folder/again: another program writes this log" "$folder/again"
+    runs "camp record over the log of a running desk" 1 '' "camp: $folder/log: another program writes this file"$'\n' "$camp" record $first "$folder/log"
+    runs "camp cif over the log of a running desk" 1 '' "camp: $folder/again: another program writes this file"$'\n' "$camp" cif camp-1 "$folder/again" <$first
+    same "camp run: the log of a running desk stays" "$work/before" "$folder/log"
     echo quit >&8
     wait $!
     exec 8>&-
-    runs "camp run: the log is free again" 0 "$folder/log: 1 entry, 65526 of 65536 bytes left"$'\n'"pairs: /dev/stdin is open"$'\n'"pairs: /dev/stdin is at its end"$'\n'"$folder/log: 1 entry, 65526 of 65536 bytes left"$'\n' '' \
+    runs "camp run: the log is free again" 0 "$folder/log: 1 entry, 65526 of 65536 bytes left"$'\n'"pairs: standard input is open"$'\n'"pairs: standard input is at its end"$'\n'"$folder/log: 1 entry, 65526 of 65536 bytes left"$'\n' '' \
         timeout 10 "$camp" run --plain --log "$folder/log" --pairs - < <(:)
+}
+
+# shut NAME N: with standard stream N shut, the log has the records and nothing else.
+shut() {
+    rm -f "$work/shut" "$work/recorded"
+    "$camp" record $first "$work/recorded"
+    case $2 in
+        0) timeout 10 "$camp" run --plain --log "$work/shut" --pairs $first <&- >"$work/out" 2>"$work/err" ;;
+        1) timeout 10 "$camp" run --plain --log "$work/shut" --pairs $first </dev/null >&- 2>"$work/err" ;;
+        2) timeout 10 "$camp" run --plain --log "$work/shut" --pairs $first </dev/null >"$work/out" 2>&- ;;
+    esac
+    local status=$?
+    if [ $status -ne 0 ]; then fail "camp run: $1 is shut" "exit $status"; else same "camp run: $1 is shut" "$work/recorded" "$work/shut"; fi
 }
 
 # A session played by pairs leaves the log that camp record writes, whatever the session is.
@@ -129,10 +147,13 @@ full() {
     driven limit
 }
 
-# A disk that fails when it is flushed: a library before the system's, which fails where a file is there.
+# A disk that fails when it is flushed or a file cut: a library before the system's, which fails where a file is there.
 sync_fails() {
-    if gcc -std=c11 -O1 -Wall -Wextra -Werror -shared -fPIC harness/sync_fails.c -o "$work/sync_fails.so"; then
-        driven sync "$work/sync_fails.so"
+    local library=$work/sync_fails.so
+    if gcc -std=c11 -O1 -Wall -Wextra -Werror -shared -fPIC harness/sync_fails.c -o "$library"; then
+        driven torn "$library"
+        driven sync "$library"
+        driven fifo "$library"
     else
         fail "camp run: a disk that fails" "the library for it is not built"
     fi
@@ -143,7 +164,7 @@ screen() {
     tmux -L "$server" capture-pane -p
 }
 
-# shows NAME PATTERN..: within two seconds the terminal shows each pattern.
+# shows NAME PATTERN..: soon the terminal shows each pattern; how soon is not tested here.
 shows() {
     local name=$1 pattern tries=0
     shift
@@ -155,7 +176,7 @@ shows() {
         done
         [ -n "$pattern" ] || break
         tries=$((tries + 1))
-        [ $tries -lt 40 ] || { fail "$name" "no '$pattern'"; cat "$work/screen"; return; }
+        [ $tries -lt 400 ] || { fail "$name" "no '$pattern'"; cat "$work/screen"; return; }
         sleep 0.05
     done
     if LC_ALL=C grep -q '[^ -~]' "$work/screen"; then fail "$name" "a byte that is not 32 to 126"; else ok "$name"; fi
@@ -163,7 +184,8 @@ shows() {
 
 # screens COLUMNS ROWS: the desk in a terminal of this size.
 screens() {
-    local size="$1x$2" long bench
+    local size="$1x$2" long bench names
+    mapfile -t names < <(grep -o '`_[a-zA-Z_/]*`' docs/guide/items.md | tr -d '`' | head -n 19)
     local narrow=$([ "$1" -lt 100 ] && echo 1)
     server=run$$-$1
     rm -rf "$work/pads" && mkdir "$work/pads"
@@ -181,7 +203,11 @@ screens() {
     shows "screen $size: alerts of every level" ' B  06 R factor too high' "$([ "$narrow" ] && echo 'and [0-9]* alerts more' || echo ' G  09 wR factor by its old name')" ' C  10 shift missing' ' A  06 ' 'SHEET 0 our camp: 5 typed'
     printf '_refine_ls_R_factor_obs 1\n_refine_ls_wR_factor_ref 1\n_refine_ls_shift/su_max 1\n_refine_ls_shift/esd_max 1\n' >&4
     printf '_reflns_threshold_expression "I > 2\\s(I)"\n' >&5
-    shows "screen $size: a full sheet" 'SHEET 0 our camp: 10 typed' "$([ "$narrow" ] && echo 'older items more' || echo '10 _reflns_threshold_expression "I > 2\\s\(I\)" *bench 1, entry')"
+    shows "screen $size: items by both benches" 'SHEET 0 our camp: 10 typed' "$([ "$narrow" ] && echo 'older items more' || echo '10 _reflns_threshold_expression "I > 2\\s\(I\)" *bench 1, entry')"
+    # All items of the list on both sheets, each once.
+    printf '%s ?\n' "${names[@]:10}" >&4
+    printf '%s ?\n' "${names[@]:0:3}" "${names[@]:4}" >&6
+    shows "screen $size: full sheets" 'SHEET 0 our camp: 19 typed, .*SHEET 1 visitors: 19 typed' "$([ "$narrow" ] && echo 'older items more.*[|].*older items more' || echo '19 _chemical_formula_moiety [?].*[|] ?19 _chemical_formula_moiety [?]')"
     long=$(printf '_%.0s' {1..199})x
     printf '%sy' "$long" >&6
     shows "screen $size: a line of 200 bytes" 'BENCH 2  visitors  <_*x( |$)' 'The line is full: press Enter, or erase'
@@ -197,7 +223,7 @@ screens() {
     tmux -L "$server" resize-window -x 12 -y 3
     sleep 0.2
     tmux -L "$server" resize-window -x "$1" -y "$2"
-    shows "screen $size: as it was" 'SHEET 1 visitors: 1 typed' 'BENCH 0  our camp'
+    shows "screen $size: as it was" 'SHEET 1 visitors: 19 typed' 'BENCH 0  our camp'
     exec 4>&-
     tmux -L "$server" send-keys quit Enter
     shows "screen $size: quit" '^ended 0$' 'bytes left'
@@ -212,25 +238,25 @@ ensure_tmux() {
 
 misuses
 logs
+shut "standard input" 0
+shut "standard output" 1
+shut "standard error" 2
 played
-driven torn
 full
 sync_fails
 driven removed
 driven inputs
+driven signals
 driven console
-if [ $kills -eq 0 ]; then
-    finish
-    exit
-fi
+driven screen 80 24
+driven screen 12 3
+driven terminal
 driven kills "$kills" 29
-if ensure_tmux; then
-    screens 80 24
-    screens 200 60
-    screens 80 24 vt100
-else
-    echo "skipped: the screen in a terminal (tmux is not there, and cannot be installed)"
+ensure_tmux && tmux=1 || { tmux= && echo "skipped: the screen in a terminal (tmux is not there, and cannot be installed)"; }
+[ ! "$tmux" ] || screens 80 24
+if [ "$load" -gt 0 ]; then
+    [ ! "$tmux" ] || { screens 200 60; screens 80 24 vt100; }
+    driven load "$load"
+    driven memory "$keys"
 fi
-driven load "$load"
-driven memory "$keys"
 finish

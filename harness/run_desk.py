@@ -1,25 +1,32 @@
 """Drives the running desk (camp run) over pseudo-terminals, for harness/run.sh.
 
   run_desk.py CAMP kills KILLS SEED     entries at four benches, killed at random moments, started again
-  run_desk.py CAMP torn                 the log cut at every byte of its last record
+  run_desk.py CAMP torn [LIBRARY]       the log cut at every byte of its last record; with the library of a disk that fails
   run_desk.py CAMP full FOLDER          a file system that runs full; FOLDER is on it
   run_desk.py CAMP limit                the same by a limit on the file's length
   run_desk.py CAMP sync LIBRARY         a disk that fails when it is flushed, by that library
   run_desk.py CAMP removed              a log that others remove, cut or lengthen
   run_desk.py CAMP inputs               keypads that end and come back, raw mode put back, two on one device
+  run_desk.py CAMP fifo LIBRARY         a FIFO between two writers, by the same library
+  run_desk.py CAMP signals              the signals that end the desk, and those that do not
   run_desk.py CAMP console              the counsellor's commands
+  run_desk.py CAMP screen COLUMNS ROWS  what goes to a terminal of that size, byte by byte
+  run_desk.py CAMP terminal             the terminal's modes, however the desk ends
   run_desk.py CAMP load SECONDS         four benches at 50 keys a second each: how long until a key is shown
   run_desk.py CAMP memory KEYS          the program's memory over so many keys
 
 Each prints one line for each check, 'ok NAME' or 'FAIL NAME: WHY', and what was measured.
 """
+import atexit
 import fcntl
 import os
 import pty
 import random
 import re
+import resource
 import select
 import signal
+import stat
 import struct
 import subprocess
 import sys
@@ -31,6 +38,11 @@ NAMES = {4: "_refine_ls_R_factor_gt", 6: "_refine_ls_wR_factor_ref", 8: "_refine
 # The item that each bench owns.
 OWN = {0: 4, 1: 6, 2: 4, 3: 8}
 ROOM = 65536
+
+
+# A desk that outlived its test would open keypads of the next by their names, and take their keys.
+STARTED = []
+atexit.register(lambda: [process.kill() for process in STARTED if process.poll() is None])
 
 
 def check(name, wrong):
@@ -76,11 +88,6 @@ class Keypads:
     def type(self, bench, text):
         os.write(self.pairs[bench][0], text if isinstance(text, bytes) else text.encode())
 
-    def discard(self):
-        """What was typed and not read yet is lost, as with the power."""
-        for master, slave in self.pairs.values():
-            termios.tcflush(slave, termios.TCIFLUSH)
-
     def close(self):
         for master, slave in self.pairs.values():
             os.close(master)
@@ -93,6 +100,7 @@ class Desk:
     def __init__(self, camp, log, options, **how):
         self.process = subprocess.Popen([camp, "run", "--plain", "--log", log, *options], stdin=subprocess.PIPE,
                                         stdout=subprocess.PIPE, stderr=subprocess.PIPE, **how)
+        STARTED.append(self.process)
         self.text = b""
         os.set_blocking(self.process.stdout.fileno(), False)
 
@@ -105,7 +113,7 @@ class Desk:
             return got != b""
         return True
 
-    def until(self, pattern, seconds=10.0):
+    def until(self, pattern, seconds=30.0):
         """Reads until a pattern is printed; whether it was."""
         end = time.monotonic() + seconds
         while not re.search(pattern, self.text.decode(errors="replace"), re.M):
@@ -118,8 +126,12 @@ class Desk:
         return self.text.decode(errors="replace").split("\n")[:-1]
 
     def say(self, line):
-        self.process.stdin.write(line.encode() + b"\n")
-        self.process.stdin.flush()
+        """A line of the counsellor, who does not know whether the desk has ended."""
+        try:
+            self.process.stdin.write(line.encode() + b"\n")
+            self.process.stdin.flush()
+        except OSError:
+            pass
 
     def kill(self):
         self.process.kill()
@@ -127,12 +139,9 @@ class Desk:
         while self.read(0.01) and select.select([self.process.stdout], [], [], 0)[0]:
             pass
 
-    def quit(self, seconds=10.0):
+    def quit(self, seconds=30.0):
         """Its exit status and what it said on standard error."""
-        try:
-            self.say("quit")
-        except OSError:
-            pass
+        self.say("quit")
         end = time.monotonic() + seconds
         while self.read(0.05) and time.monotonic() < end:
             pass
@@ -148,8 +157,8 @@ def kills(camp, count, seed):
     folder = tempfile.mkdtemp()
     log = os.path.join(folder, "camp.log")
     chance = random.Random(seed)
-    shown, typed, wrong, bad_starts, torn, entered = [], set(), "", 0, 0, 0
-    number, starts = 0, 0
+    shown, typed, wrong, torn, entered = [], {bench: [] for bench in range(4)}, "", 0, 0
+    number, starts, foreign = 0, 0, 0
     while starts < count and not wrong:
         starts += 1
         if os.path.exists(log) and os.path.getsize(log) > ROOM - 4000:
@@ -166,16 +175,23 @@ def kills(camp, count, seed):
             break
         if f": {before} entr" not in desk.lines()[0]:
             wrong = f"start {starts}: {before} records, and it says {desk.lines()[0]}"
+        data = read(log)
+        owners = {bench for bench, _, _ in records(data)[0]}
+        wrong = wrong or asked(desk, data)
         moment = time.monotonic() + chance.random() * 0.15
         while time.monotonic() < moment:
             for bench in range(4):
                 number += 1
                 value = f"0.{number % 1000000:06d}"
-                if chance.random() < 0.2:
-                    # Refused: of the neighbour's item, or no number.
+                kind = chance.random()
+                if kind < 0.1:
+                    # Refused: no number.
                     pads.type(bench, f"{NAMES[OWN[bench]]} x{number}\n\x18")
+                elif kind < 0.2 and bench ^ 1 in owners:
+                    # Refused: the neighbour's item.
+                    pads.type(bench, f"{NAMES[OWN[bench ^ 1]]} {value}\n\x18")
                 else:
-                    typed.add((bench, value))
+                    typed[bench].append(value)
                     pads.type(bench, f"{NAMES[OWN[bench]]} {value}\n")
             desk.read(0.002)
         desk.kill()
@@ -184,36 +200,54 @@ def kills(camp, count, seed):
             match = ACCEPTED.match(line)
             if match:
                 shown.append((int(match[1]), int(match[2]), int(match[3]), match[5]))
+            foreign += ": refused, 9, " in line
         data = read(log)
         torn += records(data)[1] != b""
         wrong = wrong or compare(shown, data, typed)
     entered += len(records(read(log))[0])
+    if not wrong and foreign == 0 and starts > 5:
+        wrong = "no bench was refused its neighbour's item"
     check(f"killed {starts} times: each of {entered} entries in the log, in order, once", wrong)
-    print(f"  measured: {starts} kills, {entered} entries in the log, {number} lines typed, {torn} torn records", flush=True)
+    print(f"  measured: {starts} kills, {entered} entries in the log, {number} lines typed, {foreign} of a neighbour's item refused, {torn} torn records", flush=True)
     for name in os.listdir(folder):
         os.remove(os.path.join(folder, name))
     os.rmdir(folder)
 
 
+def asked(desk, data):
+    """What is wrong with what the desk answers, just started, of who typed each item, by its log."""
+    last, counts, times = {}, [0, 0], {}
+    for bench, item, value in records(data)[0]:
+        sheet = bench // 2
+        counts[sheet] += 1
+        times[(sheet, item)] = times.get((sheet, item), 0) + 1
+        last[(sheet, item)] = (bench, counts[sheet], times[(sheet, item)], value)
+    for (sheet, item), (bench, entry, typed, value) in last.items():
+        desk.say(f"who {item}")
+        if not desk.until(rf"^sheet {sheet}, item {item} \S+: bench {bench}, entry {entry}, typed {typed} times?: {re.escape(value)}$"):
+            return f"sheet {sheet}, item {item}: not bench {bench}, entry {entry}, typed {typed} times: {value}, but {desk.lines()[-2:]}"
+    return ""
+
+
 def compare(shown, data, typed):
-    """What is wrong with a log, by what was shown as accepted and what was typed."""
+    """What is wrong with a log, by what was shown as accepted and what each bench typed, in order."""
     found, _ = records(data)
     counts, numbered = [0, 0], {}
+    left = {bench: iter(values) for bench, values in typed.items()}
     for bench, item, value in found:
         sheet = bench // 2
         counts[sheet] += 1
         numbered[(sheet, counts[sheet])] = (bench, value)
-        if item != OWN[bench] or (bench, value) not in typed:
-            return f"{bench} {item} {value} was not typed so"
-    if len({(bench, value) for bench, _, value in found}) != len(found):
-        return "an entry is there twice"
+        # What was typed before the last value of a bench is used up: nothing is there twice or in another order.
+        if item != OWN[bench] or value not in left[bench]:
+            return f"{bench} {item} {value} was not typed so, or not behind the one before it"
     for bench, sheet, entry, value in shown:
         if numbered.get((sheet, entry)) != (bench, value):
             return f"sheet {sheet}, entry {entry} was shown as {bench} {value} and is {numbered.get((sheet, entry))}"
     return ""
 
 
-def torn(camp):
+def torn(camp, library=None):
     """Cut at every byte of the last record: the others stay, what is torn is kept, and the next entry follows."""
     folder = tempfile.mkdtemp()
     log = os.path.join(folder, "camp.log")
@@ -250,10 +284,42 @@ def torn(camp):
         desk = Desk(camp, log, ["--bench", "0=/dev/null"])
         status, said = desk.quit()
         place = f"byte {byte}: " if byte is not None else "byte "
-        bad = "" if status == 1 and f"{log}: {place}" in said and f": {number}, " in said and read(log) == data and os.listdir(folder) == ["camp.log"] else f"status {status}, {said!r}"
+        told = f"{log}: {place}" in said and f": {number}, " in said and said.endswith("; the desk is not started, and nothing is changed; start with a copy or another --log\n")
+        bad = "" if status == 1 and told and read(log) == data and os.listdir(folder) == ["camp.log"] else f"status {status}, {said!r}"
         check(f"stopped by {name}", bad)
-    os.remove(log)
-    os.rmdir(folder)
+    beside = log + ".torn"
+
+    def start(name, why, **how):
+        """A start that cannot keep what is torn leaves the log as it is."""
+        write(log, whole + last[:5])
+        status, said = Desk(camp, log, ["--bench", "0=/dev/null"], **how).quit()
+        want = f"camp: {log}: byte {len(whole)}: 20, the log ends inside this record; {why}; the desk is not started, and the torn record not cut off\n"
+        check(f"torn, and {name}", "" if status == 1 and said == want and read(log) == whole + last[:5] else f"status {status}, {said!r}")
+
+    os.mkdir(beside)
+    start("LOG.torn is a folder", f"{beside}: Is a directory")
+    os.rmdir(beside)
+    os.mkfifo(beside)
+    start("LOG.torn is a pipe", f"{beside}: No such device or address")
+    os.remove(beside)
+    os.symlink("/dev/full", beside)
+    start("LOG.torn is a device", f"{beside}: not an ordinary file")
+    os.remove(beside)
+    os.symlink("none/none", beside)
+    start("LOG.torn cannot be made", f"{beside}: No such file or directory")
+    os.remove(beside)
+    write(beside, b"x" * 5000)
+    start("LOG.torn cannot grow", f"{beside}: File too large", preexec_fn=lambda: resource.setrlimit(resource.RLIMIT_FSIZE, (5000, 5000)))
+    write(beside, b"earlier")
+    if library:
+        sign = os.path.join(folder, "sign")
+        write(sign, b"")
+        start("it cannot be cut off", f"{log}: Input/output error", env={**os.environ, "LD_PRELOAD": library, "CUT_FAILS": sign})
+        write(beside, b"earlier")
+    write(log, whole + last[:5])
+    Desk(camp, log, ["--bench", "0=/dev/null"]).quit()
+    check("torn again: added to LOG.torn", "" if read(beside) == b"earlier" + last[:5] and read(log) == whole else repr(read(beside)))
+    subprocess.run(["rm", "-r", folder], check=True)
 
 
 def no_room(camp, log, name, why, **how):
@@ -298,7 +364,6 @@ def limit(camp):
     folder = tempfile.mkdtemp()
 
     def few():
-        import resource
         resource.setrlimit(resource.RLIMIT_FSIZE, (5000, 5000))
 
     no_room(camp, os.path.join(folder, "camp.log"), "the file cannot grow, in the middle of a record", "File too large", preexec_fn=few)
@@ -310,9 +375,12 @@ def sync(camp, library):
     """A record that is not on the disk is no entry: the desk and the file are as before, and a later Enter keeps it."""
     folder = tempfile.mkdtemp()
     log, sign = os.path.join(folder, "camp.log"), os.path.join(folder, "sign")
+    calls = os.path.join(folder, "calls")
     pads = Keypads([0, 1])
-    desk = Desk(camp, log, pads.options(), env={**os.environ, "LD_PRELOAD": library, "SYNC_FAILS": sign})
+    how = {"env": {**os.environ, "LD_PRELOAD": library, "SYNC_FAILS": sign, "SYNC_TOLD": calls}}
+    desk = Desk(camp, log, pads.options(), **how)
     desk.until(r"^bench 1: \S+ is open")
+    check("the name of a new log is kept", "" if read(calls) == b"fsync folder\n" else repr(read(calls)))
     pads.type(0, f"{NAMES[4]} 0.1\n")
     desk.until(r"^bench 0: accepted, sheet 0, entry 1: ")
     before = read(log)
@@ -320,6 +388,10 @@ def sync(camp, library):
     pads.type(0, f"{NAMES[4]} 0.2\n")
     told = desk.until(r"^bench 0: not kept, Input/output error: %s 0\.2$" % NAMES[4])
     check("a disk that fails: told, and not in the log", "" if told and read(log) == before and desk.text.count(b"accepted") == 1 else f"{desk.text!r} {read(log)!r}")
+    pads.type(0, "\n")
+    told = desk.until(r"^bench 0: not kept, the log file cannot be cut back: %s 0\.2$" % NAMES[4])
+    want = b"fdatasync 9\nfdatasync 18 fails\nftruncate 9\nfdatasync 9 fails\nftruncate 9\nfdatasync 9 fails\n"
+    check("what is cut off is flushed too", "" if told and read(calls).endswith(want) else f"{desk.text!r} {read(calls)!r}")
     os.remove(sign)
     pads.type(1, f"{NAMES[6]} 0.3\n")
     desk.until(r"^bench 1: accepted")
@@ -328,6 +400,14 @@ def sync(camp, library):
     desk.quit()
     check("a disk that works again: the line is entered, once", "" if records(read(log)) == ([(0, 4, "0.1"), (1, 6, "0.3"), (0, 4, "0.2")], b"") else repr(read(log)))
     pads.close()
+    write(calls, b"")
+    again = Desk(camp, log, ["--bench", "0=/dev/null"], **how)
+    again.until(r"bytes left")
+    check("the name of a log that was there is kept", "" if read(calls) == b"fsync folder\n" else repr(read(calls)))
+    again.quit()
+    write(sign, b"")
+    status, said = Desk(camp, log, ["--bench", "0=/dev/null"], **how).quit()
+    check("a folder that cannot be flushed", "" if status == 1 and said == f"camp: {log}: Input/output error\n" else f"{status} {said!r}")
     subprocess.run(["rm", "-r", folder], check=True)
 
 
@@ -361,25 +441,29 @@ def removed(camp):
 def inputs(camp):
     folder = tempfile.mkdtemp()
     log, fifo, link = (os.path.join(folder, name) for name in ("camp.log", "fifo", "keypad"))
+    none = os.path.join(folder, "n" * 200, "n" * 200, "none")
     os.mkfifo(fifo)
     pads = Keypads([1])
     master, slave = pty.openpty()
     before = termios.tcgetattr(slave)
     os.symlink(os.ttyname(slave), link)
-    desk = Desk(camp, log, ["--bench", f"0={link}", "--bench", f"2={fifo}", "--bench", f"3={folder}/none", "--speed", "4800", *pads.options()])
+    desk = Desk(camp, log, ["--bench", f"0={link}", "--bench", f"2={fifo}", "--bench", f"3={none}", "--speed", "4800", *pads.options()])
     desk.until(r"^bench 1: \S+ is open")
     check("a keypad that is not there is told", "" if desk.until(r"^bench 3: \S+/none is not there: No such file or directory$") else repr(desk.text))
     raw = termios.tcgetattr(slave)
     check("raw mode and speed", "" if raw[3] & (termios.ICANON | termios.ECHO | termios.ISIG) == 0 and raw[0] & termios.ICRNL == 0 and raw[4] == termios.B4800 else repr(raw))
-    os.write(master, f"{NAMES[4]} 0.1".encode())
+    # The last byte tells that the others were taken.
+    os.write(master, f"{NAMES[4]} 0.1\x07".encode())
+    desk.until(r"^bench 0: refused, 3, .*: byte 7$", 30)
     pads.type(1, f"{NAMES[6]} 0.2\n")
     check("a bench goes on beside it", "" if desk.until(r"^bench 1: accepted, sheet 0, entry 1: ") else repr(desk.text))
+    # The name goes first: the number of the pseudo-terminal may be another program's at once.
+    os.remove(link)
     os.close(slave)
     os.close(master)
     check("a keypad that ends is told", "" if desk.until(r"^bench 0: \S+ ended; it is opened again when it comes back$") else repr(desk.text))
     pads.type(1, f"{NAMES[6]} 0.3\n")
     check("the others go on without it", "" if desk.until(r"^bench 1: accepted, sheet 0, entry 2: ") else repr(desk.text))
-    os.remove(link)
     master, slave = pty.openpty()
     os.symlink(os.ttyname(slave), link)
     seen = len(desk.text)
@@ -392,7 +476,7 @@ def inputs(camp):
         check(f"a FIFO, writer {number}", "" if desk.until(r"^bench 2: accepted, sheet 1, entry %d: " % number) else repr(desk.text))
     os.write(master, bytes(range(128, 256)) + b"\x1b[2J\x07\r\x7f")
     desk.until(r"^bench 0: refused, 3, .*: byte 127$")
-    check("bytes that are no keys are told by number", "" if desk.text.count(b"bench 0: refused, 3, ") == 132 and all(byte == 10 or 32 <= byte <= 126 for byte in desk.text) else repr(desk.text[-300:]))
+    check("bytes that are no keys are told by number", "" if desk.text.count(b"bench 0: refused, 3, ") == 133 and all(byte == 10 or 32 <= byte <= 126 for byte in desk.text) else repr(desk.text[-300:]))
     status, said = desk.quit()
     after = termios.tcgetattr(slave)
     check("the end, and modes put back", "" if status == 0 and not said and after[3] & termios.ICANON and after[0] & termios.ICRNL and after[4] == before[4] else f"{status} {said!r} {after!r}")
@@ -400,10 +484,90 @@ def inputs(camp):
     os.symlink(os.ttyname(slave), other)
     desk = Desk(camp, log, ["--bench", f"0={link}", "--bench", f"1={other}"])
     check("two benches on one device", "" if desk.until(r"^bench 1: \S+ is not there: this is the input of another bench$") else repr(desk.text))
+    # The device of bench 0 goes and comes back: it is not bench 1's meanwhile.
+    os.write(master, b"\x07")
+    desk.until(r"^bench 0: refused, 3, ")
+    for path in (other, link):
+        os.remove(path)
+    os.close(slave)
+    os.close(master)
+    desk.until(r"^bench 0: \S+ ended")
+    master, slave = pty.openpty()
+    for path in (other, link):
+        os.symlink(os.ttyname(slave), path)
+    desk.until(r"(?s)ended; .*^bench 0: \S+ is open$")
+    time.sleep(0.6)
+    os.write(master, f"{NAMES[4]} 0.17\n".encode())
+    check("they do not change places", "" if desk.until(r"^bench 0: accepted, .* 0\.17$") and b"bench 1: accepted" not in desk.text and desk.text.count(b"bench 1: ") == 1 else repr(desk.text))
     desk.process.send_signal(signal.SIGTERM)
     desk.process.wait(timeout=10)
     check("ended by a signal", "" if desk.process.returncode == 0 else str(desk.process.returncode))
+    if os.geteuid() == 0:
+        os.mknod(f"{folder}/null", 0o600 | stat.S_IFCHR, os.stat("/dev/null").st_rdev)
+        desk = Desk(camp, log, ["--bench", "0=/dev/null", "--bench", f"1={folder}/null"])
+        check("two benches on one device by two nodes", "" if desk.until(r"^bench 1: \S+ is not there: this is the input of another bench$", 3) else repr(desk.text))
+        desk.quit()
     pads.close()
+    subprocess.run(["rm", "-r", folder], check=True)
+
+
+def fifo(camp, library):
+    """A line that a second writer puts into a FIFO while the end of the first is told is not lost; closing takes its time."""
+    folder = tempfile.mkdtemp()
+    path = os.path.join(folder, "fifo")
+    os.mkfifo(path)
+    desk = Desk(camp, os.path.join(folder, "camp.log"), ["--bench", f"0={path}"], env={**os.environ, "LD_PRELOAD": library, "CLOSE_WAITS": "1"})
+    desk.until(r"is open$")
+    for number, pause in ((1, 0.3), (2, 0)):
+        file = os.open(path, os.O_WRONLY)
+        os.write(file, f"{NAMES[4]} 0.{number}\n".encode())
+        os.close(file)
+        time.sleep(pause)
+    check("a FIFO between two writers", "" if desk.until(r"^bench 0: accepted, sheet 0, entry 2: \S+ 0\.2$", 5) else repr(desk.text))
+    desk.kill()
+    subprocess.run(["rm", "-r", folder], check=True)
+
+
+def signals(camp):
+    """Signals that end the desk, also where an input always has something; and those that it leaves as they were."""
+    folder = tempfile.mkdtemp()
+    log, keys = os.path.join(folder, "camp.log"), os.path.join(folder, "keys")
+    write(keys, b"0\x07" * 4000000)
+    for name, options in [("a keypad that floods", ["--bench", "0=/dev/zero"]), ("a long file of pairs", ["--pairs", keys])]:
+        desk = Desk(camp, log, options)
+        desk.until(r"refused, 3, ")
+        desk.process.send_signal(signal.SIGTERM)
+        end = time.monotonic() + 10
+        while desk.process.poll() is None and time.monotonic() < end:
+            desk.read(0.05)
+            desk.text = desk.text[-100000:]
+        check(f"ended by a signal beside {name}", "" if desk.process.poll() == 0 else f"{desk.process.poll()}")
+        desk.kill()
+    os.remove(keys)
+    for number in (signal.SIGTERM, signal.SIGINT, signal.SIGHUP, signal.SIGQUIT):
+        master, slave = pty.openpty()
+        before = termios.tcgetattr(slave)
+        desk = Desk(camp, log, ["--bench", f"0={os.ttyname(slave)}"])
+        desk.until(r"is open$")
+        raw = termios.tcgetattr(slave)
+        desk.process.send_signal(number)
+        try:
+            status = desk.process.wait(timeout=10)
+        except subprocess.TimeoutExpired:
+            status = "none"
+        right = status == 0 and desk.until(r"(?s)bytes left.*bytes left") and raw[3] != before[3] and termios.tcgetattr(slave) == before
+        check(f"ended by {signal.Signals(number).name}, modes put back", "" if right else f"{status} {desk.text!r}")
+        desk.kill()
+        os.close(master)
+        os.close(slave)
+    # nohup ignores the one, a shell's background the other.
+    desk = Desk(camp, log, ["--bench", "0=/dev/null"], preexec_fn=lambda: signal.signal(signal.SIGHUP, signal.SIG_IGN))
+    desk.until(r"is open$")
+    for number in (signal.SIGHUP, signal.SIGTTIN, signal.SIGTTOU, signal.SIGTSTP):
+        desk.process.send_signal(number)
+    desk.say("who 4")
+    check("goes on after nohup's SIGHUP, SIGTTIN, SIGTTOU and SIGTSTP", "" if desk.until(r"^item 4 is empty$", 3) else f"{desk.process.poll()} {desk.text!r}")
+    desk.kill()
     subprocess.run(["rm", "-r", folder], check=True)
 
 
@@ -457,68 +621,242 @@ def console(camp):
     status, said = desk.quit()
     check("console: quit", "" if status == 0 and not said and "bench 1 has not entered `_half a line`" in desk.lines() else f"{status} {said!r} {desk.text!r}")
     pads.close()
+    write(os.path.join(folder, "none"), b"")
+    for name, text, times in [("a last line without its end", "who 5\nwho 5", 2), ("a command behind quit", "who 5\nquit\nwho 5\n", 1)]:
+        answered = subprocess.run([camp, "run", "--plain", "--log", log, "--pairs", os.path.join(folder, "none")], input=text, capture_output=True, text=True, timeout=20)
+        check(f"console: {name}", "" if answered.returncode == 0 and answered.stdout.count("item 5 is empty\n") == times else repr(answered))
     subprocess.run(["rm", "-r", folder], check=True)
 
 
-def on_screen(camp, log, options, rows=24, columns=80, **how):
-    """The desk on a screen: its process, and the side of the terminal that shows it."""
+class Screen:
+    """The desk on the screen of a pseudo-terminal, which is its own terminal; words are what it draws, without the places."""
+
+    def __init__(self, camp, log, options, columns=80, rows=24, term="xterm-256color", stdin=None):
+        self.master, self.slave = pty.openpty()
+        fcntl.ioctl(self.slave, termios.TIOCSWINSZ, struct.pack("HHHH", rows, columns, 0, 0))
+        self.before = termios.tcgetattr(self.slave)
+        self.bytes = self.sent = b""
+
+        def own():
+            os.setsid()
+            fcntl.ioctl(1, termios.TIOCSCTTY, 0)
+
+        self.process = subprocess.Popen([camp, "run", "--log", log, *options], stdin=self.slave if stdin is None else stdin, stdout=self.slave, stderr=self.slave,
+                                        env={**os.environ, "TERM": term}, preexec_fn=own)
+        STARTED.append(self.process)
+        os.set_blocking(self.master, False)
+
+    def read(self, seconds=0.0):
+        """What is drawn within a time."""
+        got = b""
+        if select.select([self.master], [], [], seconds)[0]:
+            try:
+                got = os.read(self.master, 65536)
+            except OSError:
+                pass
+        self.bytes += got
+        self.sent += got
+        return got
+
+    def shows(self, *words, seconds=60.0):
+        """Has all drawn anew until the words stand there, be they folded or not; whether they do."""
+        end = time.monotonic() + seconds
+        while time.monotonic() < end:
+            self.bytes = b""
+            self.process.send_signal(signal.SIGWINCH)
+            while self.read(1.0):
+                if all(word.replace(" ", "") in plain(self.bytes).replace(" ", "") for word in words):
+                    return True
+        return False
+
+    def until(self, *words, seconds=60.0):
+        """Reads until all words are drawn since the last time; whether they were."""
+        end = time.monotonic() + seconds
+        while not all(word in plain(self.bytes) for word in words):
+            if time.monotonic() > end:
+                return False
+            self.read(0.05)
+        return True
+
+    def type(self, keys):
+        """The counsellor's keys; what was drawn before is forgotten."""
+        self.bytes = b""
+        os.write(self.master, keys)
+
+    def resize(self, columns, rows):
+        fcntl.ioctl(self.slave, termios.TIOCSWINSZ, struct.pack("HHHH", rows, columns, 0, 0))
+        self.bytes = b""
+
+    def modes(self):
+        return termios.tcgetattr(self.slave)
+
+    def wait(self, seconds=60.0):
+        """The exit status, with what is drawn until then."""
+        end = time.monotonic() + seconds
+        while self.process.poll() is None and time.monotonic() < end:
+            self.read(0.02)
+        while self.read(0.01):
+            pass
+        return self.process.poll()
+
+    def close(self):
+        if self.process.poll() is None:
+            self.process.kill()
+        self.process.wait()
+        os.close(self.master)
+        os.close(self.slave)
+
+
+def plain(drawn):
+    """What was drawn without the terminal's commands; each place that is gone to is a space."""
+    return re.sub(r"\s+", " ", re.sub(r"\x1b(\[[0-9;?]*[ -/]*[@-~]|[()][A-Z0-9]|[=>78M])", " ", drawn.decode("latin-1")))
+
+
+def screen(camp, columns, rows):
+    """What goes to the terminal at this size, and what becomes of the terminal."""
+    folder = tempfile.mkdtemp()
+    # The title has the name of the log, with bytes that no terminal may get.
+    log, size = os.path.join(folder, "\x07\x9b\xe9.log"), f"{columns}x{rows}"
+    large = columns >= 80 and rows >= 24
+    write(log, record(0, 4, "0.16") + record(1, 6, "0.2")[:5])
+    pads = Keypads()
     master, slave = pty.openpty()
-    fcntl.ioctl(slave, termios.TIOCSWINSZ, struct.pack("HHHH", rows, columns, 0, 0))
-    process = subprocess.Popen([camp, "run", "--log", log, *options], stdin=slave, stdout=slave, stderr=slave,
-                               env={**os.environ, "TERM": "xterm-256color"}, **how)
+    link = os.path.join(folder, "keypad")
+    os.symlink(os.ttyname(slave), link)
+    del pads.pairs[0]
+    shown = Screen(camp, log, ["--bench", f"0={link}", *pads.options()], columns, rows)
+
+    def seen(name, *words):
+        if large:
+            check(f"on a screen of {size}: {name}", "" if shown.shows(*words) else f"{words} not in {plain(shown.bytes)!r}")
+        else:
+            time.sleep(0.2)
+            shown.read(0.2)
+
+    shown.until("THE DESK")
+    seen("a torn record", "20, the log ends inside this record", "the log goes on before it")
+    shown.type(b"\r")
+    seen("the sheets", "SHEET 0 our camp: 1 typed")
+    os.write(master, b"\303\251\033[2J\007_refine\n")
+    pads.type(1, bytes(range(127, 256)) + f"{NAMES[6]} 0.3\n".encode())
+    pads.type(2, "_" * 300)
+    pads.type(3, f"{NAMES[8]} abc\n")
+    seen("answers to keys", "This is not a name", "Thank you! Entry 2 of sheet 0 is kept.", "The line is full", "This item wants a number")
+    os.remove(link)
     os.close(slave)
-    os.set_blocking(master, False)
-    return process, master
+    os.close(master)
+    seen("a keypad that is pulled out", "The keypad is not there: No such file or directory.")
+    shown.type(b"cif 2 camp-1 b.cif\r")
+    seen("an answer that is wider than the screen", "12, no such sheet", "of benches 2 and 3")
+    shown.type(b"x" * 500 + b"\033")
+    time.sleep(0.2)
+    shown.type(b"who 4\r")
+    seen("Escape empties a line that is too long", "bench 0, entry 1, typed 1 time")
+    shown.type(b"history\r\033[6~\033[5~\033[A\033[B\177\b")
+    for smaller in ((50, 16), (20, 10), (12, 3), (1, 1), (columns, rows)):
+        shown.resize(*smaller)
+        shown.process.send_signal(signal.SIGWINCH)
+        time.sleep(0.1)
+        shown.read(0.1)
+    shown.type(b"\r")
+    seen("as it was", "SHEET 1 visitors: 0 typed")
+    shown.type(b"quit\r")
+    status = shown.wait()
+    check(f"on a screen of {size}: quit, and the modes are put back", "" if status == 0 and shown.modes() == shown.before else f"{status} {shown.modes()} {plain(shown.bytes)[-300:]!r}")
+    wrong = sorted({byte for byte in shown.sent if byte >= 127 or byte == 7})
+    check(f"on a screen of {size}: no byte over 126, no bell", "" if len(shown.sent) > 1000 and not wrong else f"{wrong} in {len(shown.sent)} bytes")
+    shown.close()
+    pads.close()
+    subprocess.run(["rm", "-r", folder], check=True)
 
 
-def drawn(master, seconds):
-    if select.select([master], [], [], seconds)[0]:
-        try:
-            return os.read(master, 65536)
-        except OSError:
-            return b""
-    return b""
+def terminal(camp):
+    """What becomes of the terminal, however the desk ends."""
+    folder = tempfile.mkdtemp()
+    log = os.path.join(folder, "camp.log")
+    pads = Keypads([0])
+    for name, end in [("SIGTERM", signal.SIGTERM), ("SIGHUP", signal.SIGHUP), ("SIGINT", signal.SIGINT), ("Ctrl-C", b"\3")]:
+        shown = Screen(camp, log, pads.options())
+        shown.until("desk>")
+        raw = shown.modes()
+        if isinstance(end, bytes):
+            shown.type(end)
+        else:
+            shown.process.send_signal(end)
+        status = shown.wait()
+        check(f"the terminal after {name}", "" if status == 0 and raw[3] & termios.ICANON == 0 and shown.modes() == shown.before and b"\x1b[?1049l" in shown.bytes else f"{status} {shown.modes()}")
+        shown.close()
+    shown = Screen(camp, log, pads.options(), term="unknown-terminal")
+    status = shown.wait()
+    check("a terminal that is not known", "" if status == 1 and "camp: this terminal cannot be drawn on; see --plain in 'camp help run'" in plain(shown.bytes) and shown.modes() == shown.before else f"{status} {shown.bytes!r}")
+    shown.close()
+    for name, end in [("quit", b"who 4\nquit\n"), ("Ctrl-C", b"")]:
+        console, typed = os.pipe()
+        shown = Screen(camp, log, pads.options(), stdin=console)
+        shown.until("desk>")
+        os.write(typed, end)
+        if not end:
+            os.write(shown.master, b"\x13\3")
+        status = shown.wait(10)
+        check(f"standard input is not the terminal: {name}", "" if status == 0 and shown.modes() == shown.before else f"{status} {shown.modes()}")
+        shown.close()
+        os.close(console)
+        os.close(typed)
+    shown = Screen(camp, log, ["--plain", "--pairs", "-"])
+    shown.until("standard input is open")
+    check("pairs that a person types", "" if shown.modes() == shown.before else f"{shown.modes()}")
+    os.write(shown.master, b"\3")
+    check("pairs that a person types: Ctrl-C", "" if shown.wait(10) == 0 else str(shown.process.poll()))
+    shown.close()
+    pads.close()
+    subprocess.run(["rm", "-r", folder], check=True)
 
 
 def load(camp, seconds):
-    """Four benches at 50 keys a second each, every 30th key an Enter that is flushed: from a key to the screen."""
+    """Four benches at 50 keys a second each, some in thirty an Enter that is flushed: from when a key is due until it is drawn.
+
+    Keys are sent when they are due, whether or not the ones before were shown."""
     folder = tempfile.mkdtemp(dir=os.environ.get("RUN_FOLDER"))
     pads = Keypads()
-    process, master = on_screen(camp, os.path.join(folder, "camp.log"), pads.options(), 60, 200)
-    time.sleep(0.5)
-    while drawn(master, 0.1):
+    log = os.path.join(folder, "camp.log")
+    shown = Screen(camp, log, pads.options(), 200, 60)
+    shown.until("desk>")
+    while shown.read(0.1):
         pass
     lines = {bench: f"{NAMES[OWN[bench]]} 0.16\n" for bench in range(4)}
-    place = {bench: 0 for bench in range(4)}
-    times, enters, begin = [], [], time.monotonic()
-    tick = 0
-    while time.monotonic() - begin < seconds:
-        for bench in range(4):
-            due = begin + tick * 0.02 + bench * 0.005
-            pause = due - time.monotonic()
-            if pause > 0:
-                time.sleep(pause)
-            byte = lines[bench][place[bench] % len(lines[bench])]
-            place[bench] += 1
-            sent = time.monotonic()
+    keys, waiting, times, enters, begin, sent = round(seconds * 200), [], [], [], time.monotonic(), 0
+    while sent < keys or waiting:
+        due = begin + sent * 0.005
+        if sent < keys and time.monotonic() >= due:
+            bench = sent % 4
+            byte = lines[bench][sent // 4 % len(lines[bench])]
             pads.type(bench, byte)
-            if drawn(master, 1.0):
-                (enters if byte == "\n" else times).append(time.monotonic() - sent)
-            else:
-                times.append(1.0)
-        tick += 1
+            waiting.append((due, byte))
+            sent += 1
+            continue
+        shown.bytes = b""
+        drawn = plain(shown.read(max(0.0, due - time.monotonic()) if sent < keys else 1.0))
+        moment = time.monotonic()
+        late = [one for one in waiting if moment - one[0] > 1.0]
+        for due, byte in list(waiting):
+            # A space is drawn as a place that is gone to.
+            what = "Thank you!" if byte == "\n" else byte
+            if what in drawn or (due, byte) in late:
+                drawn = drawn.replace(what, "", 1)
+                (enters if byte == "\n" else times).append(moment - due)
+                waiting.remove((due, byte))
     took = sorted(times + enters)
     worst, middle = took[-1] * 1000, took[len(took) // 2] * 1000
     late = sum(1 for one in took if one > 0.010)
     flushed = sorted(enters)
-    process.terminate()
-    process.wait(timeout=10)
-    found, rest = records(read(os.path.join(folder, "camp.log")))
+    shown.process.terminate()
+    shown.wait()
+    found, rest = records(read(log))
     # Others use the processors too, so one in ten may be late.
-    check("keys are shown within 10 ms", "" if took and late * 10 <= len(took) and len(found) == len(enters) else f"{late} of {len(took)} late, the worst {worst:.1f} ms, {len(found)} records of {len(enters)} Enters")
+    check("nine in ten keys are shown within 10 ms", "" if took and late * 10 <= len(took) and len(found) == len(enters) else f"{late} of {len(took)} late, the worst {worst:.1f} ms, {len(found)} records of {len(enters)} Enters")
     print(f"  measured: {len(took)} keys at four benches in {seconds} s: half within {middle:.2f} ms, 99 of 100 within {took[len(took) * 99 // 100] * 1000:.2f} ms, the worst {worst:.2f} ms; {late} over 10 ms; {len(flushed)} Enters with flushing, half within {flushed[len(flushed) // 2] * 1000:.2f} ms, the worst {flushed[-1] * 1000:.2f} ms", flush=True)
+    shown.close()
     pads.close()
-    os.close(master)
     subprocess.run(["rm", "-r", folder], check=True)
 
 
@@ -526,11 +864,15 @@ def memory(camp, count):
     """The program's memory does not grow: after the first tenth of the keys, and at the end."""
     folder = tempfile.mkdtemp()
     pads = Keypads([0, 2])
-    process, master = on_screen(camp, os.path.join(folder, "camp.log"), pads.options())
-    time.sleep(0.3)
+    shown = Screen(camp, os.path.join(folder, "camp.log"), pads.options())
+    shown.until("desk>")
+
+    def drawn(seconds):
+        shown.bytes = b""
+        shown.read(seconds)
 
     def resident():
-        with open(f"/proc/{process.pid}/status") as file:
+        with open(f"/proc/{shown.process.pid}/status") as file:
             return next(int(line.split()[1]) for line in file if line.startswith("VmRSS"))
 
     text = ("_refine x" * 20 + "\n" + "\x18" + "\x07").encode() * 4
@@ -545,20 +887,19 @@ def memory(camp, count):
                     rest = rest[os.write(pads.pairs[bench][0], rest):]
                 except BlockingIOError:
                     pass
-                drawn(master, 0)
+                drawn(0)
             sent += len(text)
         if not first and sent > count // 10:
             first = resident()
     for _ in range(50):
-        drawn(master, 0.01)
+        drawn(0.01)
     last = resident()
-    process.terminate()
-    while process.poll() is None:
-        drawn(master, 0.01)
+    shown.process.terminate()
+    shown.wait()
     check(f"memory over {count} keys", "" if first and last - first <= 64 else f"{first} kB, then {last} kB")
     print(f"  measured: {first} kB after {count // 10} keys, {last} kB after {count}", flush=True)
+    shown.close()
     pads.close()
-    os.close(master)
     subprocess.run(["rm", "-r", folder], check=True)
 
 
@@ -566,7 +907,7 @@ def main(camp, what, *words):
     if what == "kills":
         kills(camp, int(words[0]), int(words[1]))
     elif what == "torn":
-        torn(camp)
+        torn(camp, *words)
     elif what == "full":
         no_room(camp, os.path.join(words[0], "camp.log"), "a file system that runs full in the middle of a record", "No space left on device")
     elif what == "limit":
@@ -577,8 +918,16 @@ def main(camp, what, *words):
         removed(camp)
     elif what == "inputs":
         inputs(camp)
+    elif what == "fifo":
+        fifo(camp, words[0])
+    elif what == "signals":
+        signals(camp)
     elif what == "console":
         console(camp)
+    elif what == "screen":
+        screen(camp, int(words[0]), int(words[1]))
+    elif what == "terminal":
+        terminal(camp)
     elif what == "load":
         load(camp, float(words[0]))
     elif what == "memory":

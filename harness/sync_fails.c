@@ -1,17 +1,73 @@
-/* For harness/run.sh: flushing a file fails as long as the file that SYNC_FAILS names is there. */
+/*
+ * For harness/run.sh: a disk that fails, put before the system's functions. Flushing a file fails as long as the file that
+ * SYNC_FAILS names is there, cutting one as long as that of CUT_FAILS is. Each call is added to the file that SYNC_TOLD names,
+ * with the length of its file, or "folder". Closing a FIFO takes a second where CLOSE_WAITS is set.
+ */
 #define _GNU_SOURCE
 
 #include <errno.h>
+#include <fcntl.h>
+#include <stdio.h>
 #include <stdlib.h>
+#include <sys/stat.h>
 #include <sys/syscall.h>
 #include <unistd.h>
 
+static int fails(const char *name)
+{
+    const char *sign = getenv(name);
+    return sign != NULL && access(sign, F_OK) == 0;
+}
+
+/* Adds a call to what is told. */
+static int told(const char *call, int file, int result)
+{
+    int error = errno;
+    const char *path = getenv("SYNC_TOLD");
+    FILE *to = path != NULL ? fopen(path, "a") : NULL;
+    struct stat found;
+    if (to != NULL && fstat(file, &found) == 0) {
+        if (S_ISDIR(found.st_mode))
+            fprintf(to, "%s folder%s\n", call, result != 0 ? " fails" : "");
+        else
+            fprintf(to, "%s %lld%s\n", call, (long long)found.st_size, result != 0 ? " fails" : "");
+    }
+    if (to != NULL)
+        fclose(to);
+    errno = error;
+    return result;
+}
+
+static int flush(const char *call, long number, int file)
+{
+    if (!fails("SYNC_FAILS"))
+        return told(call, file, (int)syscall(number, file));
+    errno = EIO;
+    return told(call, file, -1);
+}
+
 int fdatasync(int file)
 {
-    const char *sign = getenv("SYNC_FAILS");
-    if (sign != NULL && access(sign, F_OK) == 0) {
-        errno = EIO;
-        return -1;
-    }
-    return (int)syscall(SYS_fdatasync, file);
+    return flush("fdatasync", SYS_fdatasync, file);
+}
+
+int fsync(int file)
+{
+    return flush("fsync", SYS_fsync, file);
+}
+
+int ftruncate(int file, off_t length)
+{
+    if (!fails("CUT_FAILS"))
+        return told("ftruncate", file, (int)syscall(SYS_ftruncate, file, length));
+    errno = EIO;
+    return told("ftruncate", file, -1);
+}
+
+int close(int file)
+{
+    struct stat found;
+    if (getenv("CLOSE_WAITS") != NULL && fstat(file, &found) == 0 && S_ISFIFO(found.st_mode))
+        sleep(1);
+    return (int)syscall(SYS_close, file);
 }

@@ -13,7 +13,7 @@
 #include "options.h"
 #include "words.h"
 
-enum { WRITTEN = 0, BAD_BLOCK_NAME = 11, NO_SUCH_SHEET = 12 };
+enum { WRITTEN = 0 };
 
 void type_console(console_state *console, char byte)
 {

@@ -1,5 +1,5 @@
 /* Files, read whole, and written whole or not at all. */
-#define _POSIX_C_SOURCE 200809L
+#define _DEFAULT_SOURCE
 
 #include "files.h"
 
@@ -8,6 +8,7 @@
 #include <stdio.h>
 #include <stdlib.h>
 #include <string.h>
+#include <sys/file.h>
 #include <sys/stat.h>
 #include <unistd.h>
 
@@ -186,7 +187,18 @@ const char *try_write(const char *path, const uint8_t *bytes, size_t length)
 {
     if (is_taken(path))
         return "not an ordinary file";
-    return write_to(path, bytes, length) ? NULL : strerror(errno);
+    /* A running desk holds its log. */
+    int before = open(path, O_RDONLY | O_NONBLOCK | O_CLOEXEC);
+    if (before < 0 && errno != ENOENT)
+        return strerror(errno);
+    const char *why = NULL;
+    if (before >= 0 && flock(before, LOCK_EX | LOCK_NB) != 0)
+        why = errno == EWOULDBLOCK ? "another program writes this file" : strerror(errno);
+    else if (!write_to(path, bytes, length))
+        why = strerror(errno);
+    if (before >= 0)
+        close(before);
+    return why;
 }
 
 bool write_whole(const char *path, const uint8_t *bytes, size_t length)

@@ -37,8 +37,8 @@ bool write_bytes(int file, const uint8_t *bytes, size_t length);
 
 /*
  * Writes a file whole or not at all: beside its place, and renamed when all of it is on the disk.
- * Where that fails it tells so, and what had the name before stays. What goes to standard output is
- * told by output_ended.
+ * Where that fails, and where a running desk writes the file, it tells so, and what had the name before
+ * stays. What goes to standard output is told by output_ended.
  */
 bool write_whole(const char *path, const uint8_t *bytes, size_t length);
 

@@ -61,8 +61,11 @@ static bool set_raw(input *in)
 static bool same_file(int file, int other)
 {
     struct stat one, two;
-    return fstat(file, &one) == 0 && fstat(other, &two) == 0 && one.st_dev == two.st_dev &&
-           one.st_ino == two.st_ino;
+    if (fstat(file, &one) != 0 || fstat(other, &two) != 0)
+        return false;
+    if (S_ISCHR(one.st_mode) && S_ISCHR(two.st_mode))
+        return one.st_rdev == two.st_rdev;
+    return one.st_dev == two.st_dev && one.st_ino == two.st_ino;
 }
 
 bool same_input(const input *in, const input *other)
@@ -78,8 +81,9 @@ static const char *no_input(input *in)
         return strerror(errno);
     if (S_ISDIR(found.st_mode))
         return strerror(EISDIR);
-    in->is_terminal = isatty(in->file) != 0;
-    if (in->is_terminal && !in->once && same_file(in->file, STDIN_FILENO)) {
+    /* Pairs that a person types are taken as the terminal gives them. */
+    in->is_terminal = !in->once && isatty(in->file) != 0;
+    if (in->is_terminal && same_file(in->file, STDIN_FILENO)) {
         in->is_terminal = false;
         return "this is the counsellor's own terminal";
     }
@@ -90,36 +94,49 @@ static const char *no_input(input *in)
     return NULL;
 }
 
+static void shut(int *file)
+{
+    if (*file >= 0)
+        close(*file);
+    *file = -1;
+}
+
 const char *open_input(input *in)
 {
     in->opened = now();
     in->again = in->opened + LATER;
     in->in_pair = false;
-    in->file = open(in->path, O_RDONLY | O_NONBLOCK | O_NOCTTY | O_CLOEXEC);
+    in->file = in->once ? fcntl(STDIN_FILENO, F_DUPFD_CLOEXEC, 0)
+                        : open(in->path, O_RDONLY | O_NONBLOCK | O_NOCTTY | O_CLOEXEC);
     if (in->file < 0)
         return strerror(errno);
     const char *why = no_input(in);
-    if (why != NULL)
+    if (why != NULL) {
         close_input(in);
-    else
-        in->state = INPUT_WAITING;
-    return why;
+        return why;
+    }
+    shut(&in->held);
+    in->state = INPUT_WAITING;
+    return NULL;
 }
 
-/* A file that was read to its end is not read again. */
-static bool is_file(const input *in)
-{
-    struct stat found;
-    return fstat(in->file, &found) == 0 && S_ISREG(found.st_mode);
-}
-
+/*
+ * A file that was read to its end is not read again. A FIFO is held until it is open anew, since what
+ * another writer puts there meanwhile would be lost with the last descriptor.
+ */
 static void end_input(input *in)
 {
     int error = errno;
-    input_state next = in->once || is_file(in) ? INPUT_OVER : INPUT_AWAY;
+    struct stat found;
+    mode_t mode = fstat(in->file, &found) == 0 ? found.st_mode : 0;
+    bool over = in->once || S_ISREG(mode);
     in->again = now() + (in->state == INPUT_THERE ? SOON : LATER);
+    if (!over && S_ISFIFO(mode)) {
+        in->held = in->file;
+        in->file = -1;
+    }
     close_input(in);
-    in->state = next;
+    in->state = over ? INPUT_OVER : INPUT_AWAY;
     errno = error;
 }
 
@@ -145,7 +162,12 @@ void close_input(input *in)
     if (in->is_terminal)
         tcsetattr(in->file, TCSANOW, &in->before);
     in->is_terminal = false;
-    close(in->file);
-    in->file = -1;
+    shut(&in->file);
     in->state = INPUT_AWAY;
+}
+
+void refuse_input(input *in)
+{
+    close_input(in);
+    in->state = INPUT_REFUSED;
 }

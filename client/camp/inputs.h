@@ -10,21 +10,26 @@
 #include <stdint.h>
 #include <termios.h>
 
-/* Not there; open, and nothing came yet; in use; a file that was read to its end. */
-typedef enum { INPUT_AWAY, INPUT_WAITING, INPUT_THERE, INPUT_OVER } input_state;
+/*
+ * Not there; open, and nothing came yet; in use; a file that was read to its end; the device of another
+ * bench, which is not opened again.
+ */
+typedef enum { INPUT_AWAY, INPUT_WAITING, INPUT_THERE, INPUT_OVER, INPUT_REFUSED } input_state;
 
 typedef struct {
     const char *path;
     uint64_t bench;          /* DESK_NO_BENCH for pairs */
     speed_t speed;           /* of a serial line */
     int file;                /* -1 where it is not open */
+    int held;                /* a FIFO that ended, until it is open anew; or -1 */
     input_state state;
     bool is_terminal;
     struct termios before;   /* its modes before it was opened here */
-    bool once;               /* it is not opened again after its end */
+    bool once;               /* standard input, which is not opened again after its end */
     int64_t opened;          /* when it was opened, in milliseconds */
     int64_t again;           /* when it is opened again */
     const char *said;        /* what was last told of it; NULL for nothing */
+    const char *why;         /* why it is not there; NULL before it was tried */
     uint8_t pair;            /* of a pair, the byte that came first */
     bool in_pair;
 } input;
@@ -52,5 +57,8 @@ read_result read_input(input *in, uint8_t *bytes, size_t most, size_t *length);
 
 /* Puts the modes of a terminal back and closes it. */
 void close_input(input *in);
+
+/* Closes the input of another bench for good: otherwise it would be this one's when the other ends. */
+void refuse_input(input *in);
 
 #endif

@@ -52,15 +52,20 @@ bool read_log(const char *path, log_reader *reader, byte_taker *each, void *with
     return true;
 }
 
-int tell_damage(const char *file, const log_reader *reader)
+bool is_damaged(const char *file, const log_reader *reader, const char *ending)
 {
     if (reader->fed.answer == TAKEN)
-        return STATUS_DONE;
+        return false;
     about(stderr, file);
     fprintf(stderr, "byte %zu: ", reader->fed.place);
     show_refusal(stderr, reader->fed.answer);
-    fputs("; what stands before it was read\n", stderr);
-    return STATUS_FOUND;
+    fprintf(stderr, "; %s\n", ending);
+    return true;
+}
+
+int tell_damage(const char *file, const log_reader *reader)
+{
+    return is_damaged(file, reader, "what stands before it was read") ? STATUS_FOUND : STATUS_DONE;
 }
 
 void json_damage(const log_reader *reader)

@@ -40,6 +40,9 @@ bool read_log(const char *path, log_reader *reader, byte_taker *each, void *with
  */
 int tell_damage(const char *file, const log_reader *reader);
 
+/* The same with another ending; whether it is damaged. */
+bool is_damaged(const char *file, const log_reader *reader, const char *ending);
+
 /* The same as a member of JSON, "damage": null or an object. */
 void json_damage(const log_reader *reader);
 

@@ -15,6 +15,9 @@
 
 enum { END_INSIDE = 20 };
 
+static const char not_started[] =
+    "the desk is not started, and nothing is changed; start with a copy or another --log";
+
 /* The number of a reader's state that says how many bytes of a record are kept. */
 enum { KEPT_AT = 0 };
 
@@ -34,7 +37,7 @@ static char *folder_of(const char *path)
     return strndup(path, slash == path ? 1 : (size_t)(slash - path));
 }
 
-/* Makes sure that the name of a new file is kept as well as its bytes. */
+/* Makes sure that the name of a file is kept as well as its bytes. */
 static bool keep_name(const char *path)
 {
     char *folder = folder_of(path);
@@ -48,20 +51,15 @@ static bool keep_name(const char *path)
     return kept;
 }
 
-/* The file, or an errno. It is no pipe that would be waited for. */
+/* The file, which is made where it is not there, or an errno. It is no pipe that would be waited for. */
 static int open_file(const char *path)
 {
     int file = open(path, O_RDWR | O_NONBLOCK | O_NOCTTY | O_CLOEXEC);
     if (file >= 0 || errno != ENOENT)
         return file;
     file = open(path, O_RDWR | O_CREAT | O_EXCL | O_NOCTTY | O_CLOEXEC, 0666);
-    if (file >= 0 && !keep_name(path)) {
-        int error = errno;
-        close(file);
-        errno = error;
-        return -1;
-    }
-    return file;
+    /* Another program made it meanwhile. */
+    return file >= 0 || errno != EEXIST ? file : open(path, O_RDWR | O_NONBLOCK | O_NOCTTY | O_CLOEXEC);
 }
 
 static bool lock(const log_file *log)
@@ -78,10 +76,11 @@ static bool lock(const log_file *log)
 
 bool open_log(log_file *log, const char *path)
 {
-    *log = (log_file){path, open_file(path), 0, false};
+    *log = (log_file){path, open_file(path), 0, false, NULL};
     if (log->file < 0)
         return told(path, strerror(errno));
-    if (lock(log))
+    /* Whoever made the file may have ended before its name was kept. */
+    if (lock(log) && (keep_name(path) || told(path, strerror(errno))))
         return true;
     close(log->file);
     return false;
@@ -103,50 +102,84 @@ static bool load_part(void *to, const uint8_t *part, size_t length)
     return feed_log(load->reader, part, length, false);
 }
 
-/* Adds bytes to a file beside the log. */
-static bool keep_torn(const char *path, const uint8_t *bytes, size_t length)
+/* Adds bytes to a file beside the log; NULL, or why not. */
+static const char *keep_torn(const char *path, const uint8_t *bytes, size_t length)
 {
+    struct stat found;
     int file = open(path, O_WRONLY | O_APPEND | O_CREAT | O_NONBLOCK | O_NOCTTY | O_CLOEXEC, 0666);
-    bool kept = file >= 0 && write_bytes(file, bytes, length) && fsync(file) == 0;
-    int error = errno;
-    if (file >= 0)
-        close(file);
-    errno = error;
-    return kept && keep_name(path);
+    if (file < 0)
+        return strerror(errno);
+    const char *why = NULL;
+    if (fstat(file, &found) == 0 && !S_ISREG(found.st_mode))
+        why = "not an ordinary file";
+    else if (!write_bytes(file, bytes, length) || fsync(file) != 0 || !keep_name(path))
+        why = strerror(errno);
+    close(file);
+    return why;
 }
 
+/* What came of a torn record: where it is kept and cut off, of is NULL; otherwise the file that failed. */
+typedef struct {
+    const char *of;
+    const char *why;
+} mended;
+
 /* Keeps what is torn, which starts at the log's length, beside the log, and cuts it off. */
-static bool cut_torn(const log_file *log, const uint8_t *torn, size_t length)
+static mended cut_torn(const log_file *log, const char *beside, const uint8_t *torn, size_t length)
+{
+    const char *why = keep_torn(beside, torn, length);
+    if (why != NULL)
+        return (mended){beside, why};
+    if (ftruncate(log->file, (off_t)log->length) != 0 || fsync(log->file) != 0)
+        return (mended){log->path, strerror(errno)};
+    return (mended){NULL, NULL};
+}
+
+static void show_torn(FILE *to, const log_file *log, const char *beside, size_t length, mended came)
+{
+    about(to, log->path);
+    fprintf(to, "byte %zu: ", log->length);
+    show_refusal(to, END_INSIDE);
+    if (came.of != NULL) {
+        fputs("; ", to);
+        show_text(to, came.of);
+        fprintf(to, ": %s; the desk is not started, and the torn record not cut off\n", came.why);
+        return;
+    }
+    fprintf(to, "; its %zu byte%s: in ", length, length == 1 ? "" : "s");
+    show_text(to, beside);
+    fputs(", and the log goes on before it\n", to);
+}
+
+/* Mends a torn log, tells it on standard error, and keeps what is told; false where it cannot be mended. */
+static bool mend(log_file *log, const uint8_t *torn, size_t length)
 {
     static const char ending[] = ".torn";
     char *beside = malloc(strlen(log->path) + sizeof ending);
-    if (beside == NULL)
+    size_t size;
+    FILE *to = beside != NULL ? open_memstream(&log->told, &size) : NULL;
+    if (to == NULL) {
+        free(beside);
         return told(log->path, strerror(ENOMEM));
-    strcat(strcpy(beside, log->path), ending);
-    bool kept = keep_torn(beside, torn, length) || told(beside, strerror(errno));
-    bool cut = kept && ftruncate(log->file, (off_t)log->length) == 0 && fsync(log->file) == 0;
-    if (kept && !cut)
-        told(log->path, strerror(errno));
-    if (cut) {
-        about(stderr, log->path);
-        fprintf(stderr, "byte %zu: ", log->length);
-        show_refusal(stderr, END_INSIDE);
-        fprintf(stderr, "; its %zu byte%s: in ", length, length == 1 ? "" : "s");
-        show_text(stderr, beside);
-        fputs(", and the log goes on before it\n", stderr);
     }
+    strcat(strcpy(beside, log->path), ending);
+    mended came = cut_torn(log, beside, torn, length);
+    show_torn(to, log, beside, length, came);
+    fclose(to);
+    fputs(log->told, stderr);
     free(beside);
-    return cut;
+    return came.of == NULL;
 }
 
 /* Goes on before a torn record: the reader starts anew with what is whole. */
 static bool go_on(log_file *log, log_reader *reader, const uint8_t *bytes, const uint8_t *torn, size_t length)
 {
     log->length = reader->fed.place;
-    if (!cut_torn(log, torn, length))
+    if (!mend(log, torn, length))
         return false;
     start_reader(reader);
-    return feed_log(reader, bytes, log->length, true) || tell_damage(log->path, reader) == STATUS_DONE;
+    feed_log(reader, bytes, log->length, true);
+    return !is_damaged(log->path, reader, not_started);
 }
 
 bool load_log(log_file *log, log_reader *reader, uint8_t bytes[DESK_LOG])
@@ -162,13 +195,13 @@ bool load_log(log_file *log, log_reader *reader, uint8_t bytes[DESK_LOG])
     if (reader->fed.answer == END_INSIDE)
         return go_on(log, reader, bytes, torn, kept);
     log->length = load.length;
-    return tell_damage(log->path, reader) == STATUS_DONE;
+    return !is_damaged(log->path, reader, not_started);
 }
 
-/* Cuts off what a failed write left behind the whole records. */
+/* Cuts off what a failed write left behind the whole records, on the disk too. */
 static void cut_back(log_file *log)
 {
-    log->unclean = ftruncate(log->file, (off_t)log->length) != 0;
+    log->unclean = ftruncate(log->file, (off_t)log->length) != 0 || fdatasync(log->file) != 0;
 }
 
 /* Why the file is no longer the log; NULL where it is. */
@@ -212,6 +245,8 @@ bool is_log(const log_file *log, const char *path)
 
 void close_log(log_file *log)
 {
+    free(log->told);
+    log->told = NULL;
     close(log->file);
     log->file = -1;
 }

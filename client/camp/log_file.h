@@ -11,18 +11,20 @@ typedef struct {
     const char *path;
     int file;
     size_t length;    /* of the whole records, which is all that the file holds between two calls */
-    bool unclean;     /* but for what a failed write left, which could not be cut off yet */
+    bool unclean;     /* but for what a failed write left, which is not yet cut off on the disk */
+    char *told;       /* of a torn record, as it was told at the start; NULL for none */
 } log_file;
 
 /*
- * Opens the log, or makes an empty one, and locks it. Where that fails it tells so, and nothing is
- * changed.
+ * Opens the log, or makes an empty one, and locks it. Where that fails it tells so; a log that was there
+ * is as it was, and an empty one that was made stays.
  */
 bool open_log(log_file *log, const char *path);
 
 /*
  * Reads the log into a fresh desk, and its bytes too. A record that is torn at the end is told, kept in
- * FILE.torn, and cut off. Any other fault is told with its byte, and changes nothing: false.
+ * FILE.torn, and cut off; where it cannot be kept so, it is not cut off: false. Any other fault is told
+ * with its byte, and changes nothing: false.
  */
 bool load_log(log_file *log, log_reader *reader, uint8_t bytes[DESK_LOG]);
 

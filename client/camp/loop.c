@@ -36,9 +36,16 @@ static const struct {
     int number;
     void (*handler)(int);
 } signals[] = {
-    {SIGINT, end_soon}, {SIGTERM, end_soon}, {SIGHUP, end_soon}, {SIGWINCH, resize_soon},
-    {SIGPIPE, SIG_IGN}, {SIGTSTP, SIG_IGN},  {SIGXFSZ, SIG_IGN},
+    {SIGINT, end_soon}, {SIGTERM, end_soon}, {SIGQUIT, end_soon}, {SIGHUP, end_soon}, {SIGWINCH, resize_soon},
+    {SIGPIPE, SIG_IGN}, {SIGTSTP, SIG_IGN},  {SIGTTIN, SIG_IGN},  {SIGTTOU, SIG_IGN}, {SIGXFSZ, SIG_IGN},
 };
+
+/* nohup starts a program so. */
+static bool is_kept(int number)
+{
+    struct sigaction before;
+    return number == SIGHUP && sigaction(number, NULL, &before) == 0 && before.sa_handler == SIG_IGN;
+}
 
 void take_signals(void)
 {
@@ -46,6 +53,8 @@ void take_signals(void)
     sigemptyset(&blocked);
     for (size_t at = 0; at < sizeof signals / sizeof *signals; at++) {
         struct sigaction action;
+        if (is_kept(signals[at].number))
+            continue;
         memset(&action, 0, sizeof action);
         action.sa_handler = signals[at].handler;
         sigaction(signals[at].number, &action, NULL);
@@ -59,6 +68,7 @@ void take_signals(void)
 static void tell_open(view *shown, input *in, const char *why)
 {
     const char *what = why == NULL ? "is open" : why;
+    in->why = why;
     if (in->said != NULL && strcmp(in->said, what) == 0)
         return;
     in->said = what;
@@ -66,6 +76,14 @@ static void tell_open(view *shown, input *in, const char *why)
         tell_input(shown, in, GOOD, what, NULL);
     else
         tell_input(shown, in, BAD, "is not there", why);
+}
+
+static bool is_shared(const view *shown, const input *in)
+{
+    for (size_t at = 0; at < shown->input_count; at++)
+        if (&shown->inputs[at] != in && same_input(in, &shown->inputs[at]))
+            return true;
+    return false;
 }
 
 /* Opens what is away and due. */
@@ -76,11 +94,10 @@ static void open_inputs(view *shown, input *inputs)
         if (in->state != INPUT_AWAY || in->again > now())
             continue;
         const char *why = open_input(in);
-        for (size_t other = 0; why == NULL && other < shown->input_count; other++)
-            if (other != at && same_input(in, &inputs[other]))
-                why = "this is the input of another bench";
-        if (why != NULL)
-            close_input(in);
+        if (why == NULL && is_shared(shown, in)) {
+            refuse_input(in);
+            why = "this is the input of another bench";
+        }
         tell_open(shown, in, why);
     }
 }
@@ -120,6 +137,7 @@ static void take_input(view *shown, input *in)
     if (result != READ_ENDED && result != READ_FAILED)
         return;
     const char *why = result == READ_FAILED ? strerror(errno) : NULL;
+    in->why = why != NULL ? why : "it ended";
     if (in->state == INPUT_OVER)
         tell_input(shown, in, QUIET, "is at its end", why);
     else if (!brief)
@@ -133,15 +151,17 @@ static bool take_lines(view *shown)
 {
     char bytes[TURN];
     ssize_t got = read(STDIN_FILENO, bytes, sizeof bytes);
-    if (got == 0 || (got < 0 && errno != EINTR && errno != EAGAIN))
-        return false;
-    for (ssize_t at = 0; at < got; at++) {
+    bool shut = got == 0 || (got < 0 && errno != EINTR && errno != EAGAIN);
+    for (ssize_t at = 0; at < got && !ended; at++) {
         if (bytes[at] != '\n')
             type_console(&shown->console, bytes[at]);
         else if (!enter_console(shown))
             ended = 1;
     }
-    return true;
+    /* The last line counts without its end too. */
+    if (shut && shown->console.length > 0 && !enter_console(shown))
+        ended = 1;
+    return !shut;
 }
 
 static bool take_console(view *shown)
@@ -171,7 +191,7 @@ static int64_t wait_most(const view *shown)
 static bool all_over(const view *shown)
 {
     for (size_t at = 0; at < shown->input_count; at++)
-        if (shown->inputs[at].state != INPUT_OVER)
+        if (shown->inputs[at].state != INPUT_OVER && shown->inputs[at].state != INPUT_REFUSED)
             return false;
     return true;
 }
@@ -180,9 +200,13 @@ static bool all_over(const view *shown)
 static bool wait_for(struct pollfd *polls, size_t count, int64_t most)
 {
     struct timespec time = {(time_t)(most / 1000), (long)(most % 1000) * 1000000};
-    sigset_t none;
+    sigset_t none, blocked;
     sigemptyset(&none);
-    return ppoll(polls, count, most < 0 ? NULL : &time, &none) > 0;
+    bool came = ppoll(polls, count, most < 0 ? NULL : &time, &none) > 0;
+    /* Where something came, ppoll leaves signals for later: an input that floods would starve them. */
+    sigprocmask(SIG_SETMASK, &none, &blocked);
+    sigprocmask(SIG_SETMASK, &blocked, NULL);
+    return came;
 }
 
 void run_loop(view *shown, input *inputs, bool console)

@@ -15,7 +15,7 @@ const char record_usage[] =
     "  SESSION   a file of keys, for each of them a bench digit and the key's byte; - for standard\n"
     "            input\n"
     "  LOG       where the log goes; - for standard output. LOG appears whole or not at all: it is\n"
-    "            written beside its place and then renamed.\n"
+    "            written beside its place and then renamed. The log of a running desk is not replaced.\n"
     "\n"
     "'camp report LOG', 'camp history LOG', 'camp who LOG' and 'camp cif --log LOG' read it again.\n"
     "\n"

@@ -1,6 +1,7 @@
 /* camp run: the desk at the camp, with its keypads, its log and its screen. */
 #define _POSIX_C_SOURCE 200809L
 
+#include <fcntl.h>
 #include <inttypes.h>
 #include <stdlib.h>
 #include <string.h>
@@ -60,7 +61,7 @@ static void add_input(run_options *options, const char *path, uint64_t bench)
 {
     bool once = strcmp(path, "-") == 0;
     options->inputs[options->count++] = (input){
-        .path = once ? "/dev/stdin" : path, .bench = bench, .file = -1, .once = once, .state = INPUT_AWAY};
+        .path = path, .bench = bench, .file = -1, .held = -1, .once = once, .state = INPUT_AWAY};
     if (once)
         options->console = false;
 }
@@ -144,18 +145,19 @@ static bool take_options(arguments_of *arguments, run_options *options)
 /* The log's entries and room. */
 static void tell_log(view *shown)
 {
-    words_shown words = {.as = QUIET};
-    size_t entries = 0;
+    char *text;
+    size_t length, entries = 0;
     for (uint64_t sheet = 0; sheet < DESK_SHEETS; sheet++)
         entries += entries_of(shown->live, sheet);
-    FILE *to = fmemopen(words.text, sizeof words.text - 1, "w");
+    FILE *to = open_memstream(&text, &length);
     if (to == NULL)
         return;
     show_text(to, shown->live->file.path);
     fprintf(to, ": %zu entr%s, %zu of %d bytes left", entries, entries == 1 ? "y" : "ies",
             DESK_LOG - used_of(shown->live), DESK_LOG);
-    fclose(to);
-    tell_notice(shown, QUIET, words.text);
+    if (fclose(to) == 0)
+        tell_notice(shown, QUIET, text);
+    free(text);
 }
 
 /* What was typed and not entered ends with the desk. */
@@ -172,10 +174,24 @@ static void tell_lines(const live_desk *live)
     }
 }
 
+/*
+ * Holds the numbers of the standard streams that are shut, so that no other file gets one: what is printed
+ * would go into the log.
+ */
+static bool hold_streams(void)
+{
+    for (int file = STDIN_FILENO; file <= STDERR_FILENO; file++)
+        if (fcntl(file, F_GETFD) < 0 && open("/dev/null", O_RDWR) != file)
+            return false;
+    return true;
+}
+
 static int run_desk(run_options *options)
 {
     static live_desk live;
     static view shown;
+    if (!hold_streams())
+        return STATUS_FOUND;
     take_signals();
     if (!start_live(&live, options->log))
         return STATUS_FOUND;
@@ -185,10 +201,13 @@ static int run_desk(run_options *options)
     shown.plain = options->plain || isatty(STDOUT_FILENO) == 0;
     shown.profile = options->powder ? POWDER : SINGLE_CRYSTAL;
     bool screen = !shown.plain;
-    if (screen && !start_screen()) {
+    if (screen && !start_screen(options->console && isatty(STDIN_FILENO) != 0)) {
         close_log(&live.file);
         return STATUS_FOUND;
     }
+    /* The screen covers what was told before it. */
+    if (live.file.told != NULL)
+        shown.console.answer = strdup(live.file.told);
     tell_log(&shown);
     run_loop(&shown, options->inputs, options->console);
     for (size_t at = 0; at < options->count; at++)

@@ -11,6 +11,7 @@
 #include <ncurses.h>
 #include <string.h>
 #include <sys/ioctl.h>
+#include <termios.h>
 #include <unistd.h>
 
 #include "alerts.h"
@@ -58,7 +59,25 @@ static void set_colours(void)
     init_pair(LEVEL_G, COLOR_CYAN, -1);
 }
 
-bool start_screen(void)
+/*
+ * No key of the terminal may hold the desk: Ctrl-S would stop its output, and the benches with it. Where the
+ * keys are not read here, those that send a signal still do.
+ */
+static void set_keys(bool keys)
+{
+    struct termios modes;
+    if (keys) {
+        raw();
+        return;
+    }
+    cbreak();
+    if (tcgetattr(STDOUT_FILENO, &modes) == 0) {
+        modes.c_iflag &= (tcflag_t)~IXON;
+        tcsetattr(STDOUT_FILENO, TCSANOW, &modes);
+    }
+}
+
+bool start_screen(bool keys)
 {
     terminal = newterm(NULL, stdout, stdin);
     if (terminal == NULL) {
@@ -66,10 +85,9 @@ bool start_screen(void)
         return false;
     }
     set_term(terminal);
-    /* No key of the terminal may stop the desk: Ctrl-S would hold its output, and the benches with it. */
-    raw();
     noecho();
     nonl();
+    set_keys(keys);
     keypad(stdscr, TRUE);
     nodelay(stdscr, TRUE);
     set_escdelay(ESCAPE_WAIT);
@@ -152,18 +170,19 @@ static void draw_line(place at, const uint8_t *line, size_t length)
     put_text((place){at.row, at.column + (int)(length - from), 1}, BENCH, " ");
 }
 
-static const char *state_words(const input *in)
+/* What is said to a bench: of its keypad where that is not there, otherwise of its last key. */
+static void draw_said(place at, const input *in, const words_shown *words)
 {
-    switch (in->state) {
-    case INPUT_AWAY:
-        return "The keypad is not there.";
-    case INPUT_OVER:
-        return "The file of keys is at its end.";
-    case INPUT_WAITING:
-    case INPUT_THERE:
-        break;
+    char text[WORDS];
+    if (in->state == INPUT_AWAY || in->state == INPUT_REFUSED) {
+        snprintf(text, sizeof text, "The keypad is not there%s%s.", in->why != NULL ? ": " : "",
+                 in->why != NULL ? in->why : "");
+        put_text(at, SORRY, text);
+    } else if (words->as != QUIET) {
+        put_text(at, words->as == GOOD ? HAPPY : SORRY, words->text);
+    } else if (in->state == INPUT_OVER) {
+        put_text(at, SORRY, "The file of keys is at its end.");
     }
-    return "";
 }
 
 /* Two rows for a bench. */
@@ -172,17 +191,11 @@ static void draw_bench(const view *shown, uint64_t bench, int row)
     char text[WORDS];
     size_t length;
     const uint8_t *line = line_of(shown->live, bench, &length);
-    const words_shown *words = &shown->benches[bench];
-    const char *state = state_words(input_of(shown, bench));
     enum { LABEL = 20, INDENT = 3 };
     snprintf(text, sizeof text, " BENCH %" PRIu64 "  %s ", bench, camp_name(sheet_of(bench)));
     put_text((place){row, 0, LABEL}, BENCH, text);
     draw_line(behind(row_of(row), LABEL), line, length);
-    place said = behind(row_of(row + 1), INDENT);
-    if (words->as == QUIET || *words->text == '\0')
-        put_text(said, SORRY, state);
-    else
-        put_text(said, words->as == GOOD ? HAPPY : SORRY, words->text);
+    draw_said(behind(row_of(row + 1), INDENT), input_of(shown, bench), &shown->benches[bench]);
 }
 
 /* The benches that have an input, from this row on; the row behind them. */
@@ -197,10 +210,9 @@ static int draw_benches(const view *shown, int row)
     return row;
 }
 
-/* A part of the screen for a sheet, and how many of its rows are for items. */
+/* The next row of a sheet's items. */
 typedef struct {
     place at;
-    int rows;
     size_t oldest;    /* entries before this one do not fit */
 } block;
 
@@ -222,6 +234,8 @@ static void draw_item(const filled_item *item, void *with)
         return;
     int width = who_text(item, in->at.width >= WIDE, text);
     place all = in->at;
+    if (width > all.width)
+        width = all.width;
     place who = behind(all, all.width - width);
     put_text(who, PLAIN, text);
     all.width -= width;
@@ -262,7 +276,7 @@ static void put_more(place at, size_t count, const char *what)
 /* The items in so many rows: all, or those that were typed last. */
 static place draw_items(const own_desk *desk, uint64_t sheet, place at, int rows, const latest *found)
 {
-    block in = {at, rows, 0};
+    block in = {at, 0};
     size_t fits = found->count;
     if (found->count > (size_t)rows) {
         fits = rows > 1 ? (size_t)rows - 1 : 0;
@@ -303,8 +317,8 @@ static void draw_sheet(const view *shown, uint64_t sheet, place at, int rows)
     latest found = {0, {0}};
     each_item(desk, sheet, count_item, &found);
     alerts alert = alerts_of(desk, sheet, shown->profile);
-    snprintf(text, sizeof text, " SHEET %" PRIu64 " %s: %zu typed, %zu alert%s", sheet, camp_name(sheet), entries,
-             alert.count, alert.count == 1 ? "" : "s");
+    snprintf(text, sizeof text, " SHEET %" PRIu64 " %s: %zu typed, %zu alert%s", sheet, camp_name(sheet),
+             entries, alert.count, alert.count == 1 ? "" : "s");
     put_text(at, BENCH, text);
     at.row++;
     rows--;
@@ -345,26 +359,46 @@ static void draw_sheets(const view *shown, int row, int rows)
     }
 }
 
-/* The lines of an answer that the rows have room for, from the first that is asked for. */
+/* The next row of an answer: at most so many columns of a line. The place behind it. */
+static const char *row_end(const char *from, size_t *length)
+{
+    size_t line = strcspn(from, "\n"), most = (size_t)COLS;
+    *length = line < most ? line : most;
+    return from + *length + (*length == line && from[line] == '\n');
+}
+
+/* The rows of an answer that there is room for, from the first that is asked for. */
 static void draw_answer(view *shown, int row, int rows)
 {
     console_state *console = &shown->console;
-    size_t lines = 0;
-    for (const char *at = console->answer; *at != '\0'; at++)
-        lines += *at == '\n';
+    size_t count = 0, length, at = 0;
+    for (const char *from = console->answer; *from != '\0'; count++)
+        from = row_end(from, &length);
     size_t room = rows > 1 ? (size_t)rows - 1 : 1;
-    size_t most = lines > room ? lines - room : 0;
+    size_t most = count > room ? count - room : 0;
     if (console->from > most)
         console->from = most;
-    const char *line = console->answer;
-    for (size_t at = 0; *line != '\0'; at++) {
-        size_t length = strcspn(line, "\n");
+    for (const char *from = console->answer, *next; *from != '\0'; from = next, at++) {
+        next = row_end(from, &length);
         if (at >= console->from && at < console->from + room)
-            put(row_of(row + (int)(at - console->from)), PLAIN, line, length);
-        line += length + 1;
+            put(row_of(row + (int)(at - console->from)), PLAIN, from, length);
     }
     put_text(row_of(row + rows - 1), TITLE, most > 0 ? " Page Up and Page Down show more, Enter the sheets"
                                                      : " Enter shows the sheets again");
+}
+
+/* The last notice, or its end, with a mark. */
+static void draw_notice(const words_shown *notice)
+{
+    size_t length = strlen(notice->text), room = (size_t)COLS;
+    place at = row_of(LINES - 2);
+    int pair = notice->as == BAD ? SORRY : PLAIN;
+    if (length <= room) {
+        put_text(at, pair, notice->text);
+        return;
+    }
+    put_text(at, pair, "<");
+    put_text(behind(at, 1), pair, notice->text + length - (room - 1));
 }
 
 static void draw_console(const view *shown)
@@ -389,7 +423,7 @@ void draw_screen(view *shown)
         draw_answer(shown, row, rows);
     else if (rows > 0)
         draw_sheets(shown, row, rows);
-    put_text(row_of(LINES - 2), shown->notice.as == BAD ? SORRY : PLAIN, shown->notice.text);
+    draw_notice(&shown->notice);
     draw_console(shown);
     refresh();
 }
@@ -433,6 +467,7 @@ bool read_screen(view *shown)
             break;
         case ESCAPE:
             shown->console.length = 0;
+            shown->console.too_long = false;
             break;
         default:
             if (typed <= 126)

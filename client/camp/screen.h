@@ -4,8 +4,11 @@
 
 #include "view.h"
 
-/* Takes the terminal; false, and told, where it is none that can be drawn on. */
-bool start_screen(void);
+/*
+ * Takes the terminal, and its keys where the counsellor types on it; false, and told, where it is none that
+ * can be drawn on.
+ */
+bool start_screen(bool keys);
 
 /* Draws all anew at the size that the terminal has. */
 void resize_screen(void);

@@ -21,14 +21,6 @@ const input *input_of(const view *shown, uint64_t bench)
     return NULL;
 }
 
-/* A stream into words, which are cut where they are longer. */
-static FILE *open_words(words_shown *words, mood as)
-{
-    words->as = as;
-    memset(words->text, 0, sizeof words->text);
-    return fmemopen(words->text, sizeof words->text - 1, "w");
-}
-
 /* Prints a line of an event at once. */
 static void print_event(const char *text)
 {
@@ -36,28 +28,32 @@ static void print_event(const char *text)
     fflush(stdout);
 }
 
+/* Of words that are longer, what has no room is the beginning, as of a long path. */
 void tell_notice(view *shown, mood as, const char *what)
 {
+    size_t length = strlen(what);
     shown->notice.as = as;
-    snprintf(shown->notice.text, sizeof shown->notice.text, "%s", what);
+    strcpy(shown->notice.text, what + (length < WORDS ? 0 : length - (WORDS - 1)));
     if (shown->plain)
         print_event(what);
 }
 
 void tell_input(view *shown, const input *in, mood as, const char *what, const char *why)
 {
-    words_shown words;
-    FILE *to = open_words(&words, as);
+    char *text;
+    size_t length;
+    FILE *to = open_memstream(&text, &length);
     if (to == NULL)
         return;
     if (in->bench == DESK_NO_BENCH)
         fputs("pairs: ", to);
     else
         fprintf(to, "bench %" PRIu64 ": ", in->bench);
-    show_text(to, in->path);
+    show_text(to, input_name(in->path));
     fprintf(to, " %s%s%s", what, why != NULL ? ": " : "", why != NULL ? why : "");
-    fclose(to);
-    tell_notice(shown, as, words.text);
+    if (fclose(to) == 0)
+        tell_notice(shown, as, text);
+    free(text);
 }
 
 /* What came of a key, in words to the child. */
@@ -77,6 +73,13 @@ static void say(words_shown *words, const view *shown, key pressed, const presse
         words->as = QUIET;
 }
 
+/* The length of words without the full stop at their end. */
+static int without_stop(const char *words)
+{
+    int length = (int)strlen(words);
+    return length > 0 && words[length - 1] == '.' ? length - 1 : length;
+}
+
 /* One line of a key that entered something or was refused, with the line, which nobody sees otherwise. */
 static void print_key(const view *shown, key pressed, const pressed_key *came, const uint8_t *line,
                       size_t length)
@@ -91,7 +94,8 @@ static void print_key(const view *shown, key pressed, const pressed_key *came, c
     else if (came->not_kept != NULL)
         printf("not kept, %s: ", came->not_kept);
     else
-        printf("refused, %u, %s: ", (unsigned)came->answer, child_words(came->answer));
+        printf("refused, %u, %.*s: ", (unsigned)came->answer, without_stop(child_words(came->answer)),
+               child_words(came->answer));
     if (pressed.byte == ENTER)
         show(stdout, line, length);
     else

@@ -27,7 +27,7 @@ typedef struct {
     size_t length;
     bool too_long;
     char *answer;       /* its lines, or NULL; free gives it back */
-    size_t from;        /* the first line that is shown */
+    size_t from;        /* the first row that is shown */
 } console_state;
 
 typedef struct {

@@ -3,7 +3,7 @@
 
 #include <stddef.h>
 
-/* As the guide has them (docs/guide/refusals.md). */
+/* As the guide has them (docs/guide/refusals.md), but 5 and 7 shorter: each fits 80 columns. */
 static const char *const to_child[] = {
     [1] = "This keypad is not connected to a bench.",
     [2] = "Call a counsellor: the desk has to be started again.",
