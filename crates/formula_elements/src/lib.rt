@@ -30,7 +30,7 @@ const NOT_METALS: [u8; 50] = *b"H HeB C N O F NeSiP S ClArGeAsSeBrKrTeI XeAtRnTs
 // The symbols that have a weight, and the weight of each, in thousandths.
 const WEIGHED: [u8; 50] = *b"H B C N O F NaMgAlSiP S ClK CaMnFeCoNiCuZnBrAgI Pb";
 
-const WEIGHTS: [u64; 25] = [
+const WEIGHTS: [u32; 25] = [
     1008,
     10810,
     12011,
@@ -89,10 +89,13 @@ pub fn find_element(a: u8, b: u8) -> Place
     find(&SYMBOLS, a, b)
 }
 
-// Whether a symbol is recognised.
+// Whether a symbol is recognised. One that has a weight is; all 118 are searched for the others alone.
 pub fn is_element(a: u8, b: u8) -> bool
     ensures { λ r. ⌜ r ≡ isElement a b ⌝ }
 {
+    if let Weight::Thousandths(_) = weight_of(a, b) {
+        return true;
+    }
     let Place::At(_) = find_element(a, b) else {
         return false;
     };
@@ -119,5 +122,5 @@ pub fn weight_of(a: u8, b: u8) -> Weight
     let Place::At(k) = find(&WEIGHED, a, b) else {
         return Weight::NoWeight;
     };
-    Weight::Thousandths(WEIGHTS[k])
+    Weight::Thousandths(WEIGHTS[k] as u64)
 }
