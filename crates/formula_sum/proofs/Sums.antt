@@ -115,7 +115,7 @@ weighed-by t ts w (Thousandths x) (Thousandths y) e f g rest = rw (weighed-term 
 weighed-by t ts w (Thousandths x) NoWeight e f g rest = let z : _≡_ {A = ℕ} 0 1 = cc in absurd (omega arith)
 weighed-by t ts w NoWeight v e f g rest = let z : _≡_ {A = ℕ} 0 1 = cc in absurd (omega arith)
 
-weighed-terms : (ts : List Term) (w : ℕ) → total ts ≡ Thousandths w → all isRecognised ts ≡ true
+pub weighed-terms : (ts : List Term) (w : ℕ) → total ts ≡ Thousandths w → all isRecognised ts ≡ true
 unfolding total all
 weighed-terms [] w e = refl
 weighed-terms (t ∷ ts) w e = weighed-by t ts w (termWeight t) (total ts) refl refl e (weighed-terms ts)

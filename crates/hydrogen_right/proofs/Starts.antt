@@ -14,11 +14,12 @@ use Rattle.formula_elements.specs.Elements.{weightOf}
 use Rattle.formula_elements.specs.declared.Weight.{Weight}
 use Rattle.formula_elements.specs.declared.Weight.the-variants.{Thousandths, NoWeight}
 use Rattle.formula_terms.specs.Term.{termOf}
-use Rattle.formula_terms.specs.Terms.{cut}
+use Rattle.formula_terms.specs.Terms.{cut, termsOf}
 use Rattle.formula_terms.specs.declared.term.Term.{Term}
 use Rattle.formula_terms.specs.declared.term.Term.the-variants.{Well, Ill}
 use Rattle.formula_sum.specs.Recognised.{allRecognised}
 use Rattle.formula_sum.specs.Sum.{times, plus, termWeight, total}
+use Rattle.formula_sum.proofs.Sums.{weighed-terms}
 use Rattle.formula_order.specs.Order.{inOrder}
 use Rattle.rows.specs.Rows.{rowOf, noAlert, missing}
 use Rattle.rows_formula.specs.FormulaRows.{row1, row2}
@@ -85,3 +86,15 @@ weighed-sum (w ∷ ws) e =
 pub start-sum : (f w : List ℕ) → Start f w → Summed (otherWords (cut (textOf f)))
 unfolding allWeighed
 start-sum f w start = weighed-sum (otherWords (cut (textOf f))) (others-all hasWeight (cut (textOf f)) (start .symbols))
+
+-- where row 2 is at level 0 and all symbols have weights, row 1 is at level 0: the formula is there, and a symbol with a weight is recognised
+first-by : (a b c : Bool) → cond a (rowOf 2 1) (cond b noAlert (rowOf 3 0)) .level ≡ 0 → c ≡ true → cond a (rowOf 2 1) (cond c noAlert (rowOf 4 0)) .level ≡ 0
+first-by true b c e h = e
+first-by false b true e h = refl
+first-by false b false e h = absurd (false≢true h)
+
+pub weighed-first : (f : List ℕ) → row2 f .level ≡ 0 → allWeighed (textOf f) ≡ true → row1 f .level ≡ 0
+unfolding row1 row2 allWeighed allRecognised
+weighed-first f e h =
+    let s = weighed-sum (cut (textOf f)) h in
+    first-by (missing f) (inOrder (textOf f)) (allRecognised (textOf f)) e (weighed-terms (termsOf (textOf f)) (s .sum) (s .is))

@@ -36,13 +36,10 @@ fn all_weighed(s: &[u8]) -> bool
 }
 
 // Whether the start is as said: rows 1 and 2 of the formula's value at level 0, all symbols with weights, and a weight assigned.
+// Row 1 is not asked by itself: with row 2 at level 0 the formula is there, and symbols that have weights are recognised.
 pub fn is_start(formula: &[u8], weight: &[u8]) -> bool
     ensures { λ r. ⌜ r ≡ isStart (now (formula .entry)) (now (weight .entry)) ⌝ }
 {
-    let first = rows_formula::recognised_row(formula);
-    if 0 < first.level {
-        return false;
-    }
     let second = rows_formula::order_row(formula);
     if 0 < second.level {
         return false;
