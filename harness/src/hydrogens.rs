@@ -218,6 +218,19 @@ fn edges(formulas: &'static [&'static str], counts: &'static [u64]) -> impl Iter
     })
 }
 
+/// The longest formula that the helper starts from, every symbol that has a weight with four digits, and
+/// a weight at row 4's edge for a count of four digits.
+pub fn longest() -> Typed {
+    let mut others = WEIGHTS.map(|(symbol, _)| symbol).to_vec();
+    others.retain(|symbol| !["C", "H"].contains(symbol));
+    others.sort();
+    let terms = ["C", "H"].into_iter().chain(others).map(|symbol| format!("{symbol}{MOST}"));
+    let formula = terms.collect::<Vec<String>>().join(" ");
+    let bound = bound(self::others(formula.as_bytes()).expect("each has a weight"), 5000, 101);
+    let places = most_places(bound);
+    (format!("'{formula}'").into(), decimal(near(bound, places, 0), places).into())
+}
+
 /// What no start is, with a weight and without, and right formulas without one.
 pub fn no_starts() -> impl Iterator<Item = Typed> {
     let formulas = NO_STARTS.into_iter().chain(["", "'C10 H20'", "H"]);

@@ -5,7 +5,7 @@ use crate::by_reference::Reference;
 use crate::desks::{changed_over, holding, in_memory, longest_value, State, OF_SHEET};
 use crate::files::Files;
 use crate::groups::largest;
-use crate::hydrogens::{by_arithmetic, Hydrogens};
+use crate::hydrogens::{self, by_arithmetic, Hydrogens};
 use crate::inputs::{Inputs, ROWS as GRADED_ROWS};
 use crate::logs::Logs;
 use crate::memory::{held, put};
@@ -61,7 +61,7 @@ pub struct Workload {
     make: fn(usize) -> (usize, Round),
 }
 
-pub const WORKLOADS: [Workload; 14] = [
+pub const WORKLOADS: [Workload; 15] = [
     Workload { name: "lines", make: lines },
     Workload { name: "values", make: values },
     Workload { name: "reports", make: reports },
@@ -74,6 +74,7 @@ pub const WORKLOADS: [Workload; 14] = [
     Workload { name: "moieties", make: moieties },
     Workload { name: "hydrogens", make: hydrogens },
     Workload { name: "checks", make: checks },
+    Workload { name: "longest", make: longest },
     Workload { name: "operators", make: operators },
     Workload { name: "groups", make: groups },
 ];
@@ -308,6 +309,33 @@ fn checks(inputs: usize) -> (usize, Round) {
                 u64::from(hydrogen::check(black_box(desk), 0, count % 40).0)
             };
             (0..).zip(&desks).map(answer).sum()
+        }
+    };
+    (inputs, Box::new(round))
+}
+
+/// One desk with the longest formula, both sheets full of long values, asked for the smallest count again
+/// and again.
+fn longest(inputs: usize) -> (usize, Round) {
+    let mut source = Sheets::new(SEED);
+    let (formula, weight) = hydrogens::longest();
+    let mut long = |item| {
+        let values = (0..100).map(|_| source.value(item));
+        values.filter(|value| value.len() <= longest_value(item)).max_by_key(Vec::len)
+    };
+    let others = (3..=ITEMS.len()).map(|item| (item, long(item).expect("one of them fits")));
+    let desk = holding([(1, formula), (2, weight)].into_iter().chain(others));
+    let desk = Desk { sheets: [desk.sheets[0], changed_over(&desk).sheets[1]], ..desk };
+    assert_eq!(by_arithmetic(&desk, 0).0, ACCEPTED);
+    let memory = in_memory(&desk);
+    let round = move |side: Side| match side {
+        Side::Proved => {
+            let count = |_| Proved.hydrogens(black_box(&memory), 0).count as u64;
+            (0..inputs).map(count).sum()
+        }
+        Side::Reference => {
+            let count = |_| by_arithmetic(black_box(&desk), 0).1;
+            (0..inputs).map(count).sum()
         }
     };
     (inputs, Box::new(round))
