@@ -73,7 +73,7 @@ fn is_counted(count: usize, n: usize) -> bool
     n <= count
 }
 
-// Whether the filled item k of a sheet, which has that count, is sound.
+// Whether the filled item k of a sheet, which has that count, is sound. Whether its value fits is asked last, since that takes the most stack.
 fn is_sound_filled(sheet: usize, count: usize, k: usize, value: &[u8], numbers: &[usize]) -> bool
     requires { ⌜ (length (now value) ≡ lineMost) × (length (now numbers) ≡ itemNumbers) ⌝ }
     ensures { λ r. ⌜ r ≡ soundFilled sheet count k (itemFrom (now (value .entry)) (now (numbers .entry))) ⌝ }
@@ -94,11 +94,10 @@ fn is_sound_filled(sheet: usize, count: usize, k: usize, value: &[u8], numbers: 
     if LINE_MOST < n {
         return false;
     }
-    if line_kinds::fits_item(k, &value[..n]) {
-        text::all_between(&value[n..], 0, 0)
-    } else {
-        false
+    if !text::all_between(&value[n..], 0, 0) {
+        return false;
     }
+    line_kinds::fits_item(k, &value[..n])
 }
 
 fn is_sound_item(sheet: usize, count: usize, k: usize, value: &[u8], numbers: &[usize]) -> bool
