@@ -24,7 +24,7 @@ use Rattle.desk_state.specs.Sheets.{filled, valueIn}
 use Rattle.desk_state.specs.Desks.{benchCount, sheetOfBench}
 use Rattle.desk_state.specs.declared.sheet.Item.{Item}
 use Rattle.desk_soundness.specs.Sound.{zeros, soundEmpty, counted, soundFilled, soundItem}
-use Rattle.desk_soundness.proofs.Wording.{counted-is, counted-taken}
+use Rattle.desk_items.proofs.Wording.{counted-is, counted-taken}
 
 -- a value has at least one byte
 pub value-some : (v : List ℕ) → isValue v ≡ true → 1 ≤ length v

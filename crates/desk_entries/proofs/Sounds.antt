@@ -21,7 +21,8 @@ use Rattle.desk_memory.proofs.Desks.{sheets-long, items-long}
 use Rattle.desk_soundness.specs.Sound.{soundItem, soundLines, soundSheet, soundSheets, soundDesk}
 use Rattle.desk_soundness.specs.SoundLog.{logMost, countsOf, entryCount, soundLog}
 use Rattle.desk_soundness.proofs.Everys.{every-each, every-set, every-more}
-use Rattle.desk_soundness.proofs.Wording.{item-is, times-most, sound-is}
+use Rattle.desk_items.proofs.Wording.{item-is, times-most}
+use Rattle.desk_soundness.proofs.Wording.{sound-is}
 use Rattle.desk_soundness.proofs.LogWording.{log-is, log-taken}
 use Rattle.desk_entries.specs.Entry.{withEntry, withEntryOn, ownItem}
 use Rattle.desk_entries.specs.Lent.{takes}

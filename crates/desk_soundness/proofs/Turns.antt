@@ -5,7 +5,7 @@ use mathlib.Core.Bool.{Bool, true, _&&_}
 use mathlib.Core.List.{List}
 use Prim.Native.Nat.{ℕ, _+_, _*_, _-_, _<_, _≤_}
 use native.Mathlib.Omega.{arith}
-use lib.ListN.{getD, take, drop}
+use lib.ListN.{length, getD, take, drop, length-take, length-drop}
 use Rattle.line_items.specs.Typed.{lineMost}
 use Rattle.line_items.specs.Items.{itemCount}
 use Rattle.desk_state.specs.Desks.{benchCount, sheetCount, noLine, noSheet}
@@ -16,6 +16,8 @@ use Rattle.desk_state.specs.declared.sheet.Sheet.{Sheet}
 use Rattle.desk_memory.specs.Memory.{itemNumbers, countAt, slot, lineFrom, itemFrom, sheetFrom, textsOf, numbersOf, deskOf}
 use Rattle.desk_memory.proofs.Slots.{slot-lent}
 use Rattle.desk_memory.proofs.Desks.{lines-long, sheets-long, items-long, line-at, sheet-at, item-at, count-of}
+use Rattle.desk_items.specs.Sound.{soundSlot}
+use Rattle.desk_items.proofs.Slots.{slot-sound}
 use Rattle.desk_soundness.specs.Sound.{every, soundLine, soundItem, soundLines, soundSheet}
 use Rattle.desk_soundness.proofs.Everys.{every-at, every-end}
 
@@ -66,12 +68,15 @@ module _ (t n : List ℕ) where
           (line-at t n i h ∙ ap (λ (x : List ℕ). lineFrom x (getD n i 0)) (sym (slot-lent lineMost t i a e p q)))
           ∙ ap (λ (x : Bool). x && linesFrom t n (i + 1)) (sym s)
 
-      pub item-turn : (sheet f o : ℕ) (b : Bool) → i < itemCount → a ≡ i * lineMost → e ≡ a + lineMost → f ≡ i * itemNumbers → o ≡ f + itemNumbers
-          → b ≡ soundItem sheet (getD n countAt 0) i (itemFrom (take (e - a) (drop a t)) (take (o - f) (drop f n))) → itemsFrom sheet t n i ≡ (b && itemsFrom sheet t n (i + 1))
-      item-turn sheet f o b h p q u v s =
+      -- the item's slot and its numbers as they are lent
+      pub item-turn : (sheet f o : ℕ) (b : Bool) → i < itemCount → a ≡ i * lineMost → e ≡ a + lineMost → f ≡ i * itemNumbers → o ≡ f + itemNumbers → e ≤ length t → o ≤ length n
+          → b ≡ soundSlot sheet (getD n countAt 0) i (take (e - a) (drop a t)) (take (o - f) (drop f n)) → itemsFrom sheet t n i ≡ (b && itemsFrom sheet t n (i + 1))
+      item-turn sheet f o b h p q u v j m s =
           let x = slot-lent lineMost t i a e p q in
           let y = slot-lent itemNumbers n i f o u v in
-          every-at (soundItem sheet (getD n countAt 0)) (sheetFrom t n .items) i noItem (omega (arith, items-long t n))
-          ∙ ap (λ (z : Item). soundItem sheet (getD n countAt 0) i z && itemsFrom sheet t n (i + 1))
+          let c = getD n countAt 0 in
+          every-at (soundItem sheet c) (sheetFrom t n .items) i noItem (omega (arith, items-long t n))
+          ∙ ap (λ (z : Item). soundItem sheet c i z && itemsFrom sheet t n (i + 1))
           (item-at t n i h ∙ ap (itemFrom (slot lineMost t i)) (sym y) ∙ ap (λ (z : List ℕ). itemFrom z (take (o - f) (drop f n))) (sym x))
-          ∙ ap (λ (z : Bool). z && itemsFrom sheet t n (i + 1)) (sym s)
+          ∙ ap (λ (z : Bool). z && itemsFrom sheet t n (i + 1))
+          (sym (slot-sound sheet c i (take (e - a) (drop a t)) (take (o - f) (drop f n)) h (simp (length-take, length-drop) (omega arith)) (simp (length-take, length-drop) (omega arith))) ∙ sym s)

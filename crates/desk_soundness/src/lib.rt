@@ -1,27 +1,21 @@
 // The test of soundness of a desk in lent memory (document 01, "What the desk holds"; document 02, No. 9).
 ghost use mathlib.Core.Path.{_≡_};
-ghost use Prim.Native.Nat.{ℕ, _*_, _<_};
+ghost use Prim.Native.Nat.{ℕ, _*_};
 ghost use mathlib.Core.List.{List};
 ghost use lib.Dec.{leb};
 ghost use lib.ListN.{length};
 ghost use Rattle.line_items.specs.Typed.{lineMost};
-ghost use Rattle.line_items.specs.Items.{itemCount};
-ghost use Rattle.desk_memory.specs.Memory.{itemNumbers, sheetTexts, sheetNumbers, numbersLength, Sized, lineFrom, itemFrom, sheetFrom, deskOf, usedOf};
-ghost use Rattle.desk_soundness.specs.Sound.{soundLine, soundEmpty, counted, soundFilled, soundItem, soundLines, soundSheet, soundSheets};
+ghost use Rattle.desk_memory.specs.Memory.{sheetTexts, sheetNumbers, numbersLength, Sized, lineFrom, sheetFrom, deskOf, usedOf};
+ghost use Rattle.desk_soundness.specs.Sound.{soundLine, soundLines, soundSheet, soundSheets};
 ghost use Rattle.desk_soundness.specs.SoundLog.{entryCount, soundLog};
 ghost use Rattle.desk_soundness.specs.SoundMemory.{soundMemory, soundForKeys};
-use desk_memory::BENCH_AT;
 use desk_memory::COUNT_AT;
-use desk_memory::ENTRY_AT;
 use desk_memory::ITEM_NUMBERS;
-use desk_memory::LEN_AT;
 use desk_memory::SHEET_NUMBERS;
-use desk_memory::TIMES_AT;
 use desk_memory::USED_AT;
 use desk_memory::sheet_numbers;
 use desk_memory::sheet_texts;
 use desk_state::desk::BENCH_COUNT;
-use desk_state::desk::BENCHES_EACH;
 use desk_state::desk::SHEET_COUNT;
 use line_items::FIRST_TYPED;
 use line_items::ITEM_COUNT;
@@ -44,71 +38,6 @@ fn is_sound_line(bytes: &[u8], n: usize) -> bool
         text::all_between(&bytes[n..], 0, 0)
     } else {
         false
-    }
-}
-
-fn is_sound_empty(value: &[u8], numbers: &[usize]) -> bool
-    requires { ⌜ length (now numbers) ≡ itemNumbers ⌝ }
-    ensures { λ r. ⌜ r ≡ soundEmpty (itemFrom (now (value .entry)) (now (numbers .entry))) ⌝ }
-{
-    if numbers[BENCH_AT] != 0 {
-        return false;
-    }
-    if numbers[ENTRY_AT] != 0 {
-        return false;
-    }
-    if numbers[TIMES_AT] != 0 {
-        return false;
-    }
-    text::all_between(value, 0, 0)
-}
-
-// Whether n is from 1 to the count.
-fn is_counted(count: usize, n: usize) -> bool
-    ensures { λ r. ⌜ r ≡ counted count n ⌝ }
-{
-    if n < 1 {
-        return false;
-    }
-    n <= count
-}
-
-// Whether the filled item k of a sheet, which has that count, is sound.
-fn is_sound_filled(sheet: usize, count: usize, k: usize, value: &[u8], numbers: &[usize]) -> bool
-    requires { ⌜ (length (now value) ≡ lineMost) × (length (now numbers) ≡ itemNumbers) ⌝ }
-    ensures { λ r. ⌜ r ≡ soundFilled sheet count k (itemFrom (now (value .entry)) (now (numbers .entry))) ⌝ }
-{
-    if BENCH_COUNT <= numbers[BENCH_AT] {
-        return false;
-    }
-    if numbers[BENCH_AT] / BENCHES_EACH != sheet {
-        return false;
-    }
-    if !is_counted(count, numbers[ENTRY_AT]) {
-        return false;
-    }
-    if !is_counted(count, numbers[TIMES_AT]) {
-        return false;
-    }
-    let n = numbers[LEN_AT];
-    if LINE_MOST < n {
-        return false;
-    }
-    if line_kinds::fits_item(k, &value[..n]) {
-        text::all_between(&value[n..], 0, 0)
-    } else {
-        false
-    }
-}
-
-fn is_sound_item(sheet: usize, count: usize, k: usize, value: &[u8], numbers: &[usize]) -> bool
-    requires { ⌜ (k < itemCount) × (length (now value) ≡ lineMost) × (length (now numbers) ≡ itemNumbers) ⌝ }
-    ensures { λ r. ⌜ r ≡ soundItem sheet count k (itemFrom (now (value .entry)) (now (numbers .entry))) ⌝ }
-{
-    if numbers[LEN_AT] == 0 {
-        is_sound_empty(value, numbers)
-    } else {
-        is_sound_filled(sheet, count, k + 1, value, numbers)
     }
 }
 
@@ -140,7 +69,7 @@ fn is_sound_sheet(sheet: usize, texts: &[u8], numbers: &[usize]) -> bool
         let end = at + LINE_MOST;
         let from = i * ITEM_NUMBERS;
         let to = from + ITEM_NUMBERS;
-        if !is_sound_item(sheet, count, i, &texts[at..end], &numbers[from..to]) {
+        if !desk_items::is_sound_item(sheet, count, i, &texts[at..end], &numbers[from..to]) {
             return false;
         }
         i += 1;

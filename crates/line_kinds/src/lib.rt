@@ -63,18 +63,18 @@ pub fn passes_kind(item: usize, v: &[u8]) -> bool
     is_of_kind(kind_at(item - 1), v)
 }
 
-// Whether an item can hold the value v: form, bytes, kind, and the length of its line.
+// Whether an item can hold the value v: form, bytes, kind, and the length of its line. The kind is asked last, since its test takes the most stack.
 pub fn fits_item(item: usize, v: &[u8]) -> bool
     ensures { λ r. ⌜ r ≡ fits item (now (v .entry)) ⌝ }
 {
-    if !passes_kind(item, v) {
-        return false;
-    }
     if !line_values::is_value(v) {
         return false;
     }
     if !text::all_between(v, FIRST_TYPED, LAST_TYPED) {
         return false;
     }
-    line_items::name_length(item) + 1 + v.len() <= LINE_MOST
+    if LINE_MOST < line_items::name_length(item) + 1 + v.len() {
+        return false;
+    }
+    passes_kind(item, v)
 }

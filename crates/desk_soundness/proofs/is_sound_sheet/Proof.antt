@@ -5,11 +5,11 @@ use mathlib.Core.Path.{_≡_, refl, sym, _∙_}
 use mathlib.Core.Bool.{_&&_}
 use Prim.Native.Nat.{_≤_, _-_, _+_, _*_}
 use borrow.Author.Tests.{not-true, not-false}
-use lib.ListN.{length-take, length-drop}
 use denote.Ref.{now}
 use Rattle.line_items.specs.Typed.{lineMost}
 use Rattle.line_items.specs.Items.{itemCount}
 use Rattle.desk_memory.specs.Memory.{itemNumbers}
+use borrow.Author.Needs.{needs}
 use Rattle.desk_soundness.proofs.Turns.{itemsFrom, items-all, items-end, item-turn}
 use Rattle.desk_soundness.proofs.is_sound_sheet.Statement.{statement}
 use Rattle.desk_soundness.proofs.is_sound_sheet.Tie as tie
@@ -23,9 +23,6 @@ abbrev μ-loop : tie.MeasureT-loop
 loop-holds : tie.Need-loop-holds Inv-loop μ-loop
 loop-holds c = (omega arith, refl)
 
-is-sound-item-requires : tie.Need-is-sound-item-requires Inv-loop μ-loop
-is-sound-item-requires c κs = (omega arith, simp (length-take, length-drop) (omega arith), simp (length-take, length-drop) (omega arith))
-
 -- what the test of an item makes of the rest
 turn : (c : tie.After-is-sound-item Inv-loop μ-loop)
     → (let l = c .before .before .before .before in
@@ -37,7 +34,7 @@ turn c =
     let a = l .before .before .before .before .args in
     let i = l .loop .i in
     item-turn (now (a .texts)) (now (a .numbers)) i (i * lineMost) (i * lineMost + lineMost) (a .sheet) (i * itemNumbers) (i * itemNumbers + itemNumbers) _ (omega arith) refl refl refl refl
-    (c .is-sound-item .ensures)
+    (omega arith) (omega arith) (c .is-sound-item .ensures)
 
 returns : tie.Need-returns Inv-loop μ-loop
 returns c =
@@ -75,7 +72,7 @@ is-sound-sheet-spec =
     (λ c. omega arith)
     (λ c. omega arith)
     (λ c. omega arith)
-    is-sound-item-requires
+    (λ c κs. search needs)
     returns
     (λ c. omega arith)
     (λ c. omega arith)

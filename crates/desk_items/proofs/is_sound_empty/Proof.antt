@@ -1,11 +1,11 @@
--- `desk_soundness::is_sound_empty` meets its contract: each return has the tests of `soundEmpty` on its way.
+-- `desk_items::is_sound_empty` meets its contract: each return has the tests of `soundEmpty` on its way.
 -- Assumes nothing.
 use mathlib.Core.Path.{_∙_}
 use borrow.Author.Tests.{eq-eqb, ne-eqb}
-use Rattle.desk_soundness.specs.Sound.{soundEmpty}
+use Rattle.desk_items.specs.Sound.{soundEmpty}
 use borrow.Author.Needs.{needs}
-use Rattle.desk_soundness.proofs.is_sound_empty.Statement.{statement}
-use Rattle.desk_soundness.proofs.is_sound_empty.Tie as tie
+use Rattle.desk_items.proofs.is_sound_empty.Statement.{statement}
+use Rattle.desk_items.proofs.is_sound_empty.Tie as tie
 
 returns : tie.Need-returns
 unfolding soundEmpty

@@ -1,19 +1,16 @@
--- `desk_soundness::is_sound_filled` meets its contract: each return has the tests of `soundFilled` on its way.
+-- `desk_items::is_sound_filled` meets its contract: each return has the tests of `soundFilled` on its way.
 -- Assumes nothing.
-use native.Mathlib.Omega.{arith}
 use mathlib.Core.Path.{_≡_, sym, _∙_}
 use mathlib.Core.Bool.{true}
 use lib.Dec.{eqb}
-use lib.ListN.{getD, length-take}
+use lib.ListN.{getD}
 use denote.Ref.{now}
-use borrow.Author.Tests.{le-leb, lt-leb, lt-ltb, le-ltb, eq-eqb, ne-eqb, not-true, not-false}
-use Rattle.text.proofs.Parts.{rest-part}
+use borrow.Author.Tests.{lt-ltb, le-ltb, eq-eqb, ne-eqb, not-true, not-false}
 use Rattle.desk_state.specs.Desks.{benchCount, sheetOfBench}
-use Rattle.line_items.specs.Typed.{lineMost}
-use Rattle.desk_soundness.specs.Sound.{soundFilled, counted}
+use Rattle.desk_items.specs.Sound.{soundFilled, counted}
 use borrow.Author.Needs.{needs}
-use Rattle.desk_soundness.proofs.is_sound_filled.Statement.{statement}
-use Rattle.desk_soundness.proofs.is_sound_filled.Tie as tie
+use Rattle.desk_items.proofs.is_sound_filled.Statement.{statement}
+use Rattle.desk_items.proofs.is_sound_filled.Tie as tie
 
 -- the bench is one of the sheet's; the entry number is counted, and how often the item was named
 camp : (c : tie.Else2) → (let a = c .before .before .before .before .before .before .args in eqb (sheetOfBench (getD (now (a .numbers)) 2 0)) (a .sheet) ≡ true)
@@ -53,29 +50,7 @@ returns-5 c =
     let e4 = c .before .before in
     let e3 = e4 .before .before .before in
     let e2 = e3 .before .before .before in
-    simp (lt-ltb _ benchCount (e2 .before .before .if1 .left), camp e2, entry-counted e3, times-counted e4, lt-leb _ lineMost (c .if5 .taken))
-
-returns-6 : tie.Need-returns-6
-unfolding soundFilled
-returns-6 c =
-    let f = c .before .before in
-    let e5 = f .before .before .before in
-    let e4 = e5 .before .before in
-    let e3 = e4 .before .before .before in
-    let e2 = e3 .before .before .before in
-    let e1 = e2 .before .before in
-    let a = e1 .before .before .before .before .args in
-    c .all-between .ensures
-    ∙ simp (rest-part (now (a .value)) (getD (now (a .numbers)) 0 0), lt-ltb _ benchCount (e1 .if1 .left), camp e2, entry-counted e3, times-counted e4, le-leb _ lineMost (e5 .if5 .left), sym (f .before .fits-item .ensures) ∙ f .if6 .taken)
-
-returns-7 : tie.Need-returns-7
-unfolding soundFilled
-returns-7 c =
-    let e5 = c .before .before .before in
-    let e4 = e5 .before .before in
-    let e3 = e4 .before .before .before in
-    let e2 = e3 .before .before .before in
-    simp (lt-ltb _ benchCount (e2 .before .before .if1 .left), camp e2, entry-counted e3, times-counted e4, le-leb _ lineMost (e5 .if5 .left), sym (c .before .fits-item .ensures) ∙ c .if6 .left)
+    c .is-sound-value .ensures ∙ simp (lt-ltb _ benchCount (e2 .before .before .if1 .left), camp e2, entry-counted e3, times-counted e4)
 
 pub is-sound-filled-spec : {M : Type 1} → statement M
 is-sound-filled-spec =
@@ -92,12 +67,5 @@ is-sound-filled-spec =
     (λ c κs. search needs)
     returns-4
     (λ c. search needs)
-    returns-5
-    (λ c. simp length-take (omega arith))
     (λ c κs. search needs)
-    (λ c. search needs)
-    (λ c. search needs)
-    (λ c. search needs)
-    (λ c κs. search needs)
-    returns-6
-    returns-7)
+    returns-5)

@@ -1,9 +1,9 @@
--- `desk_soundness::is_counted` meets its contract: the two tests of `counted`.
+-- `desk_items::is_counted` meets its contract: the two tests of `counted`.
 -- Assumes nothing.
 use borrow.Author.Tests.{le-leb, lt-leb}
-use Rattle.desk_soundness.specs.Sound.{counted}
-use Rattle.desk_soundness.proofs.is_counted.Statement.{statement}
-use Rattle.desk_soundness.proofs.is_counted.Tie as tie
+use Rattle.desk_items.specs.Sound.{counted}
+use Rattle.desk_items.proofs.is_counted.Statement.{statement}
+use Rattle.desk_items.proofs.is_counted.Tie as tie
 
 returns : tie.Need-returns
 unfolding counted
