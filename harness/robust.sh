@@ -161,7 +161,7 @@ unwatched() {
 # The C clients compiled with gcc's own checks of memory and arithmetic, which see their arrays too.
 sanitized() {
     local checks=(-std=c11 -O1 -g -Iinclude -fsanitize=address,undefined -fno-sanitize-recover=all) libraries=${PROVED_LIBS:-target/staticlib} input
-    if ! gcc "${checks[@]}" client/camp/*.c "$libraries"/libexport_{desk,symmetry}.a -lncurses -o "$work/camp" 2>/dev/null ||
+    if ! gcc "${checks[@]}" client/camp/*.c "$libraries"/libexport_{desk,symmetry}.a -lncurses -lpthread -o "$work/camp" 2>/dev/null ||
         ! gcc "${checks[@]}" client/wall_screen.c "$libraries/libexport_wall.a" -o "$work/wall_screen" 2>/dev/null; then
         echo "skipped: the C clients with gcc's checks (its libraries for them are not there)"
         return
