@@ -109,6 +109,19 @@ driven() {
     [ $status -eq 0 ] || fail "camp run $how: run_desk.py $1" "exit $status"
 }
 
+# The running desk under valgrind: its console, keypads, log, a slow disk, and the screen in a pseudo-terminal. What ncurses itself
+# keeps until the end is named in harness/ncurses.supp.
+running() {
+    local part
+    { echo '#!/usr/bin/env bash'; printf '%q ' exec "${watched[@]}" --suppressions="$PWD/harness/ncurses.supp" "$camp"; echo '"$@"'; } >"$work/watched"
+    chmod +x "$work/watched"
+    for part in console inputs limit "saving $disk" terminal 'screen 80 24'; do
+        # shellcheck disable=SC2086
+        driven "under valgrind" "$work/watched" $part
+        said "camp run under valgrind: ${part%% *}"
+    done
+}
+
 # expect INPUT: what desk, camp cif and the client must print for the input.
 expect() {
     "$harness" desk-answers <"$1" >"$work/want.desk"
@@ -129,6 +142,12 @@ every_program() {
 # typed BYTES: the stored sessions again and again, so many bytes.
 typed() {
     while cat harness/desk-sessions/*.in; do :; done 2>/dev/null | head -c "$1"
+}
+
+# The library of a disk that is slow.
+slow_disk() {
+    disk=$work/sync_fails.so
+    gcc -std=c11 -O1 -Wall -Wextra -Werror -shared -fPIC harness/sync_fails.c -o "$disk" || fail "camp run: a slow disk" "the library for it is not built"
 }
 
 inputs() {
@@ -161,7 +180,7 @@ unwatched() {
 # The C clients compiled with gcc's own checks of memory and arithmetic, which see their arrays too.
 sanitized() {
     local checks=(-std=c11 -O1 -g -Iinclude -fsanitize=address,undefined -fno-sanitize-recover=all) libraries=${PROVED_LIBS:-target/staticlib} input
-    if ! gcc "${checks[@]}" client/camp/*.c "$libraries"/libexport_{desk,symmetry}.a -lncurses -o "$work/camp" 2>/dev/null ||
+    if ! gcc "${checks[@]}" client/camp/*.c "$libraries"/libexport_{desk,symmetry}.a -lncurses -lpthread -o "$work/camp" 2>/dev/null ||
         ! gcc "${checks[@]}" client/wall_screen.c "$libraries/libexport_wall.a" -o "$work/wall_screen" 2>/dev/null; then
         echo "skipped: the C clients with gcc's checks (its libraries for them are not there)"
         return
@@ -188,6 +207,8 @@ sanitized() {
         # shellcheck disable=SC2086
         driven "with gcc's checks" "$work/camp" $input
     done
+    # The library of a slow disk stands before that of the checks.
+    ASAN_OPTIONS=verify_asan_link_order=0 driven "with gcc's checks" "$work/camp" saving "$disk"
     for input in random operators many group; do
         told "camp symmetry with gcc's checks: $input" symmetry "$work/$input" "$work/camp"
     done
@@ -296,6 +317,7 @@ refusals() {
 }
 
 inputs
+slow_disk
 unwatched
 sanitized
 if ensure_valgrind; then
@@ -303,6 +325,7 @@ if ensure_valgrind; then
     (library "$work/library") >"$work/library.out" 2>&1 &
     watching=$!
     programs
+    running
     refusals
     wait $watching
     cat "$work/library.out"

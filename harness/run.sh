@@ -1,6 +1,6 @@
 #!/usr/bin/env bash
-# Tests the running desk (camp run): killed at random moments, a log that is torn, full, locked or damaged, keypads that go and come back,
-# the counsellor's console, the screen in a real terminal, how soon a key is shown, and memory.
+# Tests the running desk (camp run): killed at random moments, a log that is torn, full, locked or damaged, a disk that fails or is slow,
+# keypads that go and come back, the counsellor's console, the screen in a real terminal, how soon a key is shown, and memory.
 #   harness/run.sh           as tools/test runs it: logs, keypads, the console, 10 kills, the screen at 80x24; no check goes by the clock
 #   harness/run.sh --live    that with 25 kills, and larger screens, how soon a key is shown, memory; under a minute on a quiet machine
 #   harness/run.sh --long    the same with 300 kills, a minute of typing, a million keys
@@ -16,6 +16,7 @@ esac
 need "$camp"
 sessions=harness/desk-sessions
 first=$sessions/document_01.in
+library=$work/sync_fails.so
 
 # driven WHAT..: a part of run_desk.py, its checks counted.
 driven() {
@@ -147,12 +148,12 @@ full() {
     driven limit
 }
 
-# A disk that fails when it is flushed or a file cut: a library before the system's, which fails where a file is there.
-sync_fails() {
-    local library=$work/sync_fails.so
+# A disk that fails when it is flushed or a file cut, or that takes its time: a library before the system's.
+disks() {
     if gcc -std=c11 -O1 -Wall -Wextra -Werror -shared -fPIC harness/sync_fails.c -o "$library"; then
         driven torn "$library"
         driven sync "$library"
+        driven saving "$library"
         driven fifo "$library"
     else
         fail "camp run: a disk that fails" "the library for it is not built"
@@ -243,7 +244,7 @@ shut "standard output" 1
 shut "standard error" 2
 played
 full
-sync_fails
+disks
 driven removed
 driven inputs
 driven signals
@@ -256,7 +257,8 @@ ensure_tmux && tmux=1 || { tmux= && echo "skipped: the screen in a terminal (tmu
 [ ! "$tmux" ] || screens 80 24
 if [ "$load" -gt 0 ]; then
     [ ! "$tmux" ] || { screens 200 60; screens 80 24 vt100; }
-    driven load "$load"
+    driven load "$load" "$library"
+    driven load "$load" "$library" 100
     driven memory "$keys"
 fi
 finish

@@ -5,6 +5,7 @@
   run_desk.py CAMP full FOLDER          a file system that runs full; FOLDER is on it
   run_desk.py CAMP limit                the same by a limit on the file's length
   run_desk.py CAMP sync LIBRARY         a disk that fails when it is flushed, by that library
+  run_desk.py CAMP saving LIBRARY       an Enter that is being saved, by the same library: what the others see meanwhile, and every end
   run_desk.py CAMP removed              a log that others remove, cut or lengthen
   run_desk.py CAMP inputs               keypads that end and come back, raw mode put back, two on one device
   run_desk.py CAMP fifo LIBRARY         a FIFO between two writers, by the same library
@@ -12,7 +13,9 @@
   run_desk.py CAMP console              the counsellor's commands
   run_desk.py CAMP screen COLUMNS ROWS  what goes to a terminal of that size, byte by byte
   run_desk.py CAMP terminal             the terminal's modes, however the desk ends
-  run_desk.py CAMP load SECONDS         four benches at 50 keys a second each: how long until a key is shown
+  run_desk.py CAMP load SECONDS LIBRARY [WAITS]
+                                        four benches at 50 keys a second each: how long until a key is shown, with a
+                                        disk that takes so many milliseconds more for each flush
   run_desk.py CAMP memory KEYS          the program's memory over so many keys
 
 Each prints one line for each check, 'ok NAME' or 'FAIL NAME: WHY', and what was measured.
@@ -120,6 +123,13 @@ class Desk:
             if time.monotonic() > end or not self.read(0.05):
                 return re.search(pattern, self.text.decode(errors="replace"), re.M) is not None
         return True
+
+    def times(self, words, count, seconds=30.0):
+        """Reads until words are printed so many times; whether they were."""
+        end = time.monotonic() + seconds
+        while self.text.count(words.encode()) < count and time.monotonic() < end and self.read(0.05):
+            pass
+        return self.text.count(words.encode()) >= count
 
     def lines(self):
         """Whole lines alone."""
@@ -411,6 +421,245 @@ def sync(camp, library):
     subprocess.run(["rm", "-r", folder], check=True)
 
 
+def held_disk(folder, library, **more):
+    """A file that holds every flush while it is there, and how a desk with that disk is started."""
+    sign = os.path.join(folder, "hold")
+    write(sign, b"")
+    return sign, {"env": {**os.environ, "LD_PRELOAD": library, "SYNC_HOLDS": sign, **more}}
+
+
+def is_saving(log, length=1, seconds=30.0):
+    """Waits until the file has so many bytes, which are written before they are flushed; whether it has."""
+    end = time.monotonic() + seconds
+    while time.monotonic() < end and (not os.path.exists(log) or os.path.getsize(log) < length):
+        time.sleep(0.005)
+    return os.path.exists(log) and os.path.getsize(log) >= length
+
+
+def as_logged(desk, log, count):
+    """What is wrong with the accepted entries that a desk told, of one log since it was empty: their order, numbers and how many there are."""
+    found, rest = records(read(log))
+    told = [(int(match[1]), int(match[2]), int(match[3]), match[5]) for match in map(ACCEPTED.match, desk.lines()) if match]
+    counts, want = [0, 0], []
+    for bench, _, value in found:
+        counts[bench // 2] += 1
+        want.append((bench, bench // 2, counts[bench // 2], value))
+    return "" if told == want and len(want) == count and not rest else f"told {told}, in the log {want}, {len(rest)} bytes behind them, of {count}"
+
+
+def saving(camp, library):
+    """An Enter that is being saved: its own bench and every Enter wait, the others type on, and nothing is told before it is on the disk."""
+    folder = tempfile.mkdtemp()
+    for part in (saving_others, saving_turns, saving_fails, saving_pairs, saving_pulled, saving_ends, saving_killed, saving_shown, at_once):
+        part(camp, library, tempfile.mkdtemp(dir=folder))
+    subprocess.run(["rm", "-r", folder], check=True)
+
+
+def saving_others(camp, library, folder):
+    """The other benches type on; all Enters come in their order."""
+    log, (hold, how), pads = os.path.join(folder, "camp.log"), held_disk(folder, library), Keypads()
+    desk = Desk(camp, log, pads.options(), **how)
+    desk.until(r"^bench 3: \S+ is open")
+    pads.type(0, f"{NAMES[4]} 0.1\n")
+    is_saving(log)
+    # Byte 7 is no key, and is told: so the keys before it were taken.
+    pads.type(0, f"{NAMES[4]} 0.2\x07\n")
+    right = True
+    for bench in (1, 2, 3):
+        pads.type(bench, f"{NAMES[OWN[bench]]} 0.{bench}5\x07\b7\x07\n")
+        right = right and desk.times(f"bench {bench}: refused, 3, ", 2, 10)
+    desk.say("who 4")
+    desk.say("history")
+    right = right and desk.until(r"^item 4 is empty$", 10) and desk.until(r"^there is no entry$", 10)
+    check("while an Enter is saved the other benches type on", "" if right and b"accepted" not in desk.text and b"bench 0: refused" not in desk.text else repr(desk.text))
+    os.remove(hold)
+    desk.times("accepted, ", 5)
+    wrong = as_logged(desk, log, 5)
+    for bench, values in {0: ["0.1", "0.2"], 1: ["0.17"], 2: ["0.27"], 3: ["0.37"]}.items():
+        if [value for of, _, value in records(read(log))[0] if of == bench] != values:
+            wrong = wrong or f"bench {bench}: not {values}"
+    if not wrong and (records(read(log))[0][0] != (0, 4, "0.1") or desk.text.index(b"bench 0: accepted") > desk.text.index(b"bench 0: refused")):
+        wrong = f"{desk.text!r}"
+    check("and each Enter has its turn, its number, and its own bench's keys before and behind it", wrong)
+    desk.quit()
+    pads.close()
+
+
+def saving_turns(camp, library, folder):
+    """Two benches whose Enters wait in numbers do not keep another's waiting."""
+    log, (hold, how), pads = os.path.join(folder, "camp.log"), held_disk(folder, library), Keypads([0, 1, 2])
+    desk = Desk(camp, log, pads.options(), **how)
+    desk.until(r"^bench 2: \S+ is open")
+    for bench in (0, 1):
+        pads.type(bench, "".join(f"{NAMES[OWN[bench]]} 0.{number:02d}\n" for number in range(20)))
+    is_saving(log)
+    pads.type(2, f"\x07{NAMES[4]} 0.5\n")
+    desk.until(r"^bench 2: refused, 3, ")
+    # Its Enter came with that byte, or soon after it.
+    time.sleep(0.2)
+    os.remove(hold)
+    desk.times("accepted, ", 41)
+    place = [bench for bench, _, _ in records(read(log))[0]].index(2) if b"bench 2: accepted" in desk.text else 99
+    check("an Enter waits for those before it alone", as_logged(desk, log, 41) or ("" if place <= 6 else f"{place} before it"))
+    desk.quit()
+    pads.close()
+
+
+def saving_fails(camp, library, folder):
+    """The flush fails while others type: its bench is as before it, with its line and what it typed since, and so are the others."""
+    fails = os.path.join(folder, "fails")
+    log, (hold, how), pads = os.path.join(folder, "camp.log"), held_disk(folder, library, SYNC_FAILS=fails), Keypads()
+    desk = Desk(camp, log, pads.options(), **how)
+    desk.until(r"^bench 3: \S+ is open")
+    write(fails, b"")
+    pads.type(0, f"{NAMES[4]} 0.1\n")
+    is_saving(log)
+    pads.type(0, "9\x07")
+    pads.type(1, f"{NAMES[6]} 0.2\x07")
+    pads.type(2, f"{NAMES[4]} 0.3\x07")
+    typed = desk.until(r"^bench 1: refused, 3, ", 10) and desk.until(r"^bench 2: refused, 3, ", 10)
+    os.remove(hold)
+    told = desk.until(r"^bench 0: not kept, Input/output error: %s 0\.1$" % NAMES[4])
+    check("a flush that fails while others type is told", "" if typed and told and read(log) == b"" and b"accepted" not in desk.text else repr(desk.text))
+    desk.until(r"^bench 0: refused, 3, ")
+    os.remove(fails)
+    for bench in (2, 0, 1):
+        pads.type(bench, "\n")
+        desk.until(r"^bench %d: accepted, " % bench)
+    check("and all lines are entered when it works again", as_logged(desk, log, 3) or ("" if records(read(log))[0] == [(2, 4, "0.3"), (0, 4, "0.19"), (1, 6, "0.2")] else repr(read(log))))
+    desk.quit()
+    pads.close()
+
+
+def saving_pairs(camp, library, folder):
+    """Pairs keep the order of their file: what is told is the same with every disk."""
+    log, keys, (hold, how) = os.path.join(folder, "camp.log"), os.path.join(folder, "keys"), held_disk(folder, library)
+    lines = [f"{NAMES[4]} 0.1\n", f"\x07{NAMES[6]} 0.2\n", f"{NAMES[4]} 0.3\n", "\x07"]
+    write(keys, "".join(f"{bench}{char}" for bench, line in enumerate(lines) for char in line).encode())
+    desk = Desk(camp, log, ["--pairs", keys], **how)
+    is_saving(log)
+    time.sleep(0.2)
+    early = desk.read() and b"refused" in desk.text
+    os.remove(hold)
+    desk.until(r"is at its end$")
+    # Where the keys come from is told, and what came of them.
+    want = ["accepted", "refused", "accepted", "accepted", "refused"]
+    got = [word for line in desk.lines() for word in ("accepted", "refused") if f": {word}, " in line]
+    check("pairs wait for an Enter that is being saved", "" if not early and got == want and "is at its end" in desk.lines()[-1] else repr(desk.text))
+    desk.quit()
+
+
+def saving_pulled(camp, library, folder):
+    """A keypad that is pulled out behind its Enter: the entry is told, and then that it ended."""
+    log, (hold, how) = os.path.join(folder, "camp.log"), held_disk(folder, library)
+    path = os.path.join(folder, "fifo")
+    os.mkfifo(path)
+    desk = Desk(camp, log, ["--bench", f"0={path}"], **how)
+    desk.until(r"is open$")
+    with open(path, "wb") as file:
+        file.write(f"{NAMES[4]} 0.1\n".encode())
+    is_saving(log)
+    time.sleep(0.2)
+    os.remove(hold)
+    desk.until(r"ended; it is opened again")
+    got = [word for line in desk.lines() for word in ("accepted", "ended") if word in line]
+    check("a keypad that is pulled out behind its Enter", "" if got == ["accepted", "ended"] else repr(desk.text))
+    desk.quit()
+
+
+def saving_ends(camp, library, folder):
+    """Whatever ends the desk, the Enter that is being saved and one that waits behind it are told before, with all that was read."""
+    for name, end in [("quit", None), ("SIGTERM", signal.SIGTERM), ("SIGINT", signal.SIGINT)]:
+        log, (hold, how), pads = os.path.join(folder, name), held_disk(folder, library), Keypads([0, 2])
+        desk = Desk(camp, log, pads.options(), **how)
+        desk.until(r"^bench 2: \S+ is open")
+        pads.type(0, f"{NAMES[4]} 0.1\n_half")
+        is_saving(log)
+        pads.type(2, f"\x07{NAMES[4]} 0.2\n")
+        desk.until(r"^bench 2: refused, 3, ", 10)
+        time.sleep(0.2)
+        if end is None:
+            desk.say("quit")
+        else:
+            desk.process.send_signal(end)
+        time.sleep(0.3)
+        early = desk.process.poll() is not None or (desk.read() and b"accepted" in desk.text)
+        os.remove(hold)
+        status, said = desk.quit()
+        wrong = as_logged(desk, log, 2)
+        if not wrong and (early or status != 0 or said or "bench 0 has not entered `_half`" not in desk.lines() or f"{log}: 2 entries, " not in desk.lines()[-1]):
+            wrong = f"early {early}, status {status}, {said!r}, {desk.text!r}"
+        check(f"{name} while an Enter is saved", wrong)
+        pads.close()
+
+
+def saving_killed(camp, library, folder):
+    """Killed while an Enter is saved: it was not told, and what was told before is in the log."""
+    log, (hold, how), pads = os.path.join(folder, "camp.log"), held_disk(folder, library), Keypads([0, 2])
+    os.remove(hold)
+    desk = Desk(camp, log, pads.options(), **how)
+    desk.until(r"^bench 2: \S+ is open")
+    pads.type(2, f"{NAMES[4]} 0.1\n")
+    desk.until(r"^bench 2: accepted, ")
+    before = read(log)
+    write(hold, b"")
+    pads.type(0, f"{NAMES[4]} 0.2\n")
+    is_saving(log, len(before) + 1)
+    pads.type(2, f"{NAMES[4]} 0.3\x07")
+    desk.until(r"^bench 2: refused, 3, ", 10)
+    desk.kill()
+    os.remove(hold)
+    found = records(read(log))[0]
+    again = Desk(camp, log, ["--bench", "0=/dev/null"])
+    again.until(r"bytes left")
+    right = desk.text.count(b"accepted") == 1 and read(log).startswith(before) and found[1:] in ([], [(0, 4, "0.2")]) and f": {len(found)} entr" in again.lines()[0]
+    check("killed while an Enter is saved", "" if right else f"{desk.text!r} {read(log)!r} {again.text!r}")
+    again.quit()
+    pads.close()
+
+
+def saving_shown(camp, library, folder):
+    """The screen: the bench whose entry is saved is told so, and the others' lines are drawn meanwhile."""
+    log, (hold, how), pads = os.path.join(folder, "camp.log"), held_disk(folder, library), Keypads()
+    shown = Screen(camp, log, pads.options(), env=how["env"])
+    shown.until("desk>")
+    pads.type(0, f"{NAMES[4]} 0.1\n")
+    is_saving(log)
+    for bench in (1, 2, 3):
+        pads.type(bench, f"_line_{bench}")
+    pads.type(0, "_behind")
+    right = shown.shows("Saving ..", f"{NAMES[4]} 0.1", "_line_1", "_line_2", "_line_3", "0 entries", seconds=10)
+    check("on the screen: an Enter is saved, and the others type on", "" if right and b"Thank" not in shown.sent and b"_behind" not in shown.sent else plain(shown.bytes))
+    os.remove(hold)
+    shown.until("Thank you! Entry 1 of sheet 0 is kept.", seconds=10)
+    right = shown.until("_behind", seconds=10) and shown.shows("1 entry,", "_behind", "_line_1", "_line_2", "_line_3", seconds=10)
+    check("on the screen: it is kept, and its bench goes on", "" if right and "Saving" not in plain(shown.bytes) else plain(shown.bytes))
+    shown.process.terminate()
+    shown.wait()
+    shown.close()
+    pads.close()
+
+
+def at_once(camp, library, folder):
+    """Four Enters at once, again and again: each is accepted once, as it is in the log."""
+    log, pads, rounds = os.path.join(folder, "camp.log"), Keypads(), 40
+    desk = Desk(camp, log, pads.options(), env={**os.environ, "LD_PRELOAD": library, "SYNC_WAITS": "2"})
+    desk.until(r"^bench 3: \S+ is open")
+    for bench in range(4):
+        pads.type(bench, f"{NAMES[OWN[bench]]} 0.000")
+    for number in range(1, rounds + 1):
+        for bench in range(4):
+            pads.type(bench, f"\n{NAMES[OWN[bench]]} 0.{number:03d}")
+        desk.times("accepted, ", 4 * number)
+    wrong = as_logged(desk, log, 4 * rounds)
+    for bench in range(4):
+        if [value for of, _, value in records(read(log))[0] if of == bench] != [f"0.{number:03d}" for number in range(rounds)]:
+            wrong = wrong or f"bench {bench}: not all its values, in order"
+    check("four Enters at once", wrong)
+    desk.quit()
+    pads.close()
+
+
 def removed(camp):
     """A log that another program removes, cuts or lengthens while the desk runs."""
     folder = tempfile.mkdtemp()
@@ -631,7 +880,7 @@ def console(camp):
 class Screen:
     """The desk on the screen of a pseudo-terminal, which is its own terminal; words are what it draws, without the places."""
 
-    def __init__(self, camp, log, options, columns=80, rows=24, term="xterm-256color", stdin=None):
+    def __init__(self, camp, log, options, columns=80, rows=24, term="xterm-256color", stdin=None, env=None):
         self.master, self.slave = pty.openpty()
         fcntl.ioctl(self.slave, termios.TIOCSWINSZ, struct.pack("HHHH", rows, columns, 0, 0))
         self.before = termios.tcgetattr(self.slave)
@@ -642,7 +891,7 @@ class Screen:
             fcntl.ioctl(1, termios.TIOCSCTTY, 0)
 
         self.process = subprocess.Popen([camp, "run", "--log", log, *options], stdin=self.slave if stdin is None else stdin, stdout=self.slave, stderr=self.slave,
-                                        env={**os.environ, "TERM": term}, preexec_fn=own)
+                                        env={**os.environ, **(env or {}), "TERM": term}, preexec_fn=own)
         STARTED.append(self.process)
         os.set_blocking(self.master, False)
 
@@ -812,52 +1061,226 @@ def terminal(camp):
     subprocess.run(["rm", "-r", folder], check=True)
 
 
-def load(camp, seconds):
-    """Four benches at 50 keys a second each, some in thirty an Enter that is flushed: from when a key is due until it is drawn.
+class Picture:
+    """What stands on a terminal of xterm's kind, each place with its background; the commands are those that ncurses sends."""
 
-    Keys are sent when they are due, whether or not the ones before were shown."""
+    COMMAND = re.compile(rb"\x1b\[([?>=]?)([0-9;]*)([@-~])|\x1b[()][A-Z0-9]|\x1b[=>78M]|[\x20-\x7e]|[\b\r\n]")
+
+    def __init__(self, columns, rows):
+        self.columns, self.rows = columns, rows
+        self.cells = [self.blank() for _ in range(rows)]
+        self.row = self.column = 0
+        self.top, self.bottom = 0, rows - 1
+        self.back, self.last, self.rest = 0, " ", b""
+
+    def blank(self):
+        return [(" ", 0)] * self.columns
+
+    def put(self, char):
+        if self.column >= self.columns:
+            self.column, self.row = 0, min(self.row + 1, self.rows - 1)
+        self.cells[self.row][self.column] = (char, self.back)
+        self.column += 1
+        self.last = char
+
+    def shift(self, at, count):
+        """Lines at a place go up by so many, or down; new ones are empty."""
+        for _ in range(abs(count)):
+            self.cells.insert(self.bottom if count > 0 else at, self.blank())
+            del self.cells[at if count > 0 else self.bottom + 1]
+
+    def colour(self, numbers):
+        for number in numbers or [0]:
+            if number in (0, 49) or 40 <= number <= 47:
+                self.back = number if 40 <= number <= 47 else 0
+
+    def command(self, numbers, letter):
+        count, line = (numbers[0] if numbers else 0) or 1, self.cells[self.row]
+        if letter == "m":
+            self.colour(numbers)
+        elif letter == "H":
+            self.row, self.column = count - 1, ((numbers[1:] or [1])[0] or 1) - 1
+        elif letter == "d":
+            self.row = count - 1
+        elif letter == "G":
+            self.column = count - 1
+        elif letter in "AB":
+            self.row += count if letter == "B" else -count
+        elif letter in "CD":
+            self.column += count if letter == "C" else -count
+        elif letter == "K":
+            first, end = (0, self.column + 1) if numbers == [1] else (self.column, self.columns)
+            line[first:end] = [(" ", self.back)] * (end - first)
+        elif letter == "J" and numbers == [2]:
+            self.cells = [self.blank() for _ in range(self.rows)]
+        elif letter == "J":
+            line[self.column:] = [(" ", self.back)] * (self.columns - self.column)
+            self.cells[self.row + 1:] = [self.blank() for _ in range(self.rows - self.row - 1)]
+        elif letter == "X":
+            line[self.column:self.column + count] = [(" ", self.back)] * min(count, self.columns - self.column)
+        elif letter == "P":
+            line[self.column:] = line[self.column + count:] + [(" ", self.back)] * count
+        elif letter == "@":
+            line[self.column:] = ([(" ", self.back)] * count + line[self.column:])[:self.columns - self.column]
+        elif letter == "b":
+            for _ in range(count):
+                self.put(self.last)
+        elif letter == "r":
+            self.top, self.bottom = count - 1, ((numbers[1:] or [self.rows])[0] or self.rows) - 1
+            self.row = self.column = 0
+        elif letter in "ST":
+            self.shift(self.top, count if letter == "S" else -count)
+        elif letter in "LM":
+            self.shift(self.row, count if letter == "M" else -count)
+        elif letter not in "hlt":
+            raise ValueError(f"the terminal's command {letter} is not known here")
+
+    def draw(self, data):
+        """Takes what was drawn; the beginning of a command waits for its rest."""
+        data = self.rest + data
+        at = 0
+        while at < len(data):
+            match = self.COMMAND.match(data, at)
+            if not match:
+                break
+            at = match.end()
+            if match[3]:
+                if not match[1]:
+                    self.command([int(number or 0) for number in match[2].split(b";")] if match[2] else [], match[3].decode())
+            elif match[0] == b"\r":
+                self.column = 0
+            elif match[0] == b"\b":
+                self.column -= 1
+            elif match[0] == b"\n" and self.row == self.bottom:
+                self.shift(self.top, 1)
+            elif match[0] == b"\n":
+                self.row += 1
+            elif match[0] == b"\x1bM" and self.row == self.top:
+                self.shift(self.top, -1)
+            elif match[0] == b"\x1bM":
+                self.row -= 1
+            elif len(match[0]) == 1:
+                self.put(match[0].decode())
+        self.rest = data[at:]
+        if len(self.rest) > 30:
+            raise ValueError(f"{self.rest[:30]!r} is not known here")
+
+    def line(self, bench):
+        """The line of a bench, up to the coloured place behind it, on a screen of 40 rows or more."""
+        row = self.cells[2 + 3 * bench][21:]
+        end = next((at for at, (_, back) in enumerate(row) if back), 0)
+        return "".join(char for char, _ in row[:end])
+
+
+class Typist:
+    """A bench that types entries, each of another value, and when each key was due and shown."""
+
+    def __init__(self, bench):
+        self.bench, self.due, self.shown, self.number = bench, [], [], 0
+        self.keys, self.states = "", []
+
+    def next(self, due):
+        """The next key."""
+        if len(self.keys) == len(self.due):
+            self.number += 1
+            line = f"{NAMES[OWN[self.bench]]} {self.value(self.number)}"
+            self.states += [line[:at + 1] for at in range(len(line))] + [""]
+            self.keys += line + "\n"
+        self.due.append(due)
+        return self.keys[len(self.due) - 1]
+
+    def value(self, number):
+        return f"0.{number:05d}"
+
+    def see(self, line, moment):
+        """What stands on the screen: the first state that is not older. Lines of two entries begin the same, but end otherwise."""
+        for at in range(len(self.shown), len(self.due)):
+            if self.states[at] == line:
+                self.shown += [moment] * (at + 1 - len(self.shown))
+                return
+
+    def all_shown(self):
+        return len(self.shown) == len(self.due)
+
+
+def load(camp, seconds, library, waits="0"):
+    """Four benches at 50 keys a second each, one in thirty an Enter that is flushed: from when a key is due until it is drawn.
+
+    Keys are sent when they are due, whether or not the ones before were shown. The disk takes `waits` milliseconds more for
+    each flush. A key behind an Enter of its own bench, which has to be saved first, counts from the end of that flush; an
+    Enter is late where it is shown more than 10 ms after its flush, or where that begins so late without another before it."""
     folder = tempfile.mkdtemp(dir=os.environ.get("RUN_FOLDER"))
     pads = Keypads()
-    log = os.path.join(folder, "camp.log")
-    shown = Screen(camp, log, pads.options(), 200, 60)
+    log, times = os.path.join(folder, "camp.log"), os.path.join(folder, "times")
+    shown = Screen(camp, log, pads.options(), 200, 60, env={"LD_PRELOAD": library, "SYNC_WAITS": waits, "SYNC_TIMES": times})
+    picture, seen = Picture(200, 60), 0
     shown.until("desk>")
     while shown.read(0.1):
         pass
-    lines = {bench: f"{NAMES[OWN[bench]]} 0.16\n" for bench in range(4)}
-    keys, waiting, times, enters, begin, sent = round(seconds * 200), [], [], [], time.monotonic(), 0
-    while sent < keys or waiting:
+    typists = [Typist(bench) for bench in range(4)]
+    keys, begin, sent = round(seconds * 200), time.monotonic(), 0
+    end = begin + seconds + 60
+    while (sent < keys or not all(one.all_shown() for one in typists)) and time.monotonic() < end:
         due = begin + sent * 0.005
         if sent < keys and time.monotonic() >= due:
-            bench = sent % 4
-            byte = lines[bench][sent // 4 % len(lines[bench])]
-            pads.type(bench, byte)
-            waiting.append((due, byte))
+            pads.type(sent % 4, typists[sent % 4].next(due))
             sent += 1
             continue
-        shown.bytes = b""
-        drawn = plain(shown.read(max(0.0, due - time.monotonic()) if sent < keys else 1.0))
+        shown.read(max(0.0, due - time.monotonic()) if sent < keys else 0.1)
         moment = time.monotonic()
-        late = [one for one in waiting if moment - one[0] > 1.0]
-        for due, byte in list(waiting):
-            # A space is drawn as a place that is gone to.
-            what = "Thank you!" if byte == "\n" else byte
-            if what in drawn or (due, byte) in late:
-                drawn = drawn.replace(what, "", 1)
-                (enters if byte == "\n" else times).append(moment - due)
-                waiting.remove((due, byte))
-    took = sorted(times + enters)
-    worst, middle = took[-1] * 1000, took[len(took) // 2] * 1000
-    late = sum(1 for one in took if one > 0.010)
-    flushed = sorted(enters)
+        if len(shown.sent) > seen:
+            picture.draw(shown.sent[seen:])
+            seen = len(shown.sent)
+            for one in typists:
+                one.see(picture.line(one.bench), moment)
     shown.process.terminate()
     shown.wait()
     found, rest = records(read(log))
-    # Others use the processors too, so one in ten may be late.
-    check("nine in ten keys are shown within 10 ms", "" if took and late * 10 <= len(took) and len(found) == len(enters) else f"{late} of {len(took)} late, the worst {worst:.1f} ms, {len(found)} records of {len(enters)} Enters")
-    print(f"  measured: {len(took)} keys at four benches in {seconds} s: half within {middle:.2f} ms, 99 of 100 within {took[len(took) * 99 // 100] * 1000:.2f} ms, the worst {worst:.2f} ms; {late} over 10 ms; {len(flushed)} Enters with flushing, half within {flushed[len(flushed) // 2] * 1000:.2f} ms, the worst {flushed[-1] * 1000:.2f} ms", flush=True)
+    flushes = [tuple(map(float, line.split())) for line in read(times).decode().splitlines()]
+    judge(typists, found, flushes, int(waits), seconds)
     shown.close()
     pads.close()
     subprocess.run(["rm", "-r", folder], check=True)
+
+
+def judge(typists, found, flushes, waits, seconds):
+    """How late the keys were shown, by the records in the log and the times of their flushes."""
+    at = {(bench, value): number for number, (bench, _, value) in enumerate(found)}
+    keys, behind, enters, begun, lost = [], [], [], [], 0
+    for one in typists:
+        lost += len(one.due) - len(one.shown)
+        number, saved = 0, 0.0
+        for key, due, moment in zip(one.keys, one.due, one.shown):
+            if key != "\n":
+                (keys if saved <= due else behind).append(moment - max(saved, due))
+                continue
+            number += 1
+            place = at.get((one.bench, one.value(number)))
+            if place is None:
+                lost += 1
+                continue
+            start, saved = flushes[place]
+            enters.append(moment - saved)
+            begun.append(start - max(due, flushes[place - 1][1] if place else 0.0))
+    what = f"with a flush of {waits} ms" if waits else "with flushing"
+    # Others use the processors too, so one in ten may be late.
+    for name, took in [("keys other than Enter", keys + behind), ("Enters, after their flush", enters), ("flushes begun", begun)]:
+        late = sum(1 for one in took if one > 0.010)
+        check(f"{what}: {name}, within 10 ms", "" if took and late * 10 <= len(took) and not lost and len(flushes) == len(found) == len(enters)
+              else f"{late} of {len(took)} late, the worst {max(took, default=0) * 1000:.1f} ms, {lost} not shown, {len(found)} records, {len(flushes)} flushes of {len(enters)} Enters")
+
+    def told(took):
+        took = sorted(took) or [0.0]
+        late = sum(1 for one in took if one > 0.010)
+        return f"{len(took)}, half within {took[len(took) // 2] * 1000:.2f} ms, 99 of 100 within {took[len(took) * 99 // 100] * 1000:.2f} ms, the worst {took[-1] * 1000:.2f} ms, {late} over 10 ms"
+
+    lasted = sorted(end - start for start, end in flushes) or [0.0]
+    print(f"  measured: four benches, 50 keys a second each, {seconds:g} s {what}")
+    print(f"    keys other than Enter: {told(keys)}")
+    print(f"    behind an Enter of their own bench, after its flush: {told(behind)}")
+    print(f"    Enters, after their flush: {told(enters)}")
+    print(f"    from an Enter, or the end of the flush before, to its flush: {told(begun)}")
+    print(f"    flushes: {len(flushes)}, half within {lasted[len(lasted) // 2] * 1000:.2f} ms, the worst {lasted[-1] * 1000:.2f} ms", flush=True)
 
 
 def memory(camp, count):
@@ -914,6 +1337,8 @@ def main(camp, what, *words):
         limit(camp)
     elif what == "sync":
         sync(camp, words[0])
+    elif what == "saving":
+        saving(camp, words[0])
     elif what == "removed":
         removed(camp)
     elif what == "inputs":
@@ -929,7 +1354,7 @@ def main(camp, what, *words):
     elif what == "terminal":
         terminal(camp)
     elif what == "load":
-        load(camp, float(words[0]))
+        load(camp, float(words[0]), *words[1:])
     elif what == "memory":
         memory(camp, int(words[0]))
     else:

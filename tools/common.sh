@@ -128,7 +128,7 @@ build_client() {
 build_camp() {
     build_archive export_desk export_symmetry || return 1
     ! stale target/bin/camp client/camp include "$(library export_desk)" "$(library export_symmetry)" ||
-        compile 'client/camp/*.c' target/bin/camp export_desk export_symmetry -lncurses
+        compile 'client/camp/*.c' target/bin/camp export_desk export_symmetry -lncurses -lpthread
 }
 
 # The program desk, proved, in target/bin. One that is unchanged is not built again, so its time is set.

@@ -7,7 +7,6 @@
 #include "log.h"
 #include "messages.h"
 
-enum { ENTER = 10 };
 enum { ACCEPTED = 0, NO_START = 22, NO_RIGHT_COUNT = 23 };
 enum { FORMULA = 1, WEIGHT = 2 };
 /* The last count that can be right, and how many right ones are told one by one. */

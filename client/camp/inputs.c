@@ -140,11 +140,17 @@ static void end_input(input *in)
     errno = error;
 }
 
-read_result read_input(input *in, uint8_t *bytes, size_t most, size_t *length)
+bool is_left(const input *in)
 {
-    ssize_t got = read(in->file, bytes, most);
+    return in->taken < in->length;
+}
+
+read_result read_input(input *in)
+{
+    ssize_t got = read(in->file, in->bytes, sizeof in->bytes);
+    in->taken = 0;
+    in->length = got > 0 ? (size_t)got : 0;
     if (got > 0) {
-        *length = (size_t)got;
         in->state = INPUT_THERE;
         return READ_SOME;
     }

@@ -16,6 +16,9 @@
  */
 typedef enum { INPUT_AWAY, INPUT_WAITING, INPUT_THERE, INPUT_OVER, INPUT_REFUSED } input_state;
 
+/* How many bytes of an input are read at a time, so that the others have their turn. */
+enum { TURN = 64 };
+
 typedef struct {
     const char *path;
     uint64_t bench;          /* DESK_NO_BENCH for pairs */
@@ -30,6 +33,10 @@ typedef struct {
     int64_t again;           /* when it is opened again */
     const char *said;        /* what was last told of it; NULL for nothing */
     const char *why;         /* why it is not there; NULL before it was tried */
+    uint8_t bytes[TURN];     /* what was read last */
+    size_t length;
+    size_t taken;            /* how many of these were taken; the next ones wait */
+    uint64_t since;          /* among the inputs that wait, those with a lower number wait longer */
     uint8_t pair;            /* of a pair, the byte that came first */
     bool in_pair;
 } input;
@@ -50,10 +57,13 @@ bool same_input(const input *in, const input *other);
 typedef enum { READ_SOME, READ_LATER, READ_ENDED, READ_FAILED } read_result;
 
 /*
- * Reads what is there, at most so many bytes, without waiting. Where the input ended or failed (errno) it
- * is closed.
+ * Reads what is there, when all before was taken, without waiting. Where the input ended or failed (errno)
+ * it is closed.
  */
-read_result read_input(input *in, uint8_t *bytes, size_t most, size_t *length);
+read_result read_input(input *in);
+
+/* Whether bytes that were read wait to be taken. */
+bool is_left(const input *in);
 
 /* Puts the modes of a terminal back and closes it. */
 void close_input(input *in);

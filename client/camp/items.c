@@ -8,8 +8,6 @@
 #include "messages.h"
 #include "options.h"
 
-enum { ENTER = 10 };
-
 static bool is_filled(const own_desk *desk, uint64_t sheet, uint64_t item)
 {
     return who_typed(desk, sheet, item).bench != DESK_NO_BENCH;

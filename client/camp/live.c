@@ -37,7 +37,29 @@ bool start_live(live_desk *live, const char *log)
         return false;
     }
     live->desk = reader.desk;
-    return true;
+    if (start_writer(&live->writer, &live->file))
+        return true;
+    close_log(&live->file);
+    return false;
+}
+
+void end_live(live_desk *live)
+{
+    end_writer(&live->writer);
+    close_log(&live->file);
+}
+
+bool may_press(const live_desk *live, key pressed)
+{
+    if (live->apart)
+        return false;
+    return !live->saving || (pressed.byte != ENTER && pressed.bench != live->saving_bench);
+}
+
+static uint8_t press_desk(live_desk *live, key pressed)
+{
+    return desk_key(live->desk.texts, DESK_TEXTS, live->desk.numbers, DESK_NUMBERS, live->log, DESK_LOG,
+                    pressed.bench, pressed.byte);
 }
 
 pressed_key press_live(live_desk *live, key pressed)
@@ -45,14 +67,34 @@ pressed_key press_live(live_desk *live, key pressed)
     static own_desk before;
     before = live->desk;
     size_t used = used_of(live);
-    uint8_t answer = desk_key(live->desk.texts, DESK_TEXTS, live->desk.numbers, DESK_NUMBERS, live->log,
-                              DESK_LOG, pressed.bench, pressed.byte);
+    uint8_t answer = press_desk(live, pressed);
     if (answer != ACCEPTED || used_of(live) == used)
-        return (pressed_key){answer, false, NULL};
-    const char *why = append_record(&live->file, live->log + used, used_of(live) - used);
+        return (pressed_key){.answer = answer};
+    give_record(&live->writer, live->log + used, used_of(live) - used);
+    live->desk = before;
+    live->saving = true;
+    live->saving_bench = pressed.bench;
+    return (pressed_key){.answer = answer, .saving = true};
+}
+
+/* Whether the log has grown from so many bytes by the record that is on the disk, and by nothing else. */
+static bool has_grown(const live_desk *live, size_t used)
+{
+    const log_writer *writer = &live->writer;
+    return used_of(live) == used + writer->length &&
+           memcmp(live->log + used, writer->record, writer->length) == 0;
+}
+
+pressed_key end_saving(live_desk *live)
+{
+    size_t used = used_of(live);
+    const char *why = take_end(&live->writer);
+    live->saving = false;
     if (why != NULL)
-        live->desk = before;
-    return (pressed_key){answer, why == NULL, why};
+        return (pressed_key){.answer = ACCEPTED, .not_kept = why};
+    uint8_t answer = press_desk(live, (key){live->saving_bench, ENTER});
+    live->apart = answer != ACCEPTED || !has_grown(live, used);
+    return (pressed_key){.answer = answer, .entered = !live->apart};
 }
 
 /* The length of a record, which its first two bytes say, and its bench. */

@@ -12,8 +12,8 @@
 #include "console.h"
 #include "screen.h"
 
-/* How many bytes of an input are taken at a time, so that the others have their turn. */
-enum { TURN = 64 };
+/* What is waited for: the inputs, and behind them the console and the Enter that is being saved. */
+enum { CONSOLE = DESK_BENCHES, SAVED, POLLS };
 /* An input that ends sooner and gave nothing is not told each time, in milliseconds. */
 enum { BRIEF = 1000 };
 
@@ -62,7 +62,7 @@ void take_signals(void)
             sigaddset(&blocked, signals[at].number);
     }
     /* They come while the loop waits, and not in the middle of a record. */
-    sigprocmask(SIG_BLOCK, &blocked, NULL);
+    pthread_sigmask(SIG_BLOCK, &blocked, NULL);
 }
 
 static void tell_open(view *shown, input *in, const char *why)
@@ -102,14 +102,33 @@ static void open_inputs(view *shown, input *inputs)
     }
 }
 
+/* The line of a bench as it is before a key, and its length. */
+static size_t copy_line(const view *shown, uint64_t bench, uint8_t line[DESK_LINE])
+{
+    size_t length = 0;
+    if (bench < DESK_BENCHES)
+        memcpy(line, line_of(shown->live, bench, &length), DESK_LINE);
+    return length;
+}
+
 static void press_key(view *shown, key pressed)
 {
     uint8_t line[DESK_LINE];
-    size_t length = 0;
-    if (pressed.bench < DESK_BENCHES)
-        memcpy(line, line_of(shown->live, pressed.bench, &length), DESK_LINE);
+    size_t length = copy_line(shown, pressed.bench, line);
     pressed_key came = press_live(shown->live, pressed);
-    tell_key(shown, pressed, &came, line, length);
+    if (!came.saving)
+        tell_key(shown, pressed, &came, line, length);
+}
+
+/* Waits for the Enter that is being saved, and tells what came of it. */
+static void tell_saved(view *shown)
+{
+    uint8_t line[DESK_LINE];
+    key pressed = {shown->live->saving_bench, ENTER};
+    size_t length = copy_line(shown, pressed.bench, line);
+    pressed_key came = end_saving(shown->live);
+    if (!shown->live->apart)
+        tell_key(shown, pressed, &came, line, length);
 }
 
 /* A byte of a bench's own input, or of the pairs. */
@@ -126,14 +145,49 @@ static void take_byte(view *shown, input *in, uint8_t byte)
     }
 }
 
+/* Whether the next byte of an input may be taken now. Pairs keep their order: they wait for every Enter. */
+static bool may_take(const view *shown, const input *in)
+{
+    if (in->bench == DESK_NO_BENCH)
+        return !shown->live->saving && !shown->live->apart;
+    return may_press(shown->live, (key){in->bench, in->bytes[in->taken]});
+}
+
+/* Takes what was read of an input, as far as it may be; the rest waits. */
+static void take_bytes(view *shown, input *in)
+{
+    static uint64_t waits;
+    while (is_left(in) && may_take(shown, in))
+        take_byte(shown, in, in->bytes[in->taken++]);
+    if (is_left(in))
+        in->since = waits++;
+}
+
+/* Of the inputs that wait and may go on, the one that waits longest; NULL for none. */
+static input *next_waiting(const view *shown, input *inputs)
+{
+    input *next = NULL;
+    for (size_t at = 0; at < shown->input_count; at++) {
+        input *in = &inputs[at];
+        if (is_left(in) && may_take(shown, in) && (next == NULL || in->since < next->since))
+            next = in;
+    }
+    return next;
+}
+
+/* The end of the Enter that is being saved, and then what waited for it. */
+static void take_saved(view *shown, input *inputs)
+{
+    tell_saved(shown);
+    for (input *in = next_waiting(shown, inputs); in != NULL; in = next_waiting(shown, inputs))
+        take_bytes(shown, in);
+}
+
 static void take_input(view *shown, input *in)
 {
-    uint8_t bytes[TURN];
-    size_t length = 0;
     bool brief = in->state == INPUT_WAITING && now() - in->opened < BRIEF;
-    read_result result = read_input(in, bytes, sizeof bytes, &length);
-    for (size_t at = 0; at < length; at++)
-        take_byte(shown, in, bytes[at]);
+    read_result result = read_input(in);
+    take_bytes(shown, in);
     if (result != READ_ENDED && result != READ_FAILED)
         return;
     const char *why = result == READ_FAILED ? strerror(errno) : NULL;
@@ -197,37 +251,66 @@ static bool all_over(const view *shown)
 }
 
 /* Waits until something comes; false where it was a signal, or nothing. */
-static bool wait_for(struct pollfd *polls, size_t count, int64_t most)
+static bool wait_for(struct pollfd polls[POLLS], int64_t most)
 {
     struct timespec time = {(time_t)(most / 1000), (long)(most % 1000) * 1000000};
     sigset_t none, blocked;
     sigemptyset(&none);
-    bool came = ppoll(polls, count, most < 0 ? NULL : &time, &none) > 0;
+    bool came = ppoll(polls, POLLS, most < 0 ? NULL : &time, &none) > 0;
     /* Where something came, ppoll leaves signals for later: an input that floods would starve them. */
-    sigprocmask(SIG_SETMASK, &none, &blocked);
-    sigprocmask(SIG_SETMASK, &blocked, NULL);
+    pthread_sigmask(SIG_SETMASK, &none, &blocked);
+    pthread_sigmask(SIG_SETMASK, &blocked, NULL);
     return came;
+}
+
+/* Whether an input is not read now: bytes of it wait, or an Enter of its bench is being saved. */
+static bool is_held(const view *shown, const input *in)
+{
+    const live_desk *live = shown->live;
+    return is_left(in) || (live->saving && (in->bench == DESK_NO_BENCH || in->bench == live->saving_bench));
+}
+
+/* A file of -1 is passed over. */
+static void set_polls(const view *shown, bool console, struct pollfd polls[POLLS])
+{
+    for (size_t at = 0; at < POLLS; at++)
+        polls[at] = (struct pollfd){-1, POLLIN, 0};
+    for (size_t at = 0; at < shown->input_count; at++)
+        if (!is_held(shown, &shown->inputs[at]))
+            polls[at].fd = shown->inputs[at].file;
+    if (console)
+        polls[CONSOLE].fd = STDIN_FILENO;
+    if (shown->live->saving)
+        polls[SAVED].fd = shown->live->writer.ready;
+}
+
+/* Takes all that came; whether the console is still there. */
+static bool take_polls(view *shown, input *inputs, bool console, const struct pollfd polls[POLLS])
+{
+    if (polls[SAVED].revents != 0)
+        take_saved(shown, inputs);
+    for (size_t at = 0; at < shown->input_count; at++)
+        if (polls[at].revents != 0)
+            take_input(shown, &inputs[at]);
+    return polls[CONSOLE].revents != 0 ? take_console(shown) : console;
 }
 
 void run_loop(view *shown, input *inputs, bool console)
 {
-    struct pollfd polls[DESK_BENCHES + 1];
-    while (!ended && (console || !all_over(shown))) {
+    struct pollfd polls[POLLS];
+    while (!ended && !shown->live->apart && (console || !all_over(shown))) {
         open_inputs(shown, inputs);
         if (!shown->plain)
             draw_screen(shown);
-        /* A file of -1 is passed over. */
-        for (size_t at = 0; at < shown->input_count; at++)
-            polls[at] = (struct pollfd){inputs[at].file, POLLIN, 0};
-        polls[shown->input_count] = (struct pollfd){console ? STDIN_FILENO : -1, POLLIN, 0};
-        bool came = wait_for(polls, shown->input_count + 1, wait_most(shown));
+        set_polls(shown, console, polls);
+        bool came = wait_for(polls, wait_most(shown));
         if (resized && !shown->plain)
             resize_screen();
         resized = 0;
-        for (size_t at = 0; came && at < shown->input_count; at++)
-            if (polls[at].revents != 0)
-                take_input(shown, &inputs[at]);
-        if (came && polls[shown->input_count].revents != 0)
-            console = take_console(shown);
+        if (came)
+            console = take_polls(shown, inputs, console, polls);
     }
+    /* What was read is taken before the end, each Enter with its record. */
+    while (shown->live->saving)
+        take_saved(shown, inputs);
 }

@@ -6,7 +6,7 @@
 #include "session.h"
 
 enum { ACCEPTED = 0, NO_BENCH = 1 };
-enum { ERASE = 8, ENTER = 10, EMPTY = 24 };
+enum { ERASE = 8, EMPTY = 24 };
 
 const char refusals_usage[] =
     "usage: camp refusals SESSION\n"

@@ -174,6 +174,13 @@ static void tell_lines(const live_desk *live)
     }
 }
 
+/* What cannot be, since an Enter's record does not depend on the keys of other benches. */
+static void tell_apart(const live_desk *live)
+{
+    about(stderr, live->file.path);
+    fputs("its last record is not that of the entry on the desk; the desk has ended\n", stderr);
+}
+
 /*
  * Holds the numbers of the standard streams that are shut, so that no other file gets one: what is printed
  * would go into the log.
@@ -202,7 +209,7 @@ static int run_desk(run_options *options)
     shown.profile = options->powder ? POWDER : SINGLE_CRYSTAL;
     bool screen = !shown.plain;
     if (screen && !start_screen(options->console && isatty(STDIN_FILENO) != 0)) {
-        close_log(&live.file);
+        end_live(&live);
         return STATUS_FOUND;
     }
     /* The screen covers what was told before it. */
@@ -218,8 +225,10 @@ static int run_desk(run_options *options)
     shown.plain = true;
     tell_lines(&live);
     tell_log(&shown);
-    close_log(&live.file);
-    return STATUS_DONE;
+    if (live.apart)
+        tell_apart(&live);
+    end_live(&live);
+    return live.apart ? STATUS_FOUND : STATUS_DONE;
 }
 
 int run_run(int count, char **words)

@@ -171,13 +171,17 @@ static void draw_line(place at, const uint8_t *line, size_t length)
 }
 
 /* What is said to a bench: of its keypad where that is not there, otherwise of its last key. */
-static void draw_said(place at, const input *in, const words_shown *words)
+static void draw_said(place at, const view *shown, uint64_t bench)
 {
     char text[WORDS];
+    const input *in = input_of(shown, bench);
+    const words_shown *words = &shown->benches[bench];
     if (in->state == INPUT_AWAY || in->state == INPUT_REFUSED) {
         snprintf(text, sizeof text, "The keypad is not there%s%s.", in->why != NULL ? ": " : "",
                  in->why != NULL ? in->why : "");
         put_text(at, SORRY, text);
+    } else if (shown->live->saving && shown->live->saving_bench == bench) {
+        put_text(at, PLAIN, "Saving ..");
     } else if (words->as != QUIET) {
         put_text(at, words->as == GOOD ? HAPPY : SORRY, words->text);
     } else if (in->state == INPUT_OVER) {
@@ -195,7 +199,7 @@ static void draw_bench(const view *shown, uint64_t bench, int row)
     snprintf(text, sizeof text, " BENCH %" PRIu64 "  %s ", bench, camp_name(sheet_of(bench)));
     put_text((place){row, 0, LABEL}, BENCH, text);
     draw_line(behind(row_of(row), LABEL), line, length);
-    draw_said(behind(row_of(row + 1), INDENT), input_of(shown, bench), &shown->benches[bench]);
+    draw_said(behind(row_of(row + 1), INDENT), shown, bench);
 }
 
 /* The benches that have an input, from this row on; the row behind them. */

@@ -26,6 +26,9 @@ typedef struct {
     uint8_t byte;
 } key;
 
+/* The key that enters a line. */
+enum { ENTER = 10 };
+
 /* How many keys a session has; a last odd byte is none. */
 size_t key_count(const content *session);
 

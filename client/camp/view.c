@@ -11,7 +11,7 @@
 #include "messages.h"
 #include "words.h"
 
-enum { ACCEPTED = 0, ENTER = 10 };
+enum { ACCEPTED = 0 };
 
 const input *input_of(const view *shown, uint64_t bench)
 {
