@@ -1177,7 +1177,7 @@ class Typist:
 
     def __init__(self, bench):
         self.bench, self.due, self.shown, self.number = bench, [], [], 0
-        self.keys, self.states = "", []
+        self.keys, self.states, self.line = "", [], ""
 
     def next(self, due):
         """The next key."""
@@ -1193,7 +1193,10 @@ class Typist:
         return f"0.{number:05d}"
 
     def see(self, line, moment):
-        """What stands on the screen: the first state that is not older. Lines of two entries begin the same, but end otherwise."""
+        """Another line stands on the screen: the next state that is so. Lines of two entries begin the same, but end otherwise."""
+        if line == self.line:
+            return
+        self.line = line
         for at in range(len(self.shown), len(self.due)):
             if self.states[at] == line:
                 self.shown += [moment] * (at + 1 - len(self.shown))
