@@ -1,8 +1,17 @@
 #!/usr/bin/env bash
 # Tests the C boundary, headers, client, trace and comparison, and the program desk; camp has a test of its own, camp.sh.
+#   harness/test.sh               all of it
+#   harness/test.sh boundary      headers, client, trace and desk
+#   harness/test.sh comparison    the comparison with the reference, and its self-check
+#   harness/test.sh mutants       the comparison with mutants of the reference, on all processors
 # Needs the built harness, client and program (build/cargo/release/harness, build/wall_screen, target/bin/desk).
 # Prints one line for each check and at the end 'N passed, M failed'.
 set -u
+case "$*" in
+    '') wanted=(boundary comparison mutants) ;;
+    boundary | comparison | mutants) wanted=("$1") ;;
+    *) echo "usage: harness/test.sh [boundary | comparison | mutants]" >&2; exit 2 ;;
+esac
 . "$(dirname "$0")/checks.sh"
 need "$desk"
 warnings=(-Wall -Wextra -Werror -pedantic)
@@ -718,6 +727,9 @@ comparison() {
     summary "self-check of the comparison" "$harness" self-check
     summary "comparison with the reference" "$harness" compare
     grep -a '^fixed seed' "$work/out"
+}
+
+mutants() {
     if command -v python3 >/dev/null; then
         summary "comparison with mutants of the reference" python3 harness/mutants/mutants.py
         grep -a ' mutants, ' "$work/out"
@@ -726,21 +738,24 @@ comparison() {
     fi
 }
 
-headers
-linking "The desk" export_desk
-linking "A log from the stick" export_desk
-linking "Symmetry operators" export_symmetry
-layout
-runs "client: sample" 0 "$(cat client/sample.out)"$'\n' '' "$client" <client/sample.txt
-client_arguments
-client_streams
-client_generated
-trace_examples
-trace_malformed
-trace_keys
-trace_pauses
-trace_generated
-desk_sessions
-tools_tell
-comparison
+boundary() {
+    headers
+    linking "The desk" export_desk
+    linking "A log from the stick" export_desk
+    linking "Symmetry operators" export_symmetry
+    layout
+    runs "client: sample" 0 "$(cat client/sample.out)"$'\n' '' "$client" <client/sample.txt
+    client_arguments
+    client_streams
+    client_generated
+    trace_examples
+    trace_malformed
+    trace_keys
+    trace_pauses
+    trace_generated
+    desk_sessions
+    tools_tell
+}
+
+for run in "${wanted[@]}"; do $run; done
 finish

@@ -8,6 +8,7 @@ Needs the proved archives. Prints what is not as it must be, and at the end 'N p
 """
 import os
 import pathlib
+import resource
 import subprocess
 import sys
 from concurrent.futures import ThreadPoolExecutor
@@ -21,6 +22,8 @@ TARGET = TREE / "build" / "cargo"
 SHORT, LONG = 4000, 1_000_000
 # A mutant that takes longer does not end; it is found.
 SECONDS = {SHORT: 120, LONG: 3600}
+# Bytes of memory that a run of them may take, far more than the comparison needs: a mutant that asks for memory without end is ended soon, and found.
+MEMORY = 2 << 30
 
 
 def built():
@@ -97,6 +100,7 @@ def main():
     names, reasons, count = built(), listed(), LONG if sys.argv[1:] == ["--long"] else SHORT
     expected = [number for number, name in enumerate(names, 1) if name not in reasons]
     survivors = [number for number, name in enumerate(names, 1) if name in reasons]
+    resource.setrlimit(resource.RLIMIT_AS, (MEMORY, MEMORY))
     found = run([0], names, SHORT, SECONDS[SHORT])
     faults = [] if found[0] is None else [f"the reference itself differs: {found[0]}"]
     found |= run_all(expected, names, count, SECONDS[count])

@@ -5,28 +5,32 @@ use crate::boundary::{
     Memory, Stick, DESK_COUNT_AT, DESK_ITEMS, DESK_ITEMS_AT, DESK_ITEMS_SLOT, DESK_ITEM_NUMBERS,
     DESK_KEPT, DESK_LINE, DESK_NUMBERS, DESK_SHEET_NUMBERS, DESK_STATE, DESK_TEXTS, DESK_USED_AT,
 };
-use reference::desk::{Desk, Item, Line, Sheet};
+use reference::desk::{Desk, FRESH};
 use reference::line::ACCEPTED;
 use reference::reader::{Reader, BAD_SHAPE, END_INSIDE, FOREIGN_OVERWRITE};
 use std::array::from_fn;
 use std::ops::Range;
 
 /// The desk that memory holds, sound or not, and how many bytes of the log are used; none where the
-/// memory is no desk.
-pub fn held(memory: &Memory) -> Option<(Desk, u64)> {
+/// memory is no desk. It is filled where it lies: a desk is long, and this is asked for with each call.
+pub fn held(memory: &Memory) -> Option<(Box<Desk>, u64)> {
     let Memory { texts, numbers, .. } = memory;
     if (texts.len(), numbers.len()) != (DESK_TEXTS, DESK_NUMBERS) {
         return None;
     }
-    let text = |at| from_fn(|byte| texts[slot(at)][byte]);
     let number = |at: usize| numbers[at] as u64;
-    let line = |bench| Line { bytes: text(bench), len: number(bench) };
-    let item = |sheet, place| {
-        let [len, entry, bench, times] = numbers_of(sheet, place).map(number);
-        Item { value: text(slot_of(sheet, place)), len, entry, bench, times }
-    };
-    let sheet = |at| Sheet { items: from_fn(|place| item(at, place)), count: number(count_of(at)) };
-    let desk = Desk { lines: from_fn(line), sheets: from_fn(sheet) };
+    let mut desk = Box::new(FRESH);
+    for (bench, line) in desk.lines.iter_mut().enumerate() {
+        line.bytes.copy_from_slice(&texts[slot(bench)]);
+        line.len = number(bench);
+    }
+    for (at, sheet) in desk.sheets.iter_mut().enumerate() {
+        for (place, item) in sheet.items.iter_mut().enumerate() {
+            item.value.copy_from_slice(&texts[slot(slot_of(at, place))]);
+            [item.len, item.entry, item.bench, item.times] = numbers_of(at, place).map(number);
+        }
+        sheet.count = number(count_of(at));
+    }
     Some((desk, number(DESK_USED_AT)))
 }
 
@@ -67,7 +71,7 @@ pub fn held_reader(memory: &Memory, Stick { kept, state }: &Stick) -> Option<Rea
     }
     let (_, over) = STANDS.into_iter().find(|(number, _)| *number == state[1])?;
     let kept = kept[..state[0].min(DESK_KEPT)].to_vec();
-    Some(Reader { desk, start, kept, over })
+    Some(Reader { desk: *desk, start, kept, over })
 }
 
 /// Puts a reader into memory of a reader's lengths; behind the kept bytes are zeros.
