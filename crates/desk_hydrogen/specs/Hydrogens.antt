@@ -7,7 +7,7 @@ use Rattle.desk_state.specs.Desks.{isSheet, sheetAt}
 use Rattle.desk_state.specs.declared.desk.Desk.{Desk}
 use Rattle.desk_memory.specs.Memory.{isDesk, deskOf}
 use Rattle.desk_soundness.specs.Sound.{soundDesk}
-use Rattle.rows_sheet.specs.Sheet.{value}
+use Rattle.desk_state.specs.Sheets.{valueAt}
 use Rattle.hydrogen_answers.specs.declared.Proposed.{Proposed}
 use Rattle.hydrogen_answers.specs.Number.{proposedNumber, proposedCount}
 use Rattle.hydrogen_check.specs.Check.{checkOf}
@@ -32,10 +32,10 @@ askedOf d sheet p = cond (isSheet sheet) (cond (soundDesk d) p (noCount 2)) (noC
 
 -- the formula and the weight of a sheet, as typed: items 1 and 2
 abbrev pub formulaOn : Desk → ℕ → List ℕ
-formulaOn d sheet = value (sheetAt d sheet) 1
+formulaOn d sheet = valueAt (sheetAt d sheet) 1
 
 abbrev pub weightOn : Desk → ℕ → List ℕ
-weightOn d sheet = value (sheetAt d sheet) 2
+weightOn d sheet = valueAt (sheetAt d sheet) 2
 
 -- "A helper proposes a new hydrogen count"
 unfoldable pub helperOn : Desk → ℕ → Proposal

@@ -1,10 +1,10 @@
 -- A record of the log (document 01, "The log").
 -- Assumes nothing.
-use Prim.Native.Nat.{ℕ, _+_}
+use Prim.Native.Nat.{ℕ, _+_, _*_}
 use mathlib.Core.Bool.{Bool, cond, _&&_}
 use mathlib.Core.List.{List, [], _∷_, _++_}
 use lib.Dec.{leb}
-use lib.ListN.{length, take, drop}
+use lib.ListN.{length, getD, take, drop}
 use Rattle.text.specs.Little.{little}
 use Rattle.desk_log.specs.declared.Written.{Written}
 use Rattle.desk_log.specs.declared.Written.the-variants.{Bytes, NoRoom}
@@ -28,6 +28,19 @@ headOf n bench item = little 2 (headLength + n) ++ (little 2 1 ++ (bench ∷ ite
 -- the head, and "the value as typed"
 abbrev pub recordOf : ℕ → ℕ → List ℕ → List ℕ
 recordOf bench item value = headOf (length value) bench item ++ value
+
+-- what bytes that begin with a record tell of it: "length of the whole record (two bytes)", "little-endian"; after "kind 1 (two bytes)" its "bench, item"; and its value
+unfoldable pub lengthTold : List ℕ → ℕ
+lengthTold bs = getD bs 0 0 + 256 * getD bs 1 0
+
+abbrev pub benchTold : List ℕ → ℕ
+benchTold bs = getD bs 4 0
+
+abbrev pub itemTold : List ℕ → ℕ
+itemTold bs = getD bs 5 0
+
+abbrev pub valueTold : List ℕ → List ℕ
+valueTold r = drop headLength r
 
 -- the record is not "longer than the unused part of the log", of so many bytes
 abbrev pub recordFits : ℕ → List ℕ → Bool

@@ -11,7 +11,7 @@ use Rattle.rows.specs.Rows.{noRows}
 use Rattle.rows_sheet.specs.Sheet.{rowsOf}
 use Rattle.desk_keys.specs.Key.{After, keyOf}
 use Rattle.theorem_work.specs.Calls.{Call, key, final}
-use Rattle.theorem_sequences.specs.Calls.{State, left, step}
+use Rattle.theorem_sequences.specs.Calls.{State, leftByKey, step}
 use Rattle.desk_session.specs.Play.{benchOf, pairsOf, played}
 
 -- after i pairs the state s stands, from the state first
@@ -42,7 +42,7 @@ pair-at input at h = simp towards-suc
 pub ran-next : {input : List ℕ} {first s : State} {i bench : ℕ} (a : After) → Ran input first s i → 2 * i + 1 < length input
     → bench ≡ benchOf (getD input (2 * i) 0)
     → a ≡ keyOf (s .desk) (s .used) (s .log) bench (getD input (2 * i + 1) 0)
-    → Ran input first (left a) (i + 1)
+    → Ran input first (leftByKey a) (i + 1)
 ran-next {input} {first} {s} {i} {bench} a ran h b e =
     let byte = getD input (2 * i + 1) 0 in
     let rest : List Call = pairsOf (drop (2 * i + 2) input) in
@@ -50,8 +50,8 @@ ran-next {input} {first} {s} {i} {bench} a ran h b e =
     let on : 2 * (i + 1) ≡ 2 * i + 2 = omega arith in
     record {
       leads =
-          ap (λ (n : ℕ). played (left a) (drop n input)) on
-          ∙ ap (λ (a : After). final (step rowsOf noRows) (left a) rest) q
+          ap (λ (n : ℕ). played (leftByKey a) (drop n input)) on
+          ∙ ap (λ (a : After). final (step rowsOf noRows) (leftByKey a) rest) q
           ∙ sym (ap (final (step rowsOf noRows) s) (pair-at input (2 * i) h))
           ∙ ran .leads;
     }

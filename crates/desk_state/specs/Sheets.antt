@@ -30,6 +30,10 @@ itemAt s k = getD (s .items) (k - 1) noItem
 abbrev pub valueIn : Item → List ℕ
 valueIn i = take (i .len) (i .value)
 
+-- the value of the item of that number
+abbrev pub valueAt : Sheet → ℕ → List ℕ
+valueAt s k = valueIn (itemAt s k)
+
 -- a sheet with nothing on it
 abbrev pub emptySheet : Sheet
 emptySheet = record { items = replicate itemCount emptyItem; count = 0 }

@@ -14,23 +14,23 @@ use Rattle.line_items.specs.Items.{nameOf}
 use Rattle.desk_state.specs.Sheets.{valueIn}
 use Rattle.desk_state.specs.declared.sheet.Item.{Item}
 use Rattle.desk_state.specs.declared.sheet.Sheet.{Sheet}
-use Rattle.file_cif.specs.File.{ended, itemText, itemLine, fileOf}
+use Rattle.file_cif.specs.File.{endedLine, itemText, itemLine, fileOf}
 
 pub empty-line : (k : ℕ) (i : Item) → i .len ≡ 0 → itemLine k i ≡ []
 unfolding itemLine
 empty-line k i e = simp (eq-eqb (i .len) 0 e)
 
-pub filled-line : (k : ℕ) (i : Item) → (i .len ≡ 0 → ⊥) → itemLine k i ≡ ended (itemText k (valueIn i))
+pub filled-line : (k : ℕ) (i : Item) → (i .len ≡ 0 → ⊥) → itemLine k i ≡ endedLine (itemText k (valueIn i))
 unfolding itemLine
 filled-line k i n = simp (ne-eqb (i .len) 0 n)
 
-pub ended-length : (k : ℕ) (v : List ℕ) → length (ended (itemText k v)) ≡ length (nameOf k) + 1 + length v + 1
+pub ended-length : (k : ℕ) (v : List ℕ) → length (endedLine (itemText k v)) ≡ length (nameOf k) + 1 + length v + 1
 ended-length k v = length-append (itemText k v) (10 ∷ []) ∙ ap (λ (n : ℕ). n + 1) (length-append (nameOf k) (32 ∷ v)) ∙ omega arith
 
 -- a line copied in four pieces
 pub line-copied : (d : List ℕ) (at : ℕ) (k : ℕ) (v : List ℕ) {o₁ o₂ o₃ o₄ : List ℕ} (p₂ p₃ p₄ : ℕ) → o₁ ≡ copied d at (nameOf k) → o₂ ≡ copied o₁ p₂ (32 ∷ [])
     → o₃ ≡ copied o₂ p₃ v → o₄ ≡ copied o₃ p₄ (10 ∷ []) → p₂ ≡ at + length (nameOf k) → p₃ ≡ p₂ + 1 → p₄ ≡ p₃ + length v
-    → at + length (ended (itemText k v)) ≤ length d → o₄ ≡ copied d at (ended (itemText k v))
+    → at + length (endedLine (itemText k v)) ≤ length d → o₄ ≡ copied d at (endedLine (itemText k v))
 line-copied d at k v p₂ p₃ p₄ e₁ e₂ e₃ e₄ h₂ h₃ h₄ room =
     let name = nameOf k in
     let all = ended-length k v in
@@ -46,7 +46,7 @@ unfolding fileOf
 file-length name s =
     let lines = linesFrom itemLine 1 (s .items) in
     let heading = bytes "data_" in
-    let a = length-append (ended (heading ++ name)) lines in
+    let a = length-append (endedLine (heading ++ name)) lines in
     let b = length-append (heading ++ name) (10 ∷ []) in
     let c = length-append heading name in
     let h : length heading ≡ 5 = refl in
@@ -66,4 +66,4 @@ file-copied d name s p₃ p₄ e₁ e₂ e₃ e₄ h₃ h₄ room =
     let l₃ = length-append (heading ++ name) (10 ∷ []) in
     let c₂ = copied-next d 0 heading 5 name e₁ e₂ refl (omega arith) (omega arith) in
     let c₃ = copied-next d 0 (heading ++ name) p₃ (10 ∷ []) c₂ e₃ refl (omega arith) (omega arith) in
-    copied-next d 0 (ended (heading ++ name)) p₄ lines c₃ e₄ refl (omega arith) (omega arith)
+    copied-next d 0 (endedLine (heading ++ name)) p₄ lines c₃ e₄ refl (omega arith) (omega arith)

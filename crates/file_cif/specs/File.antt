@@ -13,8 +13,8 @@ use Rattle.desk_state.specs.declared.sheet.Item.{Item}
 use Rattle.desk_state.specs.declared.sheet.Sheet.{Sheet}
 
 -- "every line ended by byte 10"
-abbrev pub ended : List ℕ → List ℕ
-ended t = t ++ (10 ∷ [])
+abbrev pub endedLine : List ℕ → List ℕ
+endedLine t = t ++ (10 ∷ [])
 
 -- "its name as in document 01, one space, the value as typed"
 abbrev pub itemText : ℕ → List ℕ → List ℕ
@@ -26,8 +26,8 @@ itemLineMost = nameMost + 1 + lineMost + 1
 
 -- the line of item k; none for an empty item
 unfoldable pub itemLine : ℕ → Item → List ℕ
-itemLine k i = cond (eqb (i .len) 0) [] (ended (itemText k (valueIn i)))
+itemLine k i = cond (eqb (i .len) 0) [] (endedLine (itemText k (valueIn i)))
 
 -- "a line data_ with a block name .., then each filled item in item order"
 unfoldable pub fileOf : List ℕ → Sheet → List ℕ
-fileOf name s = ended (bytes "data_" ++ name) ++ linesFrom itemLine 1 (s .items)
+fileOf name s = endedLine (bytes "data_" ++ name) ++ linesFrom itemLine 1 (s .items)

@@ -6,7 +6,7 @@ ghost use Rattle.text_copies.specs.Copy.{copied};
 ghost use Rattle.text_copies.specs.Each.{linesFrom};
 ghost use Rattle.line_items.specs.Items.{itemCount};
 ghost use Rattle.desk_memory.specs.Memory.{itemIn, sheetFrom};
-ghost use Rattle.file_cif.specs.File.{ended, itemText, itemLine, fileOf};
+ghost use Rattle.file_cif.specs.File.{endedLine, itemText, itemLine, fileOf};
 ghost use Rattle.file_cif.specs.Answers.{filingOf, fileLent};
 use crate::length::lines_length;
 use desk_answers::FileAnswer;
@@ -34,8 +34,8 @@ fn refuse(answer: FileAnswer) -> Filed
 
 // Writes the line of item k + 1 with that value from a place on, and says where it ends.
 fn put_filled(out: &mut [u8], at: usize, k: usize, value: &[u8]) -> usize
-    requires { ⌜ (at + length (ended (itemText (k + 1) (now value))) ≤ length (now out)) × (k < itemCount) ⌝ }
-    ensures { λ r. ⌜ (now (out .exit) ≡ copied (now (out .entry)) at (ended (itemText (k + 1) (now (value .entry))))) × (r ≡ at + length (ended (itemText (k + 1) (now (value .entry))))) ⌝ }
+    requires { ⌜ (at + length (endedLine (itemText (k + 1) (now value))) ≤ length (now out)) × (k < itemCount) ⌝ }
+    ensures { λ r. ⌜ (now (out .exit) ≡ copied (now (out .entry)) at (endedLine (itemText (k + 1) (now (value .entry))))) × (r ≡ at + length (endedLine (itemText (k + 1) (now (value .entry))))) ⌝ }
 {
     let space = at + line_items::name_length(k + 1);
     let start = space + 1;

@@ -10,7 +10,7 @@ use lib.Dec.{eqb·suc-zero}
 use lib.ListN.{length, length-append}
 use Rattle.text.specs.Run.{kindAt, hasAt}
 use Rattle.formula_moiety.specs.Grammar.{Moiety, shown, shownAll, mostDeep, IsMoiety, AreMoieties, none, next, IsText}
-use Rattle.formula_moiety.specs.Reading.{got, moietyOf, Whole, whole, unread, enough, wholeOf, moietiesOf, ReadAs}
+use Rattle.formula_moiety.specs.Reading.{got, moietyOf, Whole, whole, unread, enough, wholeTextOf, moietiesOf, ReadAs}
 use Rattle.formula_moiety.proofs.Sound.{is-read}
 use Rattle.formula_moiety.proofs.Complete.{Ends, front-is, at-comma, at-end, moiety-reads}
 
@@ -21,8 +21,8 @@ second-is : (a b : ℕ) (r : List ℕ) → hasAt (a ∷ (b ∷ r)) 1 b ≡ true
 unfolding hasAt kindAt
 second-is a b r = let l : 1 < suc (suc (length r)) = omega arith in simp (lt-ltb 1 (suc (suc (length r))) l, eq-eqb b b refl)
 
-all-read : {m : Moiety} {ms : List Moiety} → AreMoieties ms → IsMoiety mostDeep m → (f : ℕ) → length (shownAll m ms) < f → wholeOf f (shownAll m ms) ≡ whole m ms
-unfolding wholeOf shownAll
+all-read : {m : Moiety} {ms : List Moiety} → AreMoieties ms → IsMoiety mostDeep m → (f : ℕ) → length (shownAll m ms) < f → wholeTextOf f (shownAll m ms) ≡ whole m ms
+unfolding wholeTextOf shownAll
 all-read none is zero l = absurd (omega arith)
 all-read {m} none is (suc f) l =
     let whole-text : moietyOf (enough (shown m)) mostDeep (shown m) ≡ got m [] =
@@ -33,7 +33,7 @@ all-read {m} (next {m = n} {ms = ms} i is) j (suc f) l =
     let r = shownAll n ms in
     let long = length-append (shown m) (44 ∷ (32 ∷ r)) in
     let first : moietyOf (enough (shown m ++ (44 ∷ (32 ∷ r)))) mostDeep (shown m ++ (44 ∷ (32 ∷ r))) ≡ got m (44 ∷ (32 ∷ r)) = first-reads (44 ∷ (32 ∷ r)) j (at-comma (32 ∷ r)) in
-    let rest : wholeOf f r ≡ whole n ms = all-read is i f (omega arith) in
+    let rest : wholeTextOf f r ≡ whole n ms = all-read is i f (omega arith) in
     rw (first, eqb·suc-zero (suc (length r)), front-is 44 (32 ∷ r), second-is 44 32 r, rest)
 
 -- the text of every tree of the subset is read as that tree

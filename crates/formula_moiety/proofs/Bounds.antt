@@ -20,7 +20,7 @@ use Rattle.formula_terms.specs.declared.term.Term.{Term}
 use Rattle.formula_terms.specs.declared.term.Term.the-variants.{Well, Ill}
 use Rattle.formula_moiety.specs.Amounts.{isPlace, amount}
 use Rattle.formula_moiety.specs.Grammar.{mostTimes, Part, Moiety, shownPart, shown, shownAll, mostDeep, IsTimes, IsPart, IsMoiety, is-term, is-group, is-one, is-more, AreMoieties, none, next, IsText}
-use Rattle.formula_moiety.specs.Totals.{times, totalPart, total, totalAll, most}
+use Rattle.formula_moiety.specs.Totals.{countNumber, totalPart, total, totalAll, most}
 use Rattle.formula_moiety.proofs.Leaves.{leaf-read}
 
 -- a term has at most 9999 of an element
@@ -32,7 +32,7 @@ amount-small k (Well a b n) h = go (isPlace k (elementOf a b))
     go false = omega arith
 amount-small k Ill h = omega arith
 
-few-times : (c : List ℕ) → IsTimes c → times (countOf c) ≤ mostTimes
+few-times : (c : List ℕ) → IsTimes c → countNumber (countOf c) ≤ mostTimes
 few-times c t = rw (count-of (t .is)) (t .few)
 
 not-empty : (w : List ℕ) → isRecognised (termOf w) ≡ true → 1 ≤ length w

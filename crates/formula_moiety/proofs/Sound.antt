@@ -14,7 +14,7 @@ use Rattle.text.proofs.Runs.{has-within, has-byte}
 use Rattle.formula_terms.specs.Term.{termOf}
 use Rattle.formula_sum.specs.Recognised.{isRecognised}
 use Rattle.formula_moiety.specs.Grammar.{Part, Moiety, term, group, one, shownPart, shown, shownAll, mostDeep, IsPart, IsMoiety, is-term, is-group, is-one, is-more, AreMoieties, none, next}
-use Rattle.formula_moiety.specs.Reading.{Got, got, isTimes, inWord, word, past, wordPart, closed, inBrackets, joined, goesOn, partOf, moietyOf, Whole, whole, unread, listed, further, enough, wholeOf, moietiesOf}
+use Rattle.formula_moiety.specs.Reading.{Got, got, isTimes, inWord, word, past, wordPart, closed, inBrackets, withPart, goesOn, partOf, moietyOf, Whole, whole, unread, listed, further, enough, wholeTextOf, moietiesOf}
 use Rattle.formula_moiety.specs.Reading as R
 use Rattle.formula_moiety.proofs.Leaves.{is-leaf, is-times}
 
@@ -52,7 +52,7 @@ brackets-sound : (d : ℕ) (t : List ℕ) (g : Got Moiety) → Sound (IsMoiety d
 brackets-sound d t (got m r) s = closed-sound d t m r (s .0) (s .1)
 brackets-sound d t R.none s = tt
 
-joined-sound : (d : ℕ) (t u : List ℕ) (p : Part) (g : Got Moiety) → IsPart d p → t ≡ shownPart p ++ (32 ∷ u) → Sound (IsMoiety d) shown u g → Sound (IsMoiety d) shown t (joined p g)
+joined-sound : (d : ℕ) (t u : List ℕ) (p : Part) (g : Got Moiety) → IsPart d p → t ≡ shownPart p ++ (32 ∷ u) → Sound (IsMoiety d) shown u g → Sound (IsMoiety d) shown t (withPart p g)
 unfolding shown
 joined-sound d t u p (got m r) is e s =
     (is-more is (s .0), e ∙ ap (λ (x : List ℕ). shownPart p ++ (32 ∷ x)) (s .1) ∙ sym (append-assoc (shownPart p) (32 ∷ shown m) r))
@@ -63,7 +63,7 @@ goes-sound : (d : ℕ) (t : List ℕ) (g : Got Part) (k : List ℕ → Got Moiet
 unfolding shown
 goes-sound d t (got p r) k s h = go (hasAt r 0 32) refl
   where
-    go : (b : Bool) → hasAt r 0 32 ≡ b → Sound (IsMoiety d) shown t (cond b (joined p (k (drop 1 r))) (got (one p) r))
+    go : (b : Bool) → hasAt r 0 32 ≡ b → Sound (IsMoiety d) shown t (cond b (withPart p (k (drop 1 r))) (got (one p) r))
     go true e = joined-sound d t (drop 1 r) p (k (drop 1 r)) (s .0) (s .1 ∙ ap (λ (x : List ℕ). shownPart p ++ x) (front r 32 e)) (h (drop 1 r))
     go false e = (is-one (s .0), s .1)
 goes-sound d t R.none k s h = tt
@@ -117,10 +117,10 @@ further-sound t (got m r) k s h = go (eqb (length r) 0) (hasAt r 0 44) (hasAt r 
     go false false c p q x = tt
 further-sound t R.none k s h = tt
 
-whole-sound : (f : ℕ) (t : List ℕ) → WholeSound t (wholeOf f t)
-unfolding wholeOf
+whole-sound : (f : ℕ) (t : List ℕ) → WholeSound t (wholeTextOf f t)
+unfolding wholeTextOf
 whole-sound zero t = tt
-whole-sound (suc f) t = further-sound t (moietyOf (enough t) mostDeep t) (wholeOf f) (moiety-sound (enough t) mostDeep t) (whole-sound f)
+whole-sound (suc f) t = further-sound t (moietyOf (enough t) mostDeep t) (wholeTextOf f) (moiety-sound (enough t) mostDeep t) (whole-sound f)
 
 -- a text that is read is the text of its tree, which is of the subset
 pub is-read : (t : List ℕ) (m : Moiety) (ms : List Moiety) → moietiesOf t ≡ whole m ms → AreMoieties (m ∷ ms) × (t ≡ shownAll m ms)

@@ -9,7 +9,7 @@ use Rattle.text.specs.Run.{runOf, all, between, other, hasAt, kindAt}
 use Rattle.number_decimal.specs.Digits.{valueFrom}
 use Rattle.formula_terms.specs.Term.{isCount, countOf, termOf}
 use Rattle.formula_elements.specs.Elements.{sameSymbol, placeOf, symbols, elementOf, isElement}
-use Rattle.formula_moiety.specs.Reading.{inWord, wordPart, closed, partOf, Whole, whole, unread, wholeOf, moietiesOf}
+use Rattle.formula_moiety.specs.Reading.{inWord, wordPart, closed, partOf, Whole, whole, unread, wholeTextOf, moietiesOf}
 use Rattle.formula_moiety.specs.Totals.{totalPart, totalAll}
 
 -- the totals of H, C and O in what was read; no number where nothing was
@@ -49,5 +49,5 @@ cases =
     case "" [] ∷ []
 
 pub vectors-hold : map (λ (c : Case). someTotals (moietiesOf (bytes (c .text)))) cases ≡ map (λ (c : Case). c .totals) cases
-unfolding cases moietiesOf wholeOf partOf wordPart closed inWord runOf all between other hasAt kindAt valueFrom isCount countOf termOf sameSymbol placeOf symbols elementOf isElement totalPart totalAll
+unfolding cases moietiesOf wholeTextOf partOf wordPart closed inWord runOf all between other hasAt kindAt valueFrom isCount countOf termOf sameSymbol placeOf symbols elementOf isElement totalPart totalAll
 vectors-hold = refl

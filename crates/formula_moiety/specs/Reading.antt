@@ -37,8 +37,8 @@ abbrev pub isTimes : List ℕ → Bool
 isTimes c = fewTimes (countOf c)
 
 -- the count after a bracket that a word is
-unfoldable pub timesOf : List ℕ → Count
-timesOf c = cond (isTimes c) (countOf c) NoCount
+unfoldable pub bracketCount : List ℕ → Count
+bracketCount c = cond (isTimes c) (countOf c) NoCount
 
 -- the term that a text begins with
 unfoldable pub wordPart : List ℕ → Got Part
@@ -54,13 +54,13 @@ inBrackets (got m r) = closed m r
 inBrackets none = none
 
 -- a part and the moiety that goes on after it
-abbrev pub joined : Part → Got Moiety → Got Moiety
-joined p (got m r) = got (more p m) r
-joined p none = none
+abbrev pub withPart : Part → Got Moiety → Got Moiety
+withPart p (got m r) = got (more p m) r
+withPart p none = none
 
 -- after a part the moiety goes on where a space follows
 abbrev pub goesOn : Got Part → (List ℕ → Got Moiety) → Got Moiety
-goesOn (got p r) further = cond (hasAt r 0 32) (joined p (further (drop 1 r))) (got (one p) r)
+goesOn (got p r) further = cond (hasAt r 0 32) (withPart p (further (drop 1 r))) (got (one p) r)
 goesOn none further = none
 
 -- the part, and the moiety, that a text begins with, inside at most d more brackets; the first number bounds how often the two call each other
@@ -92,13 +92,13 @@ further none rest = unread
 abbrev pub enough : List ℕ → ℕ
 enough t = 2 * length t + 2
 
-unfoldable pub wholeOf : ℕ → List ℕ → Whole
-wholeOf zero t = unread
-wholeOf (suc f) t = further (moietyOf (enough t) mostDeep t) (wholeOf f)
+unfoldable pub wholeTextOf : ℕ → List ℕ → Whole
+wholeTextOf zero t = unread
+wholeTextOf (suc f) t = further (moietyOf (enough t) mostDeep t) (wholeTextOf f)
 
 -- the moieties that a text is
 unfoldable pub moietiesOf : List ℕ → Whole
-moietiesOf t = wholeOf (length t + 1) t
+moietiesOf t = wholeTextOf (length t + 1) t
 
 -- a text is read as its moieties, and not read where it is that of none
 abbrev pub ReadAs : List ℕ → Whole → Type 0

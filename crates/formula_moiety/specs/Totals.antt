@@ -9,15 +9,15 @@ use Rattle.formula_moiety.specs.Amounts.{amount}
 use Rattle.formula_moiety.specs.Grammar.{Part, Moiety, term, group, one, more, mostTimes}
 
 -- the number that a count is
-abbrev pub times : Count → ℕ
-times (Times n) = n
-times NoCount = 0
+abbrev pub countNumber : Count → ℕ
+countNumber (Times n) = n
+countNumber NoCount = 0
 
 -- the total of the element k in a part, and in a moiety
 unfoldable mutual
   pub totalPart : Part → ℕ → ℕ
   totalPart (term w) k = amount k (termOf w)
-  totalPart (group m c) k = times (countOf c) * total m k
+  totalPart (group m c) k = countNumber (countOf c) * total m k
 
   pub total : Moiety → ℕ → ℕ
   total (one p) k = totalPart p k

@@ -12,7 +12,7 @@ use Rattle.text.proofs.Bools.{cond-first}
 use Rattle.formula_terms.specs.Term.{mostCount, termOf}
 use Rattle.formula_terms.specs.Terms.{attach, cut, termsOf}
 use Rattle.formula_elements.specs.Elements.{weightOf, heaviest}
-use Rattle.formula_sum.specs.Sum.{mostSummed, times, plus, termWeight, total, sumOf, SmallCount, SmallWeight}
+use Rattle.formula_sum.specs.Sum.{mostSummed, times, plus, termWeight, totalWeight, sumOf, SmallCount, SmallWeight}
 use Rattle.formula_terms.specs.declared.term.Term.{Term}
 use Rattle.formula_terms.specs.declared.term.Term.the-variants.{Well, Ill}
 use Rattle.formula_elements.specs.declared.Weight.{Weight}
@@ -39,10 +39,10 @@ plus-small k (Thousandths u) (Thousandths v) h l = omega arith
 plus-small k (Thousandths u) NoWeight h l = tt
 plus-small k NoWeight v h l = tt
 
-total-small : (ts : List (List ℕ)) → AtMost (length ts) (total (map termOf ts))
-unfolding total AtMost
+total-small : (ts : List (List ℕ)) → AtMost (length ts) (totalWeight (map termOf ts))
+unfolding totalWeight AtMost
 total-small [] = omega arith
-total-small (t ∷ ts) = plus-small (length ts) (termWeight (termOf t)) (total (map termOf ts)) (weight-small (termOf t) (term-small t)) (total-small ts)
+total-small (t ∷ ts) = plus-small (length ts) (termWeight (termOf t)) (totalWeight (map termOf ts)) (weight-small (termOf t) (term-small t)) (total-small ts)
 
 attach-length : (b n : ℕ) (ts : List (List ℕ)) → 1 ≤ n → length ts ≤ n → length (attach b ts) ≤ n
 attach-length b n [] h l = h
@@ -61,7 +61,7 @@ cut-length (b ∷ bs) = cut-by (eqb b 32) b (suc (length bs)) (cut bs) (cut-leng
 pub sum-small : (s : List ℕ) (n : ℕ) → sumOf s ≡ Thousandths n → n < 10 ^ 13
 unfolding sumOf AtMost
 sum-small s n e =
-    let h = cond-first (leb (length s) mostSummed) (total (termsOf s)) NoWeight (Thousandths n) (no-sum n) e in
+    let h = cond-first (leb (length s) mostSummed) (totalWeight (termsOf s)) NoWeight (Thousandths n) (no-sum n) e in
     let short = leb-true (length s) mostSummed (h .0) in
     let terms = cut-length s in
     let small : n ≤ length (cut s) * (mostCount * heaviest) = subst (AtMost (length (cut s))) (h .1) (total-small (cut s)) in

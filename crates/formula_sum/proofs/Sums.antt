@@ -12,12 +12,12 @@ use lib.ListN.{length, getD, drop}
 use Rattle.text.specs.Run.{all, isDigit, isCapital, isSmall, kindAt}
 use Rattle.text.proofs.Bools.{and-both, cond-first}
 use Rattle.number_decimal.specs.Digits.{valueOf}
-use Rattle.formula_terms.specs.Term.{mostCount, isCount, countOf, counted, termOf}
+use Rattle.formula_terms.specs.Term.{mostCount, isCount, countOf, withCount, termOf}
 use Rattle.formula_terms.specs.Terms.{termsOf}
 use Rattle.formula_elements.specs.Elements.{isElement, weightOf, heaviest}
 use Rattle.formula_elements.proofs.Weights.{weight-known}
 use Rattle.formula_sum.specs.Recognised.{isRecognised, allRecognised}
-use Rattle.formula_sum.specs.Sum.{mostSummed, times, plus, termWeight, total, sumOf, SmallCount}
+use Rattle.formula_sum.specs.Sum.{mostSummed, times, plus, termWeight, totalWeight, sumOf, SmallCount}
 use Rattle.formula_terms.specs.declared.term.Count.{Count}
 use Rattle.formula_terms.specs.declared.term.Count.the-variants.{Times, NoCount}
 use Rattle.formula_terms.specs.declared.term.Term.{Term}
@@ -48,7 +48,7 @@ count-small : (ds : List ℕ) → CountSmall (countOf ds)
 unfolding countOf
 count-small ds = count-by (eqb (length ds) 0) _ (value-small ds (isCount ds) refl)
 
-counted-small : (a b : ℕ) (c : Count) → CountSmall c → SmallCount (counted a b c)
+counted-small : (a b : ℕ) (c : Count) → CountSmall c → SmallCount (withCount a b c)
 unfolding CountSmall
 counted-small a b (Times n) h = h
 counted-small a b NoCount h = tt
@@ -76,29 +76,29 @@ plus-zero : (v : Weight) → v ≡ plus (Thousandths 0) v
 plus-zero (Thousandths v) = ap Thousandths (sym (zero-add v))
 plus-zero NoWeight = refl
 
-pub sum-start : (s : List ℕ) → total (termsOf s) ≡ plus (Thousandths 0) (total (termsFrom s 0))
-sum-start s = ap total (from-start s) ∙ plus-zero (total (termsFrom s 0))
+pub sum-start : (s : List ℕ) → totalWeight (termsOf s) ≡ plus (Thousandths 0) (totalWeight (termsFrom s 0))
+sum-start s = ap totalWeight (from-start s) ∙ plus-zero (totalWeight (termsFrom s 0))
 
 module _ {s : List ℕ} {from : ℕ} {t : Term} {n : ℕ} (h : Stepped s from t n) where
   pub step-small : SmallCount t
   step-small = subst SmallCount (sym (h .reads)) (term-small (h .text))
 
-  pub sum-next : (u w : ℕ) → termWeight t ≡ Thousandths w → plus (Thousandths u) (total (termsFrom s from)) ≡ plus (Thousandths (u + w)) (total (termsFrom s n))
-  unfolding total
+  pub sum-next : (u w : ℕ) → termWeight t ≡ Thousandths w → plus (Thousandths u) (totalWeight (termsFrom s from)) ≡ plus (Thousandths (u + w)) (totalWeight (termsFrom s n))
+  unfolding totalWeight
   sum-next u w e =
-      ap (λ (ts : List Term). plus (Thousandths u) (total ts)) (h .here)
-      ∙ ap (λ (v : Weight). plus (Thousandths u) (plus v (total (termsFrom s n)))) e
-      ∙ plus-assoc u w (total (termsFrom s n))
+      ap (λ (ts : List Term). plus (Thousandths u) (totalWeight ts)) (h .here)
+      ∙ ap (λ (v : Weight). plus (Thousandths u) (plus v (totalWeight (termsFrom s n)))) e
+      ∙ plus-assoc u w (totalWeight (termsFrom s n))
 
-  pub sum-none : (u : ℕ) → termWeight t ≡ NoWeight → plus (Thousandths u) (total (termsFrom s from)) ≡ NoWeight
-  unfolding total
+  pub sum-none : (u : ℕ) → termWeight t ≡ NoWeight → plus (Thousandths u) (totalWeight (termsFrom s from)) ≡ NoWeight
+  unfolding totalWeight
   sum-none u e =
-      ap (λ (ts : List Term). plus (Thousandths u) (total ts)) (h .here)
-      ∙ ap (λ (v : Weight). plus (Thousandths u) (plus v (total (termsFrom s n)))) e
+      ap (λ (ts : List Term). plus (Thousandths u) (totalWeight ts)) (h .here)
+      ∙ ap (λ (v : Weight). plus (Thousandths u) (plus v (totalWeight (termsFrom s n)))) e
 
-pub sum-end : {ts : List Term} (u : ℕ) → ts ≡ [] → plus (Thousandths u) (total ts) ≡ Thousandths u
-unfolding total
-sum-end u h = ap (λ (ts : List Term). plus (Thousandths u) (total ts)) h ∙ ap Thousandths (add-zero u)
+pub sum-end : {ts : List Term} (u : ℕ) → ts ≡ [] → plus (Thousandths u) (totalWeight ts) ≡ Thousandths u
+unfolding totalWeight
+sum-end u h = ap (λ (ts : List Term). plus (Thousandths u) (totalWeight ts)) h ∙ ap Thousandths (add-zero u)
 
 -- a formula that has a sum is recognised: its terms have weights
 weighed-term : (t : Term) (w : ℕ) → termWeight t ≡ Thousandths w → isRecognised t ≡ true
@@ -109,16 +109,16 @@ weighed-term (Well a b n) w e = weighed-symbol a b n w (weightOf a b) refl e
     weighed-symbol a b n w NoWeight f e = let z : _≡_ {A = ℕ} 0 1 = cc in absurd (omega arith)
 weighed-term Ill w e = let z : _≡_ {A = ℕ} 0 1 = cc in absurd (omega arith)
 
-weighed-by : (t : Term) (ts : List Term) (w : ℕ) (u v : Weight) → termWeight t ≡ u → total ts ≡ v → plus u v ≡ Thousandths w
-    → ((x : ℕ) → total ts ≡ Thousandths x → all isRecognised ts ≡ true) → (isRecognised t && all isRecognised ts) ≡ true
+weighed-by : (t : Term) (ts : List Term) (w : ℕ) (u v : Weight) → termWeight t ≡ u → totalWeight ts ≡ v → plus u v ≡ Thousandths w
+    → ((x : ℕ) → totalWeight ts ≡ Thousandths x → all isRecognised ts ≡ true) → (isRecognised t && all isRecognised ts) ≡ true
 weighed-by t ts w (Thousandths x) (Thousandths y) e f g rest = rw (weighed-term t x e) (rest y f)
 weighed-by t ts w (Thousandths x) NoWeight e f g rest = let z : _≡_ {A = ℕ} 0 1 = cc in absurd (omega arith)
 weighed-by t ts w NoWeight v e f g rest = let z : _≡_ {A = ℕ} 0 1 = cc in absurd (omega arith)
 
-pub weighed-terms : (ts : List Term) (w : ℕ) → total ts ≡ Thousandths w → all isRecognised ts ≡ true
-unfolding total all
+pub weighed-terms : (ts : List Term) (w : ℕ) → totalWeight ts ≡ Thousandths w → all isRecognised ts ≡ true
+unfolding totalWeight all
 weighed-terms [] w e = refl
-weighed-terms (t ∷ ts) w e = weighed-by t ts w (termWeight t) (total ts) refl refl e (weighed-terms ts)
+weighed-terms (t ∷ ts) w e = weighed-by t ts w (termWeight t) (totalWeight ts) refl refl e (weighed-terms ts)
 
 pub no-sum : (n : ℕ) → NoWeight ≡ Thousandths n → ⊥
 no-sum n e = let z : _≡_ {A = ℕ} 0 1 = cc in omega arith
@@ -126,4 +126,4 @@ no-sum n e = let z : _≡_ {A = ℕ} 0 1 = cc in omega arith
 pub summed-recognised : (s : List ℕ) (n : ℕ) → sumOf s ≡ Thousandths n → allRecognised s ≡ true
 unfolding sumOf allRecognised
 summed-recognised s n e =
-    weighed-terms (termsOf s) n (cond-first (leb (length s) mostSummed) (total (termsOf s)) NoWeight (Thousandths n) (no-sum n) e .1)
+    weighed-terms (termsOf s) n (cond-first (leb (length s) mostSummed) (totalWeight (termsOf s)) NoWeight (Thousandths n) (no-sum n) e .1)

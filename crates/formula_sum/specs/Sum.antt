@@ -34,13 +34,13 @@ termWeight (Well a b n) = times n (weightOf a b)
 termWeight Ill = NoWeight
 
 -- the weights of some terms together
-unfoldable pub total : List Term → Weight
-total [] = Thousandths 0
-total (t ∷ ts) = plus (termWeight t) (total ts)
+unfoldable pub totalWeight : List Term → Weight
+totalWeight [] = Thousandths 0
+totalWeight (t ∷ ts) = plus (termWeight t) (totalWeight ts)
 
 -- the sum of a text that is not too long; no line is
 unfoldable pub sumOf : List ℕ → Weight
-sumOf s = cond (leb (length s) mostSummed) (total (termsOf s)) NoWeight
+sumOf s = cond (leb (length s) mostSummed) (totalWeight (termsOf s)) NoWeight
 
 -- what the code's sum rests on: a count is at most 9999, so a term's weight at most 9999 times the largest
 abbrev pub SmallCount : Term → Type 0

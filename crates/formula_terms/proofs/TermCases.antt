@@ -9,7 +9,7 @@ use lib.Dec.{ltb}
 use lib.ListN.{length, getD, drop}
 use Rattle.text.specs.Run.{isCapital, isSmall, kindAt}
 use Rattle.text.proofs.Bools.{and-both}
-use Rattle.formula_terms.specs.Term.{countOf, counted, termOf}
+use Rattle.formula_terms.specs.Term.{countOf, withCount, termOf}
 use Rattle.formula_terms.specs.declared.term.Term.the-variants.{Ill}
 
 pub kind-within : (p : ℕ → Bool) (s : List ℕ) (at : ℕ) → kindAt p s at ≡ true → at < length s
@@ -26,10 +26,10 @@ module _ (t : List ℕ) where
   no-capital e = rw e
 
   module _ (capital : kindAt isCapital t 0 ≡ true) where
-    pub two-letters : kindAt isSmall t 1 ≡ true → termOf t ≡ counted (getD t 0 0) (getD t 1 0) (countOf (drop 2 t))
+    pub two-letters : kindAt isSmall t 1 ≡ true → termOf t ≡ withCount (getD t 0 0) (getD t 1 0) (countOf (drop 2 t))
     unfolding termOf
     two-letters e = rw (capital, e)
 
-    pub one-letter : kindAt isSmall t 1 ≡ false → termOf t ≡ counted (getD t 0 0) 32 (countOf (drop 1 t))
+    pub one-letter : kindAt isSmall t 1 ≡ false → termOf t ≡ withCount (getD t 0 0) 32 (countOf (drop 1 t))
     unfolding termOf
     one-letter e = rw (capital, e)

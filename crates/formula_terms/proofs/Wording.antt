@@ -13,7 +13,7 @@ use Rattle.text.proofs.Bools.{and-both}
 use Rattle.text.proofs.Runs.{run-all}
 use Rattle.number_decimal.specs.Digits.{valueFrom, valueOf}
 use Rattle.number_decimal.proofs.Digits.{first-digit}
-use Rattle.formula_terms.specs.Term.{mostCount, isCount, countOf, counted, termOf}
+use Rattle.formula_terms.specs.Term.{mostCount, isCount, countOf, withCount, termOf}
 use Rattle.formula_terms.specs.Terms.{attach, cut}
 use Rattle.formula_terms.specs.Grammar.{SymbolText, capital, capital-small, CountText, none, written, IsTerm, joined, spaceless}
 use Rattle.formula_terms.specs.declared.term.Count.{Count}
@@ -63,10 +63,10 @@ kind-not p s at e = ap (λ (x : Bool). ltb at (length s) && x) e ∙ and-false (
 from-parts : {symbol : List ℕ} {a b n : ℕ} (count : List ℕ) → SymbolText symbol a b → CountText count n → termOf (symbol ++ count) ≡ Well a b n
 from-parts count (capital a up) k =
     one-letter (a ∷ count) (kind-here isCapital (a ∷ count) 0 (omega arith) up) (kind-not isSmall (a ∷ count) 1 (count-not-small k))
-    ∙ ap (counted a 32) (count-of k)
+    ∙ ap (withCount a 32) (count-of k)
 from-parts count (capital-small a b up low) k =
     two-letters (a ∷ (b ∷ count)) (kind-here isCapital (a ∷ (b ∷ count)) 0 (omega arith) up) (kind-here isSmall (a ∷ (b ∷ count)) 1 (omega arith) low)
-    ∙ ap (counted a b) (count-of k)
+    ∙ ap (withCount a b) (count-of k)
 
 -- a text of the document's form is read as that term
 pub term-of : (t : List ℕ) (a b n : ℕ) → IsTerm t a b n → termOf t ≡ Well a b n
@@ -96,7 +96,7 @@ record Counted (x y a b n : ℕ) (c : Count) : Type 0 where
   second : y ≡ b
   count : c ≡ Times n
 
-counted-is : (x y a b n : ℕ) (c : Count) → counted x y c ≡ Well a b n → Counted x y a b n c
+counted-is : (x y a b n : ℕ) (c : Count) → withCount x y c ≡ Well a b n → Counted x y a b n c
 counted-is x y a b n (Times m) e = record { first = cc; second = cc; count = let q : m ≡ n = cc in ap Times q }
 counted-is x y a b n NoCount e = let z : _≡_ {A = ℕ} 0 1 = cc in absurd (omega arith)
 
@@ -104,7 +104,7 @@ not-term : (t : List ℕ) (a b n : ℕ) → termOf t ≡ Ill → termOf t ≡ We
 not-term t a b n i e = let z : _≡_ {A = ℕ} 0 1 = cc in omega arith
 
 -- a symbol of a capital alone, or of two letters
-one-is : (x : ℕ) (r : List ℕ) (a b n : ℕ) → isCapital x ≡ true → counted x 32 (countOf r) ≡ Well a b n → IsTerm (x ∷ r) a b n
+one-is : (x : ℕ) (r : List ℕ) (a b n : ℕ) → isCapital x ≡ true → withCount x 32 (countOf r) ≡ Well a b n → IsTerm (x ∷ r) a b n
 one-is x r a b n up e =
     let h = counted-is x 32 a b n (countOf r) e in
     record {
@@ -115,7 +115,7 @@ one-is x r a b n up e =
       is-count = count-is r n (h .count);
     }
 
-two-is : (x y : ℕ) (r : List ℕ) (a b n : ℕ) → isCapital x ≡ true → isSmall y ≡ true → counted x y (countOf r) ≡ Well a b n → IsTerm (x ∷ (y ∷ r)) a b n
+two-is : (x y : ℕ) (r : List ℕ) (a b n : ℕ) → isCapital x ≡ true → isSmall y ≡ true → withCount x y (countOf r) ≡ Well a b n → IsTerm (x ∷ (y ∷ r)) a b n
 two-is x y r a b n up low e =
     let h = counted-is x y a b n (countOf r) e in
     record {

@@ -25,13 +25,13 @@ unfoldable pub countOf : List ℕ → Count
 countOf ds = cond (eqb (length ds) 0) (Times 1) (cond (isCount ds) (Times (valueOf ds)) NoCount)
 
 -- the term of a symbol and what was read after it
-abbrev pub counted : ℕ → ℕ → Count → Term
-counted a b (Times n) = Well a b n
-counted a b NoCount = Ill
+abbrev pub withCount : ℕ → ℕ → Count → Term
+withCount a b (Times n) = Well a b n
+withCount a b NoCount = Ill
 
 -- "a capital, optionally one small letter, optionally a count"; after a single letter the symbol's second byte is a space, 32
 unfoldable pub termOf : List ℕ → Term
 termOf t =
     cond (kindAt isCapital t 0)
-    (cond (kindAt isSmall t 1) (counted (getD t 0 0) (getD t 1 0) (countOf (drop 2 t))) (counted (getD t 0 0) 32 (countOf (drop 1 t))))
+    (cond (kindAt isSmall t 1) (withCount (getD t 0 0) (getD t 1 0) (countOf (drop 2 t))) (withCount (getD t 0 0) 32 (countOf (drop 1 t))))
     Ill

@@ -1,7 +1,7 @@
 // One term of a formula: a symbol and a count.
 ghost use mathlib.Core.Path.{_≡_};
 ghost use Rattle.text.specs.Run.{between, kindAt};
-ghost use Rattle.formula_terms.specs.Term.{countOf, counted, termOf};
+ghost use Rattle.formula_terms.specs.Term.{countOf, withCount, termOf};
 use number_decimal::Whole;
 
 // What the text after a symbol counts: so many, or that it is no count.
@@ -54,7 +54,7 @@ pub fn read_count(s: &[u8]) -> Count
 
 // The term of a symbol and what was read after it.
 fn with_count(a: u8, b: u8, c: Count) -> Term
-    ensures { λ r. ⌜ r ≡ counted a b c ⌝ }
+    ensures { λ r. ⌜ r ≡ withCount a b c ⌝ }
 {
     match c {
         Count::Times(n) => Term::Well(a, b, n),

@@ -14,10 +14,10 @@ use Rattle.text.specs.Run.{hasAt}
 use Rattle.text.proofs.Bools.{not-holds}
 use Rattle.text.proofs.Runs.{has-within, has-byte, has-here}
 use Rattle.formula_moiety.specs.Grammar.{Part, Moiety, mostDeep}
-use Rattle.formula_moiety.specs.Reading.{Got, got, none, wordPart, closed, inBrackets, joined, goesOn, partOf, moietyOf, Whole, whole, unread, listed, further, enough, wholeOf}
+use Rattle.formula_moiety.specs.Reading.{Got, got, none, wordPart, closed, inBrackets, withPart, goesOn, partOf, moietyOf, Whole, whole, unread, listed, further, enough, wholeTextOf}
 use Rattle.formula_moiety.specs.Totals.{totalPart, total, totalAll}
 use Rattle.formula_totals.specs.Counters.{Added}
-use Rattle.formula_totals.specs.Left.{Left, CloseLeft, PartLeft, MoietyLeft, AllLeft, WholeLeft}
+use Rattle.formula_totals.specs.Left.{GotLeft, CloseLeft, PartLeft, MoietyLeft, AllLeft, WholeLeft}
 use Rattle.formula_totals.specs.declared.moieties.Taken.{Taken}
 use Rattle.formula_totals.specs.declared.moieties.Taken.the-variants.{Bytes, Nothing}
 
@@ -50,7 +50,7 @@ has-drop s n b = go (hasAt s n b) refl
 
 -- what was read of the text from i on was read of the text
 pub later : {A : Type 0} (amounts : A → ℕ → ℕ) (s before after : List ℕ) (i : ℕ) (r : Taken) → i ≤ length s → (g : Got A)
-    → Left amounts (drop i s) before after r g → Left amounts s before after (shift i r) g
+    → GotLeft amounts (drop i s) before after r g → GotLeft amounts s before after (shift i r) g
 later amounts s before after i r l (got x rest) h =
     record {
       n = i + h .n;
@@ -64,7 +64,7 @@ later amounts s before after i r l none h = ap (shift i) h
 
 -- a part
 module _ (s : List ℕ) (d : ℕ) (before : List ℕ) where
-  pub part-word : (after : List ℕ) (r : Taken) → hasAt s 0 40 ≡ false → Left totalPart s before after r (wordPart s) → PartLeft s d before after r
+  pub part-word : (after : List ℕ) (r : Taken) → hasAt s 0 40 ≡ false → GotLeft totalPart s before after r (wordPart s) → PartLeft s d before after r
   unfolding PartLeft partOf
   part-word after r h x zero l = absurd (omega arith)
   part-word after r h x (suc f) l = rw h x
@@ -84,7 +84,7 @@ module _ (s : List ℕ) (d : ℕ) (before : List ℕ) where
       part-inner after m zero l = absurd (omega arith)
       part-inner after m (suc f) l = rw (h, ne-eqb d 0 n) (go (moietyOf f (d - 1) (drop 1 s)) (m f (shorter f l)))
         where
-          go : (g : Got Moiety) → Left total (drop 1 s) zeros inner Nothing g → Left totalPart s before after Nothing (inBrackets g)
+          go : (g : Got Moiety) → GotLeft total (drop 1 s) zeros inner Nothing g → GotLeft totalPart s before after Nothing (inBrackets g)
           go (got x r) t = absurd (no-bytes (t .n) (t .is))
           go none t = refl
 
@@ -94,7 +94,7 @@ module _ (s : List ℕ) (d : ℕ) (before : List ℕ) where
       part-closes after i r z m c zero l = absurd (omega arith)
       part-closes after i r z m c (suc f) l = rw (h, ne-eqb d 0 n) (go (moietyOf f (d - 1) (drop 1 s)) (m f (shorter f l)))
         where
-          go : (g : Got Moiety) → Left total (drop 1 s) zeros inner (Bytes i) g → Left totalPart s before after (shift (1 + i) r) (inBrackets g)
+          go : (g : Got Moiety) → GotLeft total (drop 1 s) zeros inner (Bytes i) g → GotLeft totalPart s before after (shift (1 + i) r) (inBrackets g)
           go (got x rest) t =
               let e = same-bytes i (t .n) (t .is) in
               let u : 1 + i ≤ length s = omega (arith, t .within, length-drop 1 s, has-within s 0 40 h) in
@@ -110,7 +110,7 @@ module _ (s : List ℕ) (d : ℕ) (before after : List ℕ) where
   moiety-none last p zero l = absurd (omega arith)
   moiety-none last p (suc f) l = let u : 2 * length s < f = omega arith in go (partOf f d s) (p f u)
     where
-      go : (g : Got Part) → Left totalPart s before after Nothing g → Left total s before last Nothing (goesOn g (moietyOf f d))
+      go : (g : Got Part) → GotLeft totalPart s before after Nothing g → GotLeft total s before last Nothing (goesOn g (moietyOf f d))
       go (got x r) t = absurd (no-bytes (t .n) (t .is))
       go none t = refl
 
@@ -120,7 +120,7 @@ module _ (s : List ℕ) (d : ℕ) (before after : List ℕ) where
     moiety-one h zero l = absurd (omega arith)
     moiety-one h (suc f) l = let u : 2 * length s < f = omega arith in go (partOf f d s) (p f u)
       where
-        go : (g : Got Part) → Left totalPart s before after (Bytes n) g → Left total s before after (Bytes n) (goesOn g (moietyOf f d))
+        go : (g : Got Part) → GotLeft totalPart s before after (Bytes n) g → GotLeft total s before after (Bytes n) (goesOn g (moietyOf f d))
         go (got x r) t =
             let e = same-bytes n (t .n) (t .is) in
             let no : hasAt r 0 32 ≡ false = ap (λ (y : List ℕ). hasAt y 0 32) (t .follows) ∙ has-drop s (t .n) 32 ∙ ap (λ (j : ℕ). hasAt s j 32) (sym e) ∙ h in
@@ -135,7 +135,7 @@ module _ (s : List ℕ) (d : ℕ) (before after : List ℕ) where
         in-text : n + 1 ≤ length s
         in-text = let u = has-within s n 32 h in omega arith
 
-        add-up : (x : Part) → Added before after (totalPart x) → (g : Got Moiety) → Left total s after last (shift (n + 1) r) g → Left total s before last (shift (n + 1) r) (joined x g)
+        add-up : (x : Part) → Added before after (totalPart x) → (g : Got Moiety) → GotLeft total s after last (shift (n + 1) r) g → GotLeft total s before last (shift (n + 1) r) (withPart x g)
         add-up x a (got m rest) t =
             record {
               n = t .n;
@@ -147,7 +147,7 @@ module _ (s : List ℕ) (d : ℕ) (before after : List ℕ) where
             }
         add-up x a none t = t
 
-        go : (g : Got Part) → Left totalPart s before after (Bytes n) g → Left total s before last (shift (n + 1) r) (goesOn g (moietyOf f d))
+        go : (g : Got Part) → GotLeft totalPart s before after (Bytes n) g → GotLeft total s before last (shift (n + 1) r) (goesOn g (moietyOf f d))
         go (got x rest) t =
             let e = same-bytes n (t .n) (t .is) in
             let at : rest ≡ drop n s = t .follows ∙ ap (λ (j : ℕ). drop j s) (sym e) in
@@ -160,31 +160,31 @@ module _ (s : List ℕ) (d : ℕ) (before after : List ℕ) where
 -- a whole text
 module _ (s before after : List ℕ) where
   pub whole-none : MoietyLeft s mostDeep before after Nothing → WholeLeft s before after false
-  unfolding MoietyLeft WholeLeft wholeOf
+  unfolding MoietyLeft WholeLeft wholeTextOf
   whole-none p zero l = absurd (omega arith)
   whole-none p (suc f) l = go (moietyOf (enough s) mostDeep s) (p (enough s) (omega arith))
     where
-      go : (g : Got Moiety) → Left total s before after Nothing g → AllLeft before after false (further g (wholeOf f))
+      go : (g : Got Moiety) → GotLeft total s before after Nothing g → AllLeft before after false (further g (wholeTextOf f))
       go (got x r) t = absurd (no-bytes (t .n) (t .is))
       go none t = refl
 
   module _ (n : ℕ) (p : MoietyLeft s mostDeep before after (Bytes n)) where
     -- the case that the moiety was read, by the text that follows it
-    whole-by : (last : List ℕ) (r : Bool) (f : ℕ) → ((m : Moiety) → n ≤ length s → Added before after (total m) → AllLeft before last r (further (got m (drop n s)) (wholeOf f)))
-        → AllLeft before last r (further (moietyOf (enough s) mostDeep s) (wholeOf f))
+    whole-by : (last : List ℕ) (r : Bool) (f : ℕ) → ((m : Moiety) → n ≤ length s → Added before after (total m) → AllLeft before last r (further (got m (drop n s)) (wholeTextOf f)))
+        → AllLeft before last r (further (moietyOf (enough s) mostDeep s) (wholeTextOf f))
     unfolding MoietyLeft
     whole-by last r f h = go (moietyOf (enough s) mostDeep s) (p (enough s) (omega arith))
       where
-        go : (g : Got Moiety) → Left total s before after (Bytes n) g → AllLeft before last r (further g (wholeOf f))
+        go : (g : Got Moiety) → GotLeft total s before after (Bytes n) g → AllLeft before last r (further g (wholeTextOf f))
         go (got x rest) t =
             let e = same-bytes n (t .n) (t .is) in
             let at : rest ≡ drop n s = t .follows ∙ ap (λ (j : ℕ). drop j s) (sym e) in
             let l : n ≤ length s = omega (arith, t .within) in
-            subst (λ (y : List ℕ). AllLeft before last r (further (got x y) (wholeOf f))) (sym at) (h x l (t .adds))
+            subst (λ (y : List ℕ). AllLeft before last r (further (got x y) (wholeTextOf f))) (sym at) (h x l (t .adds))
         go none t = absurd (no-bytes n (sym t))
 
     pub whole-end : n ≡ length s → WholeLeft s before after true
-    unfolding WholeLeft wholeOf totalAll
+    unfolding WholeLeft wholeTextOf totalAll
     whole-end e zero l = absurd (omega arith)
     whole-end e (suc f) l =
         whole-by after true f (λ m w a. let z : length (drop n s) ≡ 0 = rw length-drop (omega arith) in rw (eq-eqb (length (drop n s)) 0 z) (refl, a))
@@ -194,7 +194,7 @@ module _ (s before after : List ℕ) where
       left w = ne-eqb (length (drop n s)) 0 (λ z. ne (omega (arith, length-drop n s)))
 
       pub whole-no-comma : hasAt s n 44 ≡ false → WholeLeft s before after false
-      unfolding WholeLeft wholeOf
+      unfolding WholeLeft wholeTextOf
       whole-no-comma h zero l = absurd (omega arith)
       whole-no-comma h (suc f) l = whole-by after false f (λ m w a. rw (left w, has-drop s n 44, h))
 
@@ -203,18 +203,18 @@ module _ (s before after : List ℕ) where
 
       module _ (h : hasAt s n 44 ≡ true) where
         pub whole-no-space : hasAt s (n + 1) 32 ≡ false → WholeLeft s before after false
-        unfolding WholeLeft wholeOf
+        unfolding WholeLeft wholeTextOf
         whole-no-space k zero l = absurd (omega arith)
         whole-no-space k (suc f) l = whole-by after false f (λ m w a. rw (left w, has-drop s n 44, h, has-second, k))
 
         pub whole-more : (last : List ℕ) (r : Bool) → hasAt s (n + 1) 32 ≡ true → WholeLeft (drop (n + 2) s) after last r → WholeLeft s before last r
-        unfolding WholeLeft wholeOf totalAll
+        unfolding WholeLeft wholeTextOf totalAll
         whole-more last r k rest zero l = absurd (omega arith)
         whole-more last r k rest (suc f) l =
             whole-by last r f (λ m w a.
             let in-text = has-within s (n + 1) 32 k in
             let v : length (drop (n + 2) s) < f = omega (arith, length-drop (n + 2) s) in
-            rw (left w, has-drop s n 44, h, has-second, k, drop-drop 2 n s) (add-up m a (wholeOf f (drop (n + 2) s)) (rest f v)))
+            rw (left w, has-drop s n 44, h, has-second, k, drop-drop 2 n s) (add-up m a (wholeTextOf f (drop (n + 2) s)) (rest f v)))
           where
             add-up : (m : Moiety) → Added before after (total m) → (w : Whole) → AllLeft after last r w → AllLeft before last r (listed m w)
             add-up m a (whole x xs) t = (t .0, λ k. t .1 k ∙ ap (λ (y : ℕ). y + totalAll x xs k) (a k) ∙ add-assoc (getD before k 0) (total m k) (totalAll x xs k))

@@ -15,7 +15,7 @@ use Rattle.formula_moiety.specs.Amounts.{formulaTotal}
 use Rattle.formula_moiety.specs.Compare.{everyBelow, sameTotal}
 use Rattle.formula_moiety.proofs.Every.{every-same}
 use Rattle.formula_moiety.specs.Grammar.{mostDeep}
-use Rattle.formula_moiety.specs.Reading.{Whole, whole, unread, wholeOf, moietiesOf}
+use Rattle.formula_moiety.specs.Reading.{Whole, whole, unread, wholeTextOf, moietiesOf}
 use Rattle.formula_moiety.specs.Totals.{totalAll, most}
 use Rattle.formula_totals.specs.Counters.{Added}
 use Rattle.formula_totals.specs.Left.{AllLeft, WholeLeft, Room}
@@ -41,7 +41,7 @@ counted have total a k = a k ∙ ap (λ (x : ℕ). x + total k) (zero-at element
 module _ (m have : List ℕ) where
   against-unread : (s : List ℕ) → WholeLeft m zeros have false → against s (moietiesOf m) ≡ Unread
   unfolding WholeLeft moietiesOf
-  against-unread s w = go (wholeOf (length m + 1) m) (w (length m + 1) (omega arith))
+  against-unread s w = go (wholeTextOf (length m + 1) m) (w (length m + 1) (omega arith))
     where
       go : (x : Whole) → AllLeft zeros have false x → against s x ≡ Unread
       go (whole n ns) t = absurd (false≢true (t .0))
@@ -49,7 +49,7 @@ module _ (m have : List ℕ) where
 
   against-counts : (s : List ℕ) → WholeLeft m zeros have true → against s (moietiesOf m) ≡ cond (everyBelow elementCount (λ (k : ℕ). eqb (getD have k 0) (formulaTotal s k))) Same Differs
   unfolding WholeLeft moietiesOf
-  against-counts s w = go (wholeOf (length m + 1) m) (w (length m + 1) (omega arith))
+  against-counts s w = go (wholeTextOf (length m + 1) m) (w (length m + 1) (omega arith))
     where
       go : (x : Whole) → AllLeft zeros have true x → against s x ≡ cond (everyBelow elementCount (λ (k : ℕ). eqb (getD have k 0) (formulaTotal s k))) Same Differs
       go (whole n ns) t =

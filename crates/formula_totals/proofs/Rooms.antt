@@ -13,7 +13,7 @@ use Rattle.formula_moiety.specs.Totals.{totalPart, total, most}
 use Rattle.formula_moiety.proofs.Sound.{Sound, part-sound, moiety-sound}
 use Rattle.formula_moiety.proofs.Bounds.{most-up, part-most, moiety-most}
 use Rattle.formula_totals.specs.Counters.{limit, AllBelow}
-use Rattle.formula_totals.specs.Left.{Left, PartLeft, MoietyLeft, Room}
+use Rattle.formula_totals.specs.Left.{GotLeft, PartLeft, MoietyLeft, Room}
 use Rattle.formula_totals.specs.declared.moieties.Taken.the-variants.{Bytes}
 use Rattle.formula_totals.proofs.Counters.{zero-at}
 use Rattle.formula_totals.proofs.Cases.{no-bytes, same-bytes}
@@ -26,7 +26,7 @@ read-length s text rest n e f h =
     omega arith
 
 module _ {A : Type 0} (Is : A → Type 0) (text : A → List ℕ) (amounts : A → ℕ → ℕ) (w : ℕ) (small : (x : A) → Is x → (k : ℕ) → amounts x k ≤ length (text x) * w) where
-  grown-by : (s before after : List ℕ) (n : ℕ) (g : Got A) → Sound Is text s g → Left amounts s before after (Bytes n) g → (n ≤ length s) × ((k : ℕ) → getD after k 0 ≤ getD before k 0 + n * w)
+  grown-by : (s before after : List ℕ) (n : ℕ) (g : Got A) → Sound Is text s g → GotLeft amounts s before after (Bytes n) g → (n ≤ length s) × ((k : ℕ) → getD after k 0 ≤ getD before k 0 + n * w)
   grown-by s before after n (got x rest) is t =
       let e = same-bytes n (t .n) (t .is) in
       let l : length (text x) ≡ n = read-length s (text x) rest (t .n) (is .1) (t .follows) (t .within) ∙ sym e in

@@ -10,7 +10,7 @@ use Rattle.formula_terms.specs.Term.{isCount, countOf, termOf}
 use Rattle.formula_terms.specs.Terms.{cut}
 use Rattle.formula_elements.specs.Elements.{sameSymbol, placeOf, symbols, elementOf, isElement}
 use Rattle.formula_sum.specs.Recognised.{allRecognised}
-use Rattle.formula_moiety.specs.Reading.{inWord, wordPart, closed, partOf, wholeOf, moietiesOf}
+use Rattle.formula_moiety.specs.Reading.{inWord, wordPart, closed, partOf, wholeTextOf, moietiesOf}
 use Rattle.formula_moiety.specs.Totals.{totalPart, totalAll}
 use Rattle.formula_moiety.specs.Amounts.{amounts}
 use Rattle.formula_moiety.specs.Compare.{everyBelow}
@@ -45,5 +45,5 @@ cases =
     case "C H4" "C4H" Unread ∷ []
 
 pub vectors-hold : map (λ (c : Case). comparedOf (bytes (c .moiety)) (bytes (c .formula))) cases ≡ map (λ (c : Case). c .finds) cases
-unfolding cases comparedOf moietiesOf wholeOf partOf wordPart closed inWord runOf all between other hasAt kindAt valueFrom isCount countOf termOf cut sameSymbol placeOf symbols elementOf isElement allRecognised totalPart totalAll amounts everyBelow
+unfolding cases comparedOf moietiesOf wholeTextOf partOf wordPart closed inWord runOf all between other hasAt kindAt valueFrom isCount countOf termOf cut sameSymbol placeOf symbols elementOf isElement allRecognised totalPart totalAll amounts everyBelow
 vectors-hold = refl

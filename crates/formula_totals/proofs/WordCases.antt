@@ -15,17 +15,17 @@ use Rattle.formula_terms.specs.declared.term.Count.the-variants.{Times}
 use Rattle.formula_sum.specs.Recognised.{isRecognised}
 use Rattle.formula_totals.specs.Counters.{Added, TermLeft}
 use Rattle.formula_moiety.specs.Reading.{isTimes, inWord, wordPart, closed}
-use Rattle.formula_moiety.specs.Totals.{times, totalPart, total}
-use Rattle.formula_totals.specs.Left.{Left, CloseLeft}
+use Rattle.formula_moiety.specs.Totals.{countNumber, totalPart, total}
+use Rattle.formula_totals.specs.Left.{GotLeft, CloseLeft}
 use Rattle.formula_totals.specs.declared.moieties.Taken.the-variants.{Bytes, Nothing}
 
 -- a term
 module _ (s before after : List ℕ) (n : ℕ) (e : n ≡ runOf inWord s) where
-  pub word-fails : TermLeft (termOf (take n s)) before after false → Left totalPart s before after Nothing (wordPart s)
+  pub word-fails : TermLeft (termOf (take n s)) before after false → GotLeft totalPart s before after Nothing (wordPart s)
   unfolding wordPart
   word-fails h = rw (← e, h)
 
-  pub word-takes : n ≤ length s → TermLeft (termOf (take n s)) before after true → Left totalPart s before after (Bytes n) (wordPart s)
+  pub word-takes : n ≤ length s → TermLeft (termOf (take n s)) before after true → GotLeft totalPart s before after (Bytes n) (wordPart s)
   unfolding wordPart totalPart termOf kindAt
   word-takes l h =
       rw (← e, h .0) (record { n = n; is = refl; some = some n (h .0); within = l; follows = refl; adds = h .1 })
@@ -58,5 +58,5 @@ module _ (s inner before after : List ℕ) where
           some = omega arith;
           within = omega (arith, length-drop 1 s);
           follows = drop-drop n 1 s;
-          adds = λ k. a k ∙ ap (λ (x : ℕ). getD before k 0 + c * x) (t k) ∙ ap (λ (x : Count). getD before k 0 + times x * total m k) (sym w);
+          adds = λ k. a k ∙ ap (λ (x : ℕ). getD before k 0 + c * x) (t k) ∙ ap (λ (x : Count). getD before k 0 + countNumber x * total m k) (sym w);
         })

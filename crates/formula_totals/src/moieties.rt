@@ -3,7 +3,7 @@ ghost use Rattle.formula_moiety.specs.Grammar.{mostDeep};
 ghost use Rattle.formula_moiety.specs.Reading.{wordPart};
 ghost use Rattle.formula_moiety.specs.Totals.{totalPart};
 ghost use Rattle.formula_totals.specs.Counters.{AllBelow};
-ghost use Rattle.formula_totals.specs.Left.{Left, CloseLeft, PartLeft, MoietyLeft, WholeLeft, Room};
+ghost use Rattle.formula_totals.specs.Left.{GotLeft, CloseLeft, PartLeft, MoietyLeft, WholeLeft, Room};
 use crate::counts::add_term;
 use crate::counts::add_times;
 use formula_elements::ELEMENT_COUNT;
@@ -21,7 +21,7 @@ pub enum Taken {
 // The term that s begins with, which is added to the counters.
 fn read_word(s: &[u8], counts: &mut [u64]) -> Taken
     requires { ⌜ AllBelow (now counts) ⌝ }
-    ensures { λ r. ⌜ Left totalPart (now (s .entry)) (now (counts .entry)) (now (counts .exit)) r (wordPart (now (s .entry))) ⌝ }
+    ensures { λ r. ⌜ GotLeft totalPart (now (s .entry)) (now (counts .entry)) (now (counts .exit)) r (wordPart (now (s .entry))) ⌝ }
 {
     let n = formula_words::word_run(s);
     if !add_term(formula_terms::term::read_term(&s[..n]), counts) {

@@ -3,7 +3,7 @@ ghost use mathlib.Core.Path.{_≡_};
 ghost use Prim.Native.Nat.{_≤_};
 ghost use lib.ListN.{length};
 ghost use Rattle.text.specs.Run.{runOf};
-ghost use Rattle.formula_moiety.specs.Reading.{inWord, timesOf};
+ghost use Rattle.formula_moiety.specs.Reading.{inWord, bracketCount};
 use formula_terms::term::Count;
 
 // The largest count after a bracket.
@@ -32,7 +32,7 @@ pub fn word_run(s: &[u8]) -> usize
 
 // The count after a bracket that s is; no text means 1.
 pub fn read_times(s: &[u8]) -> Count
-    ensures { λ r. ⌜ r ≡ timesOf (now (s .entry)) ⌝ }
+    ensures { λ r. ⌜ r ≡ bracketCount (now (s .entry)) ⌝ }
 {
     let Count::Times(n) = formula_terms::term::read_count(s) else {
         return Count::NoCount;

@@ -1,6 +1,6 @@
 // The check of a proposed count of hydrogen (document 02, No. 13): it writes the formula with that count and asks the rows.
 ghost use mathlib.Core.Path.{_≡_};
-ghost use Rattle.hydrogen_right.specs.Stages.{passes, isRight};
+ghost use Rattle.hydrogen_right.specs.Stages.{rowsPass, isRight};
 ghost use Rattle.hydrogen_check.specs.Check.{checkOf};
 use hydrogen_answers::Proposed;
 
@@ -8,8 +8,8 @@ use hydrogen_answers::Proposed;
 const MOST_HYDROGENS: u64 = 9999;
 
 // Whether rows 1, 2 and 4 of a formula's value are at level 0.
-fn passes(value: &[u8], weight: &[u8]) -> bool
-    ensures { λ r. ⌜ r ≡ passes (now (value .entry)) (now (weight .entry)) ⌝ }
+fn rows_pass(value: &[u8], weight: &[u8]) -> bool
+    ensures { λ r. ⌜ r ≡ rowsPass (now (value .entry)) (now (weight .entry)) ⌝ }
 {
     let first = rows_formula::recognised_row(value);
     if 0 < first.level {
@@ -39,7 +39,7 @@ pub fn is_right(formula: &[u8], weight: &[u8], n: u64) -> bool
         return false;
     }
     let bytes = typed.bytes;
-    passes(&bytes[0..length], weight)
+    rows_pass(&bytes[0..length], weight)
 }
 
 // The check: the count, if it is right.

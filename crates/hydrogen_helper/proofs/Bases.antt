@@ -21,9 +21,9 @@ use Rattle.formula_terms.specs.Term.{termOf}
 use Rattle.formula_terms.specs.Terms.{cut, termsOf}
 use Rattle.formula_terms.specs.Grammar.{joined}
 use Rattle.formula_sum.specs.Recognised.{allRecognised}
-use Rattle.formula_sum.specs.Sum.{total, sumOf}
+use Rattle.formula_sum.specs.Sum.{totalWeight, sumOf}
 use Rattle.formula_order.specs.Order.{inOrder}
-use Rattle.hydrogen_text.specs.Hydrogens.{mostBytes, otherWords, typed}
+use Rattle.hydrogen_text.specs.Hydrogens.{mostTextBytes, otherWords, inQuotes}
 use Rattle.hydrogen_text.specs.NewText.{withHydrogens, newWords, newText}
 use Rattle.hydrogen_text.proofs.Words.{some-words}
 use Rattle.hydrogen_text.proofs.Rows.{new-rows}
@@ -50,23 +50,23 @@ plain = refl
 
 -- the empty text has no sum
 empty-sum : sumOf [] ≡ NoWeight
-unfolding sumOf total cut termOf kindAt
+unfolding sumOf totalWeight cut termOf kindAt
 empty-sum = refl
 
-module _ (s : List ℕ) (short : length (newText 0 s) ≤ mostBytes) where
-  typed-short : typedWith 0 s ≡ typed (newText 0 s)
+module _ (s : List ℕ) (short : length (newText 0 s) ≤ mostTextBytes) where
+  typed-short : typedWith 0 s ≡ inQuotes (newText 0 s)
   unfolding typedWith
-  typed-short = rw (le-leb (length (newText 0 s)) mostBytes short)
+  typed-short = rw (le-leb (length (newText 0 s)) mostTextBytes short)
 
   -- with no other terms there is nothing
   no-others : otherWords (cut s) ≡ [] → otherWeight s ≡ 0
   unfolding otherWeight newText withHydrogens joined
   no-others e =
       let empty : newText 0 s ≡ [] = ap joined e in
-      ap (λ (t : List ℕ). weightOr (sumOf (textOf t))) (typed-short ∙ ap typed empty) ∙ ap (λ (t : List ℕ). weightOr (sumOf t)) (typed-text [] plain) ∙ ap weightOr empty-sum
+      ap (λ (t : List ℕ). weightOr (sumOf (textOf t))) (typed-short ∙ ap inQuotes empty) ∙ ap (λ (t : List ℕ). weightOr (sumOf t)) (typed-text [] plain) ∙ ap weightOr empty-sum
 
   -- with others it is the sum of the text without hydrogen
-  some-others : (b : ℕ) → allRecognised s ≡ true → inOrder s ≡ true → total (map termOf (otherWords (cut s))) ≡ Thousandths b → (newWords 0 s ≡ [] → ⊥) → otherWeight s ≡ b
+  some-others : (b : ℕ) → allRecognised s ≡ true → inOrder s ≡ true → totalWeight (map termOf (otherWords (cut s))) ≡ Thousandths b → (newWords 0 s ≡ [] → ⊥) → otherWeight s ≡ b
   unfolding otherWeight
   some-others b known order sum left =
       let rows = new-rows s b 0 (omega arith) left known order sum in
@@ -78,7 +78,7 @@ module _ (s : List ℕ) (short : length (newText 0 s) ≤ mostBytes) where
 
 -- the sum of the other terms of the start
 pub base-is : (f w : List ℕ) → Start f w → Base (textOf f) (otherWeight (textOf f))
-unfolding withHydrogens total
+unfolding withHydrogens totalWeight
 base-is f w start short =
     let k = start-sum f w start in
     k .is ∙ ap Thousandths (go k (otherWords (cut (textOf f))) refl)
@@ -87,5 +87,5 @@ base-is f w start short =
     nothing b e = cc
 
     go : (k : Summed (otherWords (cut (textOf f)))) (ws : List (List ℕ)) → otherWords (cut (textOf f)) ≡ ws → k .sum ≡ otherWeight (textOf f)
-    go k [] e = nothing (k .sum) (sym (ap (λ (ws : List (List ℕ)). total (map termOf ws)) e) ∙ k .is) ∙ sym (no-others (textOf f) short e)
+    go k [] e = nothing (k .sum) (sym (ap (λ (ws : List (List ℕ)). totalWeight (map termOf ws)) e) ∙ k .is) ∙ sym (no-others (textOf f) short e)
     go k (v ∷ vs) e = sym (some-others (textOf f) short (k .sum) (start-known f w start) (start-order f w start) (k .is) (λ q. some-words (sym e ∙ q)))

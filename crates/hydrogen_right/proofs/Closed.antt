@@ -19,9 +19,9 @@ use Rattle.formula_elements.specs.declared.Weight.{Weight}
 use Rattle.formula_elements.specs.declared.Weight.the-variants.{Thousandths, NoWeight}
 use Rattle.formula_terms.specs.Term.{termOf}
 use Rattle.formula_terms.specs.Terms.{cut, termsOf}
-use Rattle.formula_sum.specs.Sum.{mostSummed, total, sumOf}
+use Rattle.formula_sum.specs.Sum.{mostSummed, totalWeight, sumOf}
 use Rattle.formula_symbols.specs.Symbols.{hasCarbon}
-use Rattle.hydrogen_text.specs.Hydrogens.{mostHydrogens, mostBytes, otherWords, typed}
+use Rattle.hydrogen_text.specs.Hydrogens.{mostHydrogens, mostTextBytes, otherWords, inQuotes}
 use Rattle.hydrogen_text.specs.NewText.{withHydrogens, newWords, newText}
 use Rattle.hydrogen_text.proofs.Words.{some-words}
 use Rattle.hydrogen_text.proofs.Rows.{NewRows, new-rows}
@@ -40,7 +40,7 @@ pub record Smallest (f w : List ℕ) (h : ℕ) : Type 0 where
 
 -- b is the sum of the other terms, if their text is not too long
 abbrev pub Base : List ℕ → ℕ → Type 0
-Base s b = length (newText 0 s) ≤ mostBytes → total (map termOf (otherWords (cut s))) ≡ Thousandths b
+Base s b = length (newText 0 s) ≤ mostTextBytes → totalWeight (map termOf (otherWords (cut s))) ≡ Thousandths b
 
 -- g is the given weight, if that is a number and not below 0
 abbrev pub Given : List ℕ → ℕ → Type 0
@@ -59,7 +59,7 @@ two-ways m n = go (leb m n) refl
     go true e = inl (leb-true m n e)
     go false e = inr (leb-false m n e)
 
-pub short-sum : (t : List ℕ) (x : ℕ) → length t ≤ mostBytes → total (termsOf t) ≡ Thousandths x → sumOf t ≡ Thousandths x
+pub short-sum : (t : List ℕ) (x : ℕ) → length t ≤ mostTextBytes → totalWeight (termsOf t) ≡ Thousandths x → sumOf t ≡ Thousandths x
 unfolding sumOf
 short-sum t x l e = rw (le-leb (length t) mostSummed (omega arith), e)
 
@@ -70,11 +70,11 @@ module _ (f w : List ℕ) (start : Start f w) (b g : ℕ) (base : Base (textOf f
   -- what is known of a right count
   record Facts (n : ℕ) : Type 0 where
     count : n ≤ mostHydrogens
-    short : length (newText n s) ≤ mostBytes
+    short : length (newText n s) ≤ mostTextBytes
     left : newWords n s ≡ [] → ⊥
     read : readingOf w ≡ Number (pos g)
     there : Weighs (newText n s) w
-    sum : total (map termOf (otherWords (cut s))) ≡ Thousandths b
+    sum : totalWeight (map termOf (otherWords (cut s))) ≡ Thousandths b
     low : 99000 * (b + 1008 * n) ≤ 100 * g
     high : 100 * g ≤ 101000 * (b + 1008 * n)
 
@@ -102,7 +102,7 @@ module _ (f w : List ℕ) (start : Start f w) (b g : ℕ) (base : Base (textOf f
   module _ (h : ℕ) (below : (j : ℕ) → j < h → 101000 * (b + 1008 * j) < 100 * g) (reach : 100 * g ≤ 101000 * (b + 1008 * h)) where
     -- with no other terms and a count of 0 the weight would be 0
     left-over : (j : ℕ) → h < j → Facts j → newWords h s ≡ [] → ⊥
-    unfolding withHydrogens total
+    unfolding withHydrogens totalWeight
     left-over j l k e = go (eqb h 0) refl
       where
         go : (x : Bool) → eqb h 0 ≡ x → ⊥
@@ -110,13 +110,13 @@ module _ (f w : List ℕ) (start : Start f w) (b g : ℕ) (base : Base (textOf f
         go true q =
             let z = eqb-true h 0 q in
             let none : otherWords (cut s) ≡ [] = sym (rw q) ∙ e in
-            let nothing = sum-same 0 b (sym (ap (λ (ws : List (List ℕ)). total (map termOf ws)) none) ∙ k .sum) in
+            let nothing = sum-same 0 b (sym (ap (λ (ws : List (List ℕ)). totalWeight (map termOf ws)) none) ∙ k .sum) in
             omega (arith, reach, k .low)
 
     from : (j : ℕ) → h < j → Facts j → isRight f w h ≡ true
     from j l k =
         let left = left-over j l k in
-        let short : length (newText h s) ≤ mostBytes = omega (arith, longer h j s (omega arith), k .short) in
+        let short : length (newText h s) ≤ mostTextBytes = omega (arith, longer h j s (omega arith), k .short) in
         let count : h ≤ mostHydrogens = omega (arith, k .count) in
         let rows = new-rows s b h count left (start-known f w start) (start-order f w start) (k .sum) in
         let plain = known-plain (newText h s) (rows .row-1) in

@@ -18,7 +18,7 @@ use Rattle.formula_terms.specs.Terms.{cut, termsOf}
 use Rattle.formula_terms.specs.declared.term.Term.{Term}
 use Rattle.formula_terms.specs.declared.term.Term.the-variants.{Well, Ill}
 use Rattle.formula_sum.specs.Recognised.{allRecognised}
-use Rattle.formula_sum.specs.Sum.{times, plus, termWeight, total}
+use Rattle.formula_sum.specs.Sum.{times, plus, termWeight, totalWeight}
 use Rattle.formula_sum.proofs.Sums.{weighed-terms}
 use Rattle.formula_order.specs.Order.{inOrder}
 use Rattle.rows.specs.Rows.{rowOf, noAlert, missing}
@@ -59,7 +59,7 @@ module _ (f w : List ℕ) (start : Start f w) where
 -- terms whose symbols all have weights have a sum
 pub record Summed (ws : List (List ℕ)) : Type 0 where
   pub sum : ℕ
-  pub is : total (map termOf ws) ≡ Thousandths sum
+  pub is : totalWeight (map termOf ws) ≡ Thousandths sum
 
 record Weighed (v : Weight) : Type 0 where
   much : ℕ
@@ -74,13 +74,13 @@ term-weighed (Well a b n) e = let h = symbol-weighed (weightOf a b) e in record 
 term-weighed Ill e = absurd (false≢true e)
 
 pub weighed-sum : (ws : List (List ℕ)) → all hasWeight (map termOf ws) ≡ true → Summed ws
-unfolding all total
+unfolding all totalWeight
 weighed-sum [] e = record { sum = 0; is = refl }
 weighed-sum (w ∷ ws) e =
     let k = and-both (hasWeight (termOf w)) (all hasWeight (map termOf ws)) e in
     let a = term-weighed (termOf w) (k .0) in
     let b = weighed-sum ws (k .1) in
-    record { sum = a .much + b .sum; is = ap (λ (v : Weight). plus v (total (map termOf ws))) (a .is) ∙ ap (plus (Thousandths (a .much))) (b .is) }
+    record { sum = a .much + b .sum; is = ap (λ (v : Weight). plus v (totalWeight (map termOf ws))) (a .is) ∙ ap (plus (Thousandths (a .much))) (b .is) }
 
 -- the other terms of the start
 pub start-sum : (f w : List ℕ) → Start f w → Summed (otherWords (cut (textOf f)))

@@ -29,7 +29,7 @@ use Rattle.formula_sum.specs.Recognised.{isRecognised, allRecognised}
 use Rattle.formula_order.specs.Order.{inOrder}
 use Rattle.rows.specs.Rows.{rowOf, noAlert, missing}
 use Rattle.rows_formula.specs.FormulaRows.{row1, row2}
-use Rattle.hydrogen_text.specs.Hydrogens.{typed}
+use Rattle.hydrogen_text.specs.Hydrogens.{inQuotes}
 
 -- a text without the mark
 abbrev pub Plain : List ℕ → Type 0
@@ -41,36 +41,36 @@ zero-not k e = omega arith
 
 module _ (t : List ℕ) where
   -- a text in quotes is not missing
-  pub typed-there : missing (typed t) ≡ false
+  pub typed-there : missing (inQuotes t) ≡ false
   unfolding missing isUnassigned
   typed-there =
-      let a : length (typed t) ≡ 0 → ⊥ = λ e. omega (arith, length-append t (39 ∷ [])) in
-      let b : length (typed t) ≡ 1 → ⊥ = λ e. omega (arith, length-append t (39 ∷ [])) in
-      rw (ne-eqb (length (typed t)) 0 a, ne-eqb (length (typed t)) 1 b)
+      let a : length (inQuotes t) ≡ 0 → ⊥ = λ e. omega (arith, length-append t (39 ∷ [])) in
+      let b : length (inQuotes t) ≡ 1 → ⊥ = λ e. omega (arith, length-append t (39 ∷ [])) in
+      rw (ne-eqb (length (inQuotes t)) 0 a, ne-eqb (length (inQuotes t)) 1 b)
 
   -- its text without quotes
-  pub typed-text : Plain t → textOf (typed t) ≡ t
-  typed-text e = text-inside (typed t) t (record { mark = 39; is-mark = Mark.single; text = refl; without = e })
+  pub typed-text : Plain t → textOf (inQuotes t) ≡ t
+  typed-text e = text-inside (inQuotes t) t (record { mark = 39; is-mark = Mark.single; text = refl; without = e })
 
-  inner-is : inner (typed t) ≡ t
-  inner-is = let e : length (typed t) - 2 ≡ length t = omega (arith, length-append t (39 ∷ [])) in rw e (take-append-seam t (39 ∷ []))
+  inner-is : inner (inQuotes t) ≡ t
+  inner-is = let e : length (inQuotes t) - 2 ≡ length t = omega (arith, length-append t (39 ∷ [])) in rw e (take-append-seam t (39 ∷ []))
 
   -- with a mark inside it is not quoted
-  not-by-39 : all (other 39) t ≡ false → isQuotedBy 39 (typed t) ≡ true → ⊥
+  not-by-39 : all (other 39) t ≡ false → isQuotedBy 39 (inQuotes t) ≡ true → ⊥
   unfolding isQuotedBy
   not-by-39 e h =
-      let a = and-both (leb 2 (length (typed t))) _ h in
-      let b = and-both (eqb (getD (typed t) 0 0) 39) _ (a .1) in
-      let c = and-both (eqb (getD (typed t) (length (typed t) - 1) 0) 39) _ (b .1) in
+      let a = and-both (leb 2 (length (inQuotes t))) _ h in
+      let b = and-both (eqb (getD (inQuotes t) 0 0) 39) _ (a .1) in
+      let c = and-both (eqb (getD (inQuotes t) (length (inQuotes t) - 1) 0) 39) _ (b .1) in
       false≢true (sym e ∙ sym (ap (all (other 39)) inner-is) ∙ c .1)
 
-  not-by-34 : isQuotedBy 34 (typed t) ≡ true → ⊥
+  not-by-34 : isQuotedBy 34 (inQuotes t) ≡ true → ⊥
   unfolding isQuotedBy
-  not-by-34 h = let a = and-both (leb 2 (length (typed t))) _ h in false≢true (a .1)
+  not-by-34 h = let a = and-both (leb 2 (length (inQuotes t))) _ h in false≢true (a .1)
 
-  not-quoted : all (other 39) t ≡ false → isQuoted (typed t) ≡ false
+  not-quoted : all (other 39) t ≡ false → isQuoted (inQuotes t) ≡ false
   unfolding isQuoted
-  not-quoted e = not-holds _ (λ h. ⊎-elim (not-by-39 e) not-by-34 (or-either (isQuotedBy 39 (typed t)) (isQuotedBy 34 (typed t)) h))
+  not-quoted e = not-holds _ (λ h. ⊎-elim (not-by-39 e) not-by-34 (or-either (isQuotedBy 39 (inQuotes t)) (isQuotedBy 34 (inQuotes t)) h))
 
 -- a text that begins with a mark has an ill-formed term
 mark-ill : (r : List ℕ) → termOf (39 ∷ r) ≡ Ill
@@ -87,53 +87,53 @@ unfolding allRecognised cut
 mark-unknown r = attach-ill (cut r)
 
 module _ (t : List ℕ) where
-  marked-unknown : all (other 39) t ≡ false → allRecognised (textOf (typed t)) ≡ false
+  marked-unknown : all (other 39) t ≡ false → allRecognised (textOf (inQuotes t)) ≡ false
   unfolding textOf
   marked-unknown e = rw (not-quoted t e) (mark-unknown (t ++ (39 ∷ [])))
 
-  level-1 : row1 (typed t) .level ≡ cond (allRecognised (textOf (typed t))) 0 4
+  level-1 : row1 (inQuotes t) .level ≡ cond (allRecognised (textOf (inQuotes t))) 0 4
   unfolding row1
-  level-1 = rw (typed-there t) (go (allRecognised (textOf (typed t))))
+  level-1 = rw (typed-there t) (go (allRecognised (textOf (inQuotes t))))
     where
       go : (b : Bool) → cond b noAlert (rowOf 4 0) .level ≡ cond b 0 4
       go true = refl
       go false = refl
 
-  level-2 : row2 (typed t) .level ≡ cond (inOrder (textOf (typed t))) 0 3
+  level-2 : row2 (inQuotes t) .level ≡ cond (inOrder (textOf (inQuotes t))) 0 3
   unfolding row2
-  level-2 = rw (typed-there t) (go (inOrder (textOf (typed t))))
+  level-2 = rw (typed-there t) (go (inOrder (textOf (inQuotes t))))
     where
       go : (b : Bool) → cond b noAlert (rowOf 3 0) .level ≡ cond b 0 3
       go true = refl
       go false = refl
 
   -- row 1 at level 0: no mark inside, and all terms recognised
-  pub row-1-is : row1 (typed t) .level ≡ 0 → Plain t × (allRecognised t ≡ true)
+  pub row-1-is : row1 (inQuotes t) .level ≡ 0 → Plain t × (allRecognised t ≡ true)
   row-1-is e = go (all (other 39) t) refl
     where
       holds : (b : Bool) → _≡_ {A = ℕ} (cond b 0 4) 0 → b ≡ true
       holds true e = refl
       holds false e = absurd (zero-not 3 e)
 
-      known : allRecognised (textOf (typed t)) ≡ true
-      known = holds (allRecognised (textOf (typed t))) (sym level-1 ∙ e)
+      known : allRecognised (textOf (inQuotes t)) ≡ true
+      known = holds (allRecognised (textOf (inQuotes t))) (sym level-1 ∙ e)
 
       go : (b : Bool) → all (other 39) t ≡ b → Plain t × (allRecognised t ≡ true)
       go true p = (p, ap allRecognised (sym (typed-text t p)) ∙ known)
       go false p = absurd (false≢true (sym (marked-unknown p) ∙ known))
 
-  pub row-2-is : Plain t → row2 (typed t) .level ≡ 0 → inOrder t ≡ true
-  row-2-is p e = ap inOrder (sym (typed-text t p)) ∙ holds (inOrder (textOf (typed t))) (sym level-2 ∙ e)
+  pub row-2-is : Plain t → row2 (inQuotes t) .level ≡ 0 → inOrder t ≡ true
+  row-2-is p e = ap inOrder (sym (typed-text t p)) ∙ holds (inOrder (textOf (inQuotes t))) (sym level-2 ∙ e)
     where
       holds : (b : Bool) → _≡_ {A = ℕ} (cond b 0 3) 0 → b ≡ true
       holds true e = refl
       holds false e = absurd (zero-not 2 e)
 
   -- and the other way
-  pub row-1-of : Plain t → allRecognised t ≡ true → row1 (typed t) .level ≡ 0
+  pub row-1-of : Plain t → allRecognised t ≡ true → row1 (inQuotes t) .level ≡ 0
   row-1-of p e = level-1 ∙ rw (typed-text t p, e)
 
-  pub row-2-of : Plain t → inOrder t ≡ true → row2 (typed t) .level ≡ 0
+  pub row-2-of : Plain t → inOrder t ≡ true → row2 (inQuotes t) .level ≡ 0
   row-2-of p e = level-2 ∙ rw (typed-text t p, e)
 
 -- a text whose terms are recognised has no mark

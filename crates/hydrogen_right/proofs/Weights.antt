@@ -21,7 +21,7 @@ use Rattle.rows.specs.Rows.{missing}
 use Rattle.rows_weight.specs.WeightRows.{ratioOutside, ratioLevel, ratioRow, weighedOf, row4}
 use Rattle.rows_weight.specs.declared.Weighed.the-variants.{Both, NotBoth}
 use Rattle.rows_weight.proofs.WeightCases.{weighed-unread, weighed-none, weighed-both, ratio-weight, ratio-judged}
-use Rattle.hydrogen_text.specs.Hydrogens.{typed}
+use Rattle.hydrogen_text.specs.Hydrogens.{inQuotes}
 use Rattle.hydrogen_right.proofs.Typed.{Plain, typed-there, typed-text}
 
 -- the given weight in millionths and the sum in thousandths, each at most a hundredth of the sum from the other
@@ -77,7 +77,7 @@ unfolding ratioLevel bounds
 ratio-negative g s e = let z : _≡_ {A = ℕ} 4 0 = e in omega arith
 
 module _ (t w : List ℕ) (plain : Plain t) where
-  pub row-4-is : row4 (typed t) w .level ≡ 0 → Weighs t w
+  pub row-4-is : row4 (inQuotes t) w .level ≡ 0 → Weighs t w
   row-4-is e = go (missing w) refl
     where
       read : missing w ≡ false → (r : Reading) → readingOf w ≡ r → (s : Weight) → sumOf t ≡ s → ratioRow (weighedOf t w) .level ≡ 0 → Weighs t w
@@ -89,14 +89,14 @@ module _ (t w : List ℕ) (plain : Plain t) where
           record { there = m; given = g; read = p; sum = s; summed = q; low = omega (arith, k .0); high = omega (arith, k .1) }
 
       go : (b : Bool) → missing w ≡ b → Weighs t w
-      go true m = absurd (two-not (sym (ap (λ x. x .level) (ratio-weight (typed t) w (typed-there t) m)) ∙ e))
+      go true m = absurd (two-not (sym (ap (λ x. x .level) (ratio-weight (inQuotes t) w (typed-there t) m)) ∙ e))
       go false m =
           read m (readingOf w) refl (sumOf t) refl
-          (ap (λ (x : List ℕ). ratioRow (weighedOf x w) .level) (sym (typed-text t plain)) ∙ sym (ap (λ x. x .level) (ratio-judged (typed t) w (typed-there t) m)) ∙ e)
+          (ap (λ (x : List ℕ). ratioRow (weighedOf x w) .level) (sym (typed-text t plain)) ∙ sym (ap (λ x. x .level) (ratio-judged (inQuotes t) w (typed-there t) m)) ∙ e)
 
-  pub row-4-of : Weighs t w → row4 (typed t) w .level ≡ 0
+  pub row-4-of : Weighs t w → row4 (inQuotes t) w .level ≡ 0
   row-4-of h =
-      ap (λ x. x .level) (ratio-judged (typed t) w (typed-there t) (h .there))
+      ap (λ x. x .level) (ratio-judged (inQuotes t) w (typed-there t) (h .there))
       ∙ ap (λ (x : List ℕ). ratioRow (weighedOf x w) .level) (typed-text t plain)
       ∙ ap (λ x. ratioRow x .level) (weighed-both t w (pos (h .given)) (h .sum) (h .read) (h .summed))
       ∙ ratio-of (h .given) (h .sum * 1000) (omega (arith, h .low)) (omega (arith, h .high))

@@ -17,12 +17,12 @@ use Rattle.formula_symbols.specs.Symbols.{hasCarbon}
 use Rattle.formula_sum.specs.Recognised.{allRecognised}
 use Rattle.rows_formula.specs.FormulaRows.{row1, row2}
 use Rattle.rows_weight.specs.WeightRows.{row4}
-use Rattle.hydrogen_text.specs.Hydrogens.{mostHydrogens, mostBytes, written, hydrogenWords, otherWords, typed}
+use Rattle.hydrogen_text.specs.Hydrogens.{mostHydrogens, mostTextBytes, hydrogenTerms, hydrogenWords, otherWords, inQuotes}
 use Rattle.hydrogen_text.specs.NewText.{newWords, newText}
 use Rattle.hydrogen_text.proofs.Words.{new-cut, new-others, new-hydrogens}
 use Rattle.hydrogen_text.proofs.Unique.{one-text}
 use Rattle.hydrogen_right.specs.Right.{Right}
-use Rattle.hydrogen_right.specs.Stages.{passes, isRight}
+use Rattle.hydrogen_right.specs.Stages.{rowsPass, isRight}
 use Rattle.hydrogen_right.proofs.Typed.{row-1-is, row-2-is}
 
 -- the empty text has an empty term, which is ill formed
@@ -36,22 +36,22 @@ unfolding newText joined
 known-left n s r e = false≢true (sym empty-unknown ∙ ap (λ (ws : List (List ℕ)). allRecognised (joined ws)) (sym e) ∙ r)
 
 -- the tests of a text, one by one
-pub record Passes (v w : List ℕ) : Type 0 where
+pub record RowsPass (v w : List ℕ) : Type 0 where
   pub row-1 : row1 v .level ≡ 0
   pub row-2 : row2 v .level ≡ 0
   pub row-4 : row4 v w .level ≡ 0
 
 module _ (v w : List ℕ) where
-  pub passes-is : passes v w ≡ true → Passes v w
-  unfolding passes
-  passes-is e =
+  pub rows-pass-is : rowsPass v w ≡ true → RowsPass v w
+  unfolding rowsPass
+  rows-pass-is e =
       let a = and-both (eqb (row1 v .level) 0) _ e in
       let b = and-both (eqb (row2 v .level) 0) _ (a .1) in
       record { row-1 = eqb-true _ _ (a .0); row-2 = eqb-true _ _ (b .0); row-4 = eqb-true _ _ (b .1) }
 
-  pub is-passes : Passes v w → passes v w ≡ true
-  unfolding passes
-  is-passes h = rw (h .row-1, h .row-2, h .row-4)
+  pub is-rows-pass : RowsPass v w → rowsPass v w ≡ true
+  unfolding rowsPass
+  is-rows-pass h = rw (h .row-1, h .row-2, h .row-4)
 
 module _ (f w : List ℕ) (n : ℕ) where
   abbrev new : List ℕ
@@ -60,19 +60,19 @@ module _ (f w : List ℕ) (n : ℕ) where
   -- what the stages test
   pub record Tested : Type 0 where
     pub count : n ≤ mostHydrogens
-    pub short : length new ≤ mostBytes
-    pub rows : Passes (typed new) w
+    pub short : length new ≤ mostTextBytes
+    pub rows : RowsPass (inQuotes new) w
 
   pub tested : isRight f w n ≡ true → Tested
   unfolding isRight
   tested e =
       let a = and-both (leb n mostHydrogens) _ e in
-      let b = and-both (leb (length new) mostBytes) _ (a .1) in
-      record { count = leb-true _ _ (a .0); short = leb-true _ _ (b .0); rows = passes-is (typed new) w (b .1) }
+      let b = and-both (leb (length new) mostTextBytes) _ (a .1) in
+      record { count = leb-true _ _ (a .0); short = leb-true _ _ (b .0); rows = rows-pass-is (inQuotes new) w (b .1) }
 
   pub is-tested : Tested → isRight f w n ≡ true
   unfolding isRight
-  is-tested h = rw (le-leb _ _ (h .count), le-leb _ _ (h .short), is-passes (typed new) w (h .rows))
+  is-tested h = rw (le-leb _ _ (h .count), le-leb _ _ (h .short), is-rows-pass (inQuotes new) w (h .rows))
 
   -- a count that passes the tests is right
   pub right-is : isRight f w n ≡ true → Right f w n
@@ -103,6 +103,6 @@ module _ (f w : List ℕ) (n : ℕ) where
       let e = right-text h in
       is-tested (record {
         count = h .count;
-        short = subst (λ (t : List ℕ). length t ≤ mostBytes) e (h .short);
-        rows = subst (λ (t : List ℕ). Passes (typed t) w) e (record { row-1 = h .row-1; row-2 = h .row-2; row-4 = h .row-4 });
+        short = subst (λ (t : List ℕ). length t ≤ mostTextBytes) e (h .short);
+        rows = subst (λ (t : List ℕ). RowsPass (inQuotes t) w) e (record { row-1 = h .row-1; row-2 = h .row-2; row-4 = h .row-4 });
       })

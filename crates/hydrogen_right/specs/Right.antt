@@ -17,7 +17,7 @@ use Rattle.formula_terms.specs.declared.term.Term.the-variants.{Well, Ill}
 use Rattle.rows.specs.Rows.{missing}
 use Rattle.rows_formula.specs.FormulaRows.{row1, row2}
 use Rattle.rows_weight.specs.WeightRows.{row4}
-use Rattle.hydrogen_text.specs.Hydrogens.{mostHydrogens, mostBytes, written, hydrogenWords, otherWords, typed}
+use Rattle.hydrogen_text.specs.Hydrogens.{mostHydrogens, mostTextBytes, hydrogenTerms, hydrogenWords, otherWords, inQuotes}
 
 -- "Right means: count 0 to 9999 (0 drops the term, 1 is written H), all other terms kept in order, text of at most 176 bytes, and rows 1, 2 and 4 at level
 -- 0 for the given weight." The rows look at the new text as it is typed, in quotes. Where the formula has no H, row 2 leaves the new term one place
@@ -25,12 +25,12 @@ use Rattle.hydrogen_text.specs.Hydrogens.{mostHydrogens, mostBytes, written, hy
 pub record Right (f w : List ℕ) (n : ℕ) : Type 0 where
   pub count : n ≤ mostHydrogens
   pub text : List ℕ
-  pub hydrogens : hydrogenWords (cut text) ≡ written n
+  pub hydrogens : hydrogenWords (cut text) ≡ hydrogenTerms n
   pub others : otherWords (cut text) ≡ otherWords (cut (textOf f))
-  pub short : length text ≤ mostBytes
-  pub row-1 : row1 (typed text) .level ≡ 0
-  pub row-2 : row2 (typed text) .level ≡ 0
-  pub row-4 : row4 (typed text) w .level ≡ 0
+  pub short : length text ≤ mostTextBytes
+  pub row-1 : row1 (inQuotes text) .level ≡ 0
+  pub row-2 : row2 (inQuotes text) .level ≡ 0
+  pub row-4 : row4 (inQuotes text) w .level ≡ 0
 
 -- a symbol has a weight
 abbrev pub isThere : Weight → Bool

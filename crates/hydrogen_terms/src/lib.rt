@@ -1,8 +1,9 @@
 // The term of so many hydrogens, and where it stands among the terms of a formula (document 02, No. 13).
 ghost use mathlib.Core.Path.{_≡_};
-ghost use Prim.Native.Nat.{_≤_};
+ghost use Prim.Native.Nat.{_%_, _≤_};
 ghost use lib.ListN.{length, take};
-ghost use Rattle.hydrogen_text.specs.Hydrogens.{digit, hydrogenText, isHydrogen};
+ghost use Rattle.number_decimal.specs.Digits.{digit};
+ghost use Rattle.hydrogen_text.specs.Hydrogens.{hydrogenText, isHydrogen};
 ghost use Rattle.hydrogen_text.specs.NewText.{comesHere};
 use formula_elements::same_symbol;
 use formula_terms::term::Term;
@@ -15,7 +16,7 @@ pub struct Word {
 
 // The last digit of a number.
 fn last_digit(n: u64) -> u8
-    ensures { λ r. ⌜ r ≡ digit n ⌝ }
+    ensures { λ r. ⌜ r ≡ digit (n % 10) ⌝ }
 {
     b'0' + (n % 10) as u8
 }

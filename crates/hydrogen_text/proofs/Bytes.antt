@@ -12,8 +12,9 @@ use Rattle.formula_terms.specs.Term.{termOf}
 use Rattle.formula_terms.specs.Terms.{cut}
 use Rattle.formula_terms.specs.Grammar.{joined}
 use Rattle.formula_symbols.specs.Symbols.{hasCarbon}
-use Rattle.hydrogen_text.specs.Hydrogens.{digit, digitsOf, hydrogenText, otherWords}
+use Rattle.hydrogen_text.specs.Hydrogens.{hydrogenText, otherWords}
 use Rattle.hydrogen_text.specs.NewText.{isLater, placed, withHydrogens, spread, newWords, newText}
+use Rattle.hydrogen_text.proofs.Digits.{lastDigit, decimal-cases}
 use Rattle.hydrogen_text.proofs.Words.{some-words, placed-some}
 
 joined-spread : (w : List ℕ) (ws : List (List ℕ)) → joined (w ∷ ws) ++ (32 ∷ []) ≡ spread (w ∷ ws)
@@ -56,11 +57,11 @@ width-up i j l =
     step-up (leb i 0) (leb j 0) 0 0 _ _ (up-to 0 i j l) (omega arith) (omega arith) s₂ (omega arith)
 
 text-width : (n : ℕ) → 1 ≤ n → length (hydrogenText n) + 1 ≡ widthOf n
-unfolding hydrogenText digitsOf widthOf
-text-width n l = rw (lt-leb n 0 l) (go (leb n 1) (leb n 9) (leb n 99) (leb n 999))
+unfolding hydrogenText widthOf
+text-width n l = rw (lt-leb n 0 l, decimal-cases n) (go (leb n 1) (leb n 9) (leb n 99) (leb n 999))
   where
     go : (a b c d : Bool)
-        → length {A = ℕ} (cond a (72 ∷ []) (72 ∷ cond b (digit n ∷ []) (cond c (digit (n / 10) ∷ (digit n ∷ [])) (cond d (digit (n / 10 / 10) ∷ (digit (n / 10) ∷ (digit n ∷ []))) (digit (n / 10 / 10 / 10) ∷ (digit (n / 10 / 10) ∷ (digit (n / 10) ∷ (digit n ∷ [])))))))) + 1
+        → length {A = ℕ} (cond a (72 ∷ []) (72 ∷ cond b (lastDigit n ∷ []) (cond c (lastDigit (n / 10) ∷ (lastDigit n ∷ [])) (cond d (lastDigit (n / 10 / 10) ∷ (lastDigit (n / 10) ∷ (lastDigit n ∷ []))) (lastDigit (n / 10 / 10 / 10) ∷ (lastDigit (n / 10 / 10) ∷ (lastDigit (n / 10) ∷ (lastDigit n ∷ [])))))))) + 1
         ≡ cond a 2 (cond b 3 (cond c 4 (cond d 5 6)))
     go true b c d = refl
     go false true c d = refl

@@ -18,7 +18,7 @@ use Rattle.formula_terms.specs.declared.term.Term.{Term}
 use Rattle.formula_terms.specs.declared.term.Term.the-variants.{Well, Ill}
 use Rattle.formula_symbols.specs.Symbols.{hasCarbon}
 use Rattle.formula_sum.specs.Recognised.{isRecognised, allRecognised}
-use Rattle.formula_sum.specs.Sum.{plus, termWeight, total}
+use Rattle.formula_sum.specs.Sum.{plus, termWeight, totalWeight}
 use Rattle.formula_order.specs.Order.{orderKey, orderKeys, rising, inOrder}
 use Rattle.hydrogen_text.specs.Hydrogens.{mostHydrogens, hydrogenText, isHydrogen, hydrogenWords, otherWords}
 use Rattle.hydrogen_text.specs.NewText.{isLater, placed, withHydrogens, newWords, newText}
@@ -119,24 +119,24 @@ module _ (c : Bool) (h : List ℕ) (n : ℕ) (reads : termOf h ≡ Well 72 32 n)
   unfolding weightOf weightIn weights sameSymbol
   hydrogen-weight = rw reads
 
-  placed-total : (ws : List (List ℕ)) → total (map termOf (placed c h ws)) ≡ plus (Thousandths (n * 1008)) (total (map termOf ws))
-  unfolding total placed
+  placed-total : (ws : List (List ℕ)) → totalWeight (map termOf (placed c h ws)) ≡ plus (Thousandths (n * 1008)) (totalWeight (map termOf ws))
+  unfolding totalWeight placed
   placed-total [] = ap (λ (w : Weight). plus w (Thousandths 0)) hydrogen-weight
   placed-total (w ∷ ws) = go (placed-total ws) (isLater c (termOf w))
     where
-      go : total (map termOf (placed c h ws)) ≡ plus (Thousandths (n * 1008)) (total (map termOf ws)) → (x : Bool)
-          → total (map termOf (cond x (h ∷ (w ∷ ws)) (w ∷ placed c h ws))) ≡ plus (Thousandths (n * 1008)) (plus (termWeight (termOf w)) (total (map termOf ws)))
-      go ih true = ap (λ (v : Weight). plus v (plus (termWeight (termOf w)) (total (map termOf ws)))) hydrogen-weight
-      go ih false = ap (plus (termWeight (termOf w))) ih ∙ plus-swap (termWeight (termOf w)) (Thousandths (n * 1008)) (total (map termOf ws))
+      go : totalWeight (map termOf (placed c h ws)) ≡ plus (Thousandths (n * 1008)) (totalWeight (map termOf ws)) → (x : Bool)
+          → totalWeight (map termOf (cond x (h ∷ (w ∷ ws)) (w ∷ placed c h ws))) ≡ plus (Thousandths (n * 1008)) (plus (termWeight (termOf w)) (totalWeight (map termOf ws)))
+      go ih true = ap (λ (v : Weight). plus v (plus (termWeight (termOf w)) (totalWeight (map termOf ws)))) hydrogen-weight
+      go ih false = ap (plus (termWeight (termOf w))) ih ∙ plus-swap (termWeight (termOf w)) (Thousandths (n * 1008)) (totalWeight (map termOf ws))
 
 -- ---- the new text
 
 record Stays (c : Bool) (ws : List (List ℕ)) (base n : ℕ) : Type 0 where
   row-1 : known (withHydrogens c n ws) ≡ true
   row-2 : rises c 0 (withHydrogens c n ws) ≡ true
-  sum : total (map termOf (withHydrogens c n ws)) ≡ Thousandths (base + 1008 * n)
+  sum : totalWeight (map termOf (withHydrogens c n ws)) ≡ Thousandths (base + 1008 * n)
 
-stays : (c : Bool) (ws : List (List ℕ)) (base n : ℕ) → n ≤ mostHydrogens → hydrogenWords ws ≡ [] → known ws ≡ true → rises c 0 ws ≡ true → total (map termOf ws) ≡ Thousandths base → Stays c ws base n
+stays : (c : Bool) (ws : List (List ℕ)) (base n : ℕ) → n ≤ mostHydrogens → hydrogenWords ws ≡ [] → known ws ≡ true → rises c 0 ws ≡ true → totalWeight (map termOf ws) ≡ Thousandths base → Stays c ws base n
 unfolding withHydrogens
 stays c ws base n m none r up sum = go (eqb n 0) refl
   where
@@ -159,10 +159,10 @@ stays c ws base n m none r up sum = go (eqb n 0) refl
 pub record NewRows (s : List ℕ) (base n : ℕ) : Type 0 where
   pub row-1 : allRecognised (newText n s) ≡ true
   pub row-2 : inOrder (newText n s) ≡ true
-  pub sum : total (termsOf (newText n s)) ≡ Thousandths (base + 1008 * n)
+  pub sum : totalWeight (termsOf (newText n s)) ≡ Thousandths (base + 1008 * n)
 
 pub new-rows : (s : List ℕ) (base n : ℕ) → n ≤ mostHydrogens → (newWords n s ≡ [] → ⊥) → allRecognised s ≡ true → inOrder s ≡ true
-    → total (map termOf (otherWords (cut s))) ≡ Thousandths base → NewRows s base n
+    → totalWeight (map termOf (otherWords (cut s))) ≡ Thousandths base → NewRows s base n
 unfolding allRecognised inOrder
 new-rows s base n m left r up sum =
     let c = hasCarbon s in
@@ -173,5 +173,5 @@ new-rows s base n m left r up sum =
     record {
       row-1 = ap known t ∙ k .row-1;
       row-2 = ap (λ (d : Bool). rises d 0 (cut (newText n s))) same ∙ ap (rises c 0) t ∙ k .row-2;
-      sum = ap (λ (l : List (List ℕ)). total (map termOf l)) t ∙ k .sum;
+      sum = ap (λ (l : List (List ℕ)). totalWeight (map termOf l)) t ∙ k .sum;
     }

@@ -19,7 +19,7 @@ use Rattle.formula_terms.specs.declared.term.Term.the-variants.{Well, Ill}
 use Rattle.formula_symbols.specs.Symbols.{hasCarbon}
 use Rattle.formula_sum.specs.Recognised.{isRecognised, allRecognised}
 use Rattle.formula_order.specs.Order.{orderKey, orderKeys, rising, inOrder}
-use Rattle.hydrogen_text.specs.Hydrogens.{hydrogenText, written, isHydrogen, hydrogenWords, otherWords}
+use Rattle.hydrogen_text.specs.Hydrogens.{hydrogenText, hydrogenTerms, isHydrogen, hydrogenWords, otherWords}
 use Rattle.hydrogen_text.specs.NewText.{isLater, placed, withHydrogens, newWords, newText}
 use Rattle.hydrogen_text.proofs.Words.{some-words, same-carbon}
 use Rattle.hydrogen_text.proofs.Keys.{hydrogenKey, own-key}
@@ -90,8 +90,8 @@ module _ (c : Bool) (h : List ℕ) where
               rw (q, le-ltb (hydrogenKey c) (orderKey c a b) (omega arith)) (ap (λ (l : List (List ℕ)). w ∷ l) (ih (orderKey c a b) u one))
 
 -- the terms of a text in order are the other terms with its hydrogens
-with-back : (c : Bool) (n : ℕ) (ws : List (List ℕ)) → all isRecognised (map termOf ws) ≡ true → rises c 0 ws ≡ true → hydrogenWords ws ≡ written n → withHydrogens c n (otherWords ws) ≡ ws
-unfolding withHydrogens written
+with-back : (c : Bool) (n : ℕ) (ws : List (List ℕ)) → all isRecognised (map termOf ws) ≡ true → rises c 0 ws ≡ true → hydrogenWords ws ≡ hydrogenTerms n → withHydrogens c n (otherWords ws) ≡ ws
+unfolding withHydrogens hydrogenTerms
 with-back c n ws r e is = go (eqb n 0) is
   where
     go : (x : Bool) → hydrogenWords ws ≡ cond x [] (hydrogenText n ∷ []) → cond x (otherWords ws) (placed c (hydrogenText n) (otherWords ws)) ≡ ws
@@ -99,7 +99,7 @@ with-back c n ws r e is = go (eqb n 0) is
     go false one = placed-back c (hydrogenText n) 0 ws r e one
 
 -- "at the one place that row 2 allows": a text with the other terms of s in their order and n hydrogens is the new text
-pub one-text : (s t : List ℕ) (n : ℕ) → allRecognised t ≡ true → inOrder t ≡ true → otherWords (cut t) ≡ otherWords (cut s) → hydrogenWords (cut t) ≡ written n → t ≡ newText n s
+pub one-text : (s t : List ℕ) (n : ℕ) → allRecognised t ≡ true → inOrder t ≡ true → otherWords (cut t) ≡ otherWords (cut s) → hydrogenWords (cut t) ≡ hydrogenTerms n → t ≡ newText n s
 unfolding allRecognised inOrder newText
 one-text s t n r e same is =
     sym (cut-joins t)

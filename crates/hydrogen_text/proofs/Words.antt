@@ -18,7 +18,7 @@ use Rattle.formula_terms.specs.declared.term.Term.{Term}
 use Rattle.formula_terms.specs.declared.term.Term.the-variants.{Well, Ill}
 use Rattle.formula_symbols.specs.Symbols.{isWanted, hasTerm, hasCarbon}
 use Rattle.formula_symbols.specs.declared.Wanted.the-variants.{Symbol}
-use Rattle.hydrogen_text.specs.Hydrogens.{mostHydrogens, hydrogenText, written, isHydrogen, hydrogenWords, otherWords}
+use Rattle.hydrogen_text.specs.Hydrogens.{mostHydrogens, hydrogenText, hydrogenTerms, isHydrogen, hydrogenWords, otherWords}
 use Rattle.hydrogen_text.specs.NewText.{isLater, placed, withHydrogens, newWords, newText}
 use Rattle.hydrogen_text.proofs.Digits.{text-reads, text-spaceless}
 
@@ -130,8 +130,8 @@ new-others c n ws m = go (eqb n 0) refl
     go true e = other-once ws
     go false e = placed-others c (hydrogenText n) (hydrogen-is n m (eqb-false n 0 e)) (otherWords ws) ∙ other-once ws
 
-pub new-hydrogens : (c : Bool) (n : ℕ) (ws : List (List ℕ)) → n ≤ mostHydrogens → hydrogenWords (withHydrogens c n (otherWords ws)) ≡ written n
-unfolding withHydrogens written
+pub new-hydrogens : (c : Bool) (n : ℕ) (ws : List (List ℕ)) → n ≤ mostHydrogens → hydrogenWords (withHydrogens c n (otherWords ws)) ≡ hydrogenTerms n
+unfolding withHydrogens hydrogenTerms
 new-hydrogens c n ws m = go (eqb n 0) refl
   where
     go : (x : Bool) → eqb n 0 ≡ x → hydrogenWords (cond x (otherWords ws) (placed c (hydrogenText n) (otherWords ws))) ≡ cond x [] (hydrogenText n ∷ [])

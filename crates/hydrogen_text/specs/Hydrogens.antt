@@ -1,9 +1,10 @@
 -- The terms of hydrogen of a formula, and the other ones, each as it is written (document 02, No. 13).
 -- Assumes nothing.
-use Prim.Native.Nat.{ℕ, _+_, _/_, _%_}
+use Prim.Native.Nat.{ℕ}
 use mathlib.Core.Bool.{Bool, false, cond}
 use mathlib.Core.List.{List, [], _∷_, _++_}
 use lib.Dec.{leb, eqb}
+use Rattle.number_decimal.specs.Digits.{lastDigits}
 use Rattle.formula_terms.specs.Term.{termOf}
 use Rattle.formula_terms.specs.declared.term.Term.{Term}
 use Rattle.formula_terms.specs.declared.term.Term.the-variants.{Well, Ill}
@@ -14,28 +15,20 @@ abbrev pub mostHydrogens : ℕ
 mostHydrogens = 9999
 
 -- "text of at most 176 bytes"
-abbrev pub mostBytes : ℕ
-mostBytes = 176
+abbrev pub mostTextBytes : ℕ
+mostTextBytes = 176
 
--- the last digit of a number, in ASCII
-abbrev pub digit : ℕ → ℕ
-digit n = 48 + n % 10
-
--- the digits of a number up to 9999
-unfoldable pub digitsOf : ℕ → List ℕ
-digitsOf n =
-    cond (leb n 9) (digit n ∷ [])
-    (cond (leb n 99) (digit (n / 10) ∷ (digit n ∷ []))
-    (cond (leb n 999) (digit (n / 10 / 10) ∷ (digit (n / 10) ∷ (digit n ∷ [])))
-    (digit (n / 10 / 10 / 10) ∷ (digit (n / 10 / 10) ∷ (digit (n / 10) ∷ (digit n ∷ []))))))
+-- a number up to 9999 in decimal
+unfoldable pub decimalOf : ℕ → List ℕ
+decimalOf n = lastDigits 4 n
 
 -- the term of n hydrogens, 1 or more: "1 is written H"
 unfoldable pub hydrogenText : ℕ → List ℕ
-hydrogenText n = cond (leb n 1) (72 ∷ []) (72 ∷ digitsOf n)
+hydrogenText n = cond (leb n 1) (72 ∷ []) (72 ∷ decimalOf n)
 
 -- "0 drops the term": the terms of n hydrogens, one or none
-unfoldable pub written : ℕ → List (List ℕ)
-written n = cond (eqb n 0) [] (hydrogenText n ∷ [])
+unfoldable pub hydrogenTerms : ℕ → List (List ℕ)
+hydrogenTerms n = cond (eqb n 0) [] (hydrogenText n ∷ [])
 
 -- a term is of hydrogen
 abbrev pub isHydrogen : Term → Bool
@@ -53,5 +46,5 @@ otherWords [] = []
 otherWords (w ∷ ws) = cond (isHydrogen (termOf w)) (otherWords ws) (w ∷ otherWords ws)
 
 -- a text as it is typed, in quotes
-abbrev pub typed : List ℕ → List ℕ
-typed t = 39 ∷ (t ++ (39 ∷ []))
+abbrev pub inQuotes : List ℕ → List ℕ
+inQuotes t = 39 ∷ (t ++ (39 ∷ []))

@@ -14,7 +14,7 @@ use lib.Seq.{take-suc-set, take-take, take-at}
 use Rattle.formula_terms.specs.Terms.{cut}
 use Rattle.formula_terms.specs.Grammar.{joined}
 use Rattle.formula_symbols.specs.Symbols.{hasCarbon}
-use Rattle.hydrogen_text.specs.Hydrogens.{mostBytes, hydrogenText, otherWords, typed}
+use Rattle.hydrogen_text.specs.Hydrogens.{mostTextBytes, hydrogenText, otherWords, inQuotes}
 use Rattle.hydrogen_text.specs.NewText.{placed, withHydrogens, spread, newWords, newText}
 use Rattle.hydrogen_text.proofs.Words.{some-words}
 use Rattle.hydrogen_text.proofs.Bytes.{spread-is, new-length}
@@ -42,7 +42,7 @@ module _ (n : ℕ) (s out : List ℕ) (at : ℕ) (long : length out ≡ typedMos
     where
       go : (ws : List (List ℕ)) → newWords n s ≡ ws → [] ≡ typedWith n s
       go [] e = let z = ap (λ (l : List (List ℕ)). length (spread l)) e in absurd (omega arith)
-      go (w ∷ ws) e = rw (lt-leb (length (newText n s)) mostBytes (omega (arith, new-length n s (λ q. some-words (sym e ∙ q)))))
+      go (w ∷ ws) e = rw (lt-leb (length (newText n s)) mostTextBytes (omega (arith, new-length n s (λ q. some-words (sym e ∙ q)))))
 
   ended : (e : ℕ) → e < typedMost → (first : List ℕ) → take e out ≡ first → take (e + 1) (set out e 39) ≡ first ++ (39 ∷ [])
   ended e l first f = ap (λ (k : ℕ). take k (set out e 39)) (add-one e) ∙ take-suc-set out e 39 (omega arith) ∙ ap (λ (t : List ℕ). t ++ (39 ∷ [])) f
@@ -68,4 +68,4 @@ module _ (n : ℕ) (s out : List ℕ) (at : ℕ) (long : length out ≡ typedMos
           let shown : take at out ≡ (39 ∷ newText n s) ++ (32 ∷ []) = t ∙ ap (λ (l : List ℕ). 39 ∷ l) (spread-is (newWords n s) left) in
           let here : take e out ≡ 39 ∷ newText n s
           = sym (take-take e at out (omega (arith, d .1))) ∙ ap (take e) shown ∙ take-at (39 ∷ newText n s) (32 ∷ []) e (omega (arith, d .1)) in
-          (ended e small (39 ∷ newText n s) here ∙ rw (le-leb (length (newText n s)) mostBytes (omega (arith, d .1))), small)
+          (ended e small (39 ∷ newText n s) here ∙ rw (le-leb (length (newText n s)) mostTextBytes (omega (arith, d .1))), small)

@@ -6,20 +6,20 @@ use mathlib.Core.Bool.{Bool, cond}
 use mathlib.Core.List.{List, [], _∷_, _++_}
 use lib.Dec.{leb}
 use lib.ListN.{length, take}
-use Rattle.hydrogen_text.specs.Hydrogens.{mostBytes, otherWords, typed}
+use Rattle.hydrogen_text.specs.Hydrogens.{mostTextBytes, otherWords, inQuotes}
 use Rattle.hydrogen_text.specs.NewText.{placed, newText}
 
 -- the text s with n hydrogens as it is typed, "text of at most 176 bytes"; nothing where it is longer
 unfoldable pub typedWith : ℕ → List ℕ → List ℕ
-typedWith n s = cond (leb (length (newText n s)) mostBytes) (typed (newText n s)) []
+typedWith n s = cond (leb (length (newText n s)) mostTextBytes) (inQuotes (newText n s)) []
 
 -- the longest text and its two marks
 abbrev pub typedMost : ℕ
-typedMost = mostBytes + 2
+typedMost = mostTextBytes + 2
 
 -- a term with a space after it, or nothing
-abbrev pub part : Bool → List ℕ → List ℕ
-part wanted w = cond wanted (w ++ (32 ∷ [])) []
+abbrev pub spaced : Bool → List ℕ → List ℕ
+spaced wanted w = cond wanted (w ++ (32 ∷ [])) []
 
 -- the terms that are to come: the other ones of some terms, with a term of hydrogen if it is wanted
 abbrev pub toCome : Bool → List ℕ → Bool → List (List ℕ) → List (List ℕ)

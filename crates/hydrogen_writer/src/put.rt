@@ -4,7 +4,7 @@ ghost use mathlib.Core.List.{[], _∷_, _++_};
 ghost use lib.ListN.{length};
 ghost use Rattle.formula_terms.specs.Terms.{cut};
 ghost use Rattle.hydrogen_text.specs.NewText.{newWords, spread};
-ghost use Rattle.hydrogen_writer.specs.Typed.{typedMost, toCome, Shows, Puts, part};
+ghost use Rattle.hydrogen_writer.specs.Typed.{typedMost, toCome, Shows, Puts, spaced};
 use crate::TYPED_MOST;
 use formula_symbols::Wanted;
 use formula_terms::Step;
@@ -31,7 +31,7 @@ fn put_word(out: &mut [u8], at: usize, word: &[u8]) -> usize
 // The same if it is wanted.
 fn put_if(out: &mut [u8], at: usize, word: &[u8], wanted: bool) -> usize
     requires { ⌜ length (now out) ≡ typedMost ⌝ }
-    ensures { λ r. ⌜ Puts (now (out .entry)) at (part wanted (now (word .entry))) (now (out .exit)) r ⌝ }
+    ensures { λ r. ⌜ Puts (now (out .entry)) at (spaced wanted (now (word .entry))) (now (out .exit)) r ⌝ }
 {
     if wanted {
         return put_word(out, at, word);

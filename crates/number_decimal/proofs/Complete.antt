@@ -15,15 +15,15 @@ use Rattle.text.specs.Run.{between, runOf, all, hasAt, isDigit}
 use Rattle.text.proofs.Bools.{not-holds}
 use Rattle.text.proofs.Runs.{run-append, run-none, has-here, has-within, has-byte}
 use Rattle.number_decimal.specs.Digits.{mostUncertain}
-use Rattle.number_decimal.specs.Reading.{closes, isTail, sizeOf, partsSize, pointLength, unsignedOf, readingOf}
+use Rattle.number_decimal.specs.Reading.{closesBracket, isTail, sizeOf, partsSize, pointLength, unsignedOf, readingOf}
 use Rattle.number_decimal.specs.Grammar.{SignText, PointText, UncertaintyText, IsSize, IsNumber}
 use Rattle.number_decimal.specs.declared.Reading.the-variants.{Number}
 use Rattle.number_decimal.specs.declared.Size.the-variants.{Millionths}
 use Rattle.number_decimal.proofs.Digits.{first-digit}
 use Rattle.number_decimal.proofs.Values.{joined}
 
-bracket-closes : (u : List ℕ) → all isDigit u ≡ true → 1 ≤ length u → length u ≤ mostUncertain → closes (u ++ (41 ∷ [])) ≡ true
-unfolding closes between
+bracket-closes : (u : List ℕ) → all isDigit u ≡ true → 1 ≤ length u → length u ≤ mostUncertain → closesBracket (u ++ (41 ∷ [])) ≡ true
+unfolding closesBracket between
 bracket-closes u a some few =
     let n = run-append isDigit u (41 ∷ []) a (run-none isDigit 41 [] refl) in
     simp (n, le-leb _ _ some, le-leb _ _ few, eq-eqb (length (u ++ (41 ∷ []))) (length u + 1) (length-append u (41 ∷ [])), getD-append-seam)

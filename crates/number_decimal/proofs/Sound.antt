@@ -16,15 +16,15 @@ use Rattle.text.specs.Run.{runOf, all, hasAt, isDigit}
 use Rattle.text.proofs.Bools.{and-both}
 use Rattle.text.proofs.Runs.{run-taken, run-length, run-after, has-within, has-byte}
 use Rattle.number_decimal.specs.Digits.{mostDigits, mostPlaces, mostUncertain}
-use Rattle.number_decimal.specs.Reading.{closes, isTail, sizeOf, partsSize, digitsOf, afterDigits, unsignedOf, signedOf, readingOf}
+use Rattle.number_decimal.specs.Reading.{closesBracket, isTail, sizeOf, partsSize, digitsOf, afterDigits, unsignedOf, signedOf, readingOf}
 use Rattle.number_decimal.specs.Grammar.{SignText, PointText, UncertaintyText, IsSize, IsNumber}
 use Rattle.number_decimal.specs.declared.Reading.the-variants.{Number}
 use Rattle.number_decimal.specs.declared.Size.{Size}
 use Rattle.number_decimal.specs.declared.Size.the-variants.{Millionths, Neither}
 use Rattle.number_decimal.proofs.Values.{joined}
 
-bracket-is : (u : List ℕ) → closes u ≡ true → UncertaintyText (40 ∷ u)
-unfolding closes
+bracket-is : (u : List ℕ) → closesBracket u ≡ true → UncertaintyText (40 ∷ u)
+unfolding closesBracket
 bracket-is u e =
     let n = runOf isDigit u in
     let some = and-both (leb 1 n) _ e in
@@ -42,7 +42,7 @@ uncertainty-is : (t : List ℕ) → isTail t ≡ true → UncertaintyText t
 unfolding isTail
 uncertainty-is [] e = UncertaintyText.none
 uncertainty-is (b ∷ u) e =
-    let h = and-both (eqb b 40) (closes u) (simp eqb·suc-zero at e) in
+    let h = and-both (eqb b 40) (closesBracket u) (simp eqb·suc-zero at e) in
     subst (λ (x : ℕ). UncertaintyText (x ∷ u)) (sym (eqb-true b 40 (h .0))) (bracket-is u (h .1))
 
 -- a size that a test let through

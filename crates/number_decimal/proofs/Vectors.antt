@@ -7,7 +7,7 @@ use lib.IntN.{pos, negsuc}
 use Rattle.text.specs.Quote.{bytes}
 use Rattle.text.specs.Run.{between, runOf, hasAt, kindAt}
 use Rattle.number_decimal.specs.Digits.{valueFrom}
-use Rattle.number_decimal.specs.Reading.{closes, isTail, sizeOf, unsignedOf, readingOf}
+use Rattle.number_decimal.specs.Reading.{closesBracket, isTail, sizeOf, unsignedOf, readingOf}
 use Rattle.number_decimal.specs.declared.Reading.{Reading}
 use Rattle.number_decimal.specs.declared.Reading.the-variants.{Number, Nothing}
 
@@ -58,5 +58,5 @@ vectors =
     ("1..2" reads Nothing) ∷ []
 
 pub vectors-hold : map (λ (x : Vector). readingOf (bytes (x .typed))) vectors ≡ map (λ (x : Vector). x .read) vectors
-unfolding vectors readingOf unsignedOf sizeOf isTail closes runOf hasAt kindAt between valueFrom
+unfolding vectors readingOf unsignedOf sizeOf isTail closesBracket runOf hasAt kindAt between valueFrom
 vectors-hold = refl

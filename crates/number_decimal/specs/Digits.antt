@@ -1,7 +1,9 @@
--- Digits, what they write, and the limits of a number (document 01, "A line, a number"), which document 02, No. 4 leaves as they are.
+-- Digits, what they write, the text of a number in decimal, and the limits of a number (document 01, "A line, a number"), which document 02, No. 4 leaves as they are.
 -- Assumes nothing.
-use Prim.Native.Nat.{ℕ, _+_, _-_, _*_, _^_}
-use mathlib.Core.List.{List, [], _∷_}
+use Prim.Native.Nat.{ℕ, zero, suc, _+_, _-_, _*_, _/_, _%_, _^_}
+use mathlib.Core.Bool.{cond}
+use mathlib.Core.List.{List, [], _∷_, _++_}
+use lib.Dec.{ltb}
 
 -- "1 to 9 digits before any bracket": nine in all, on both sides of the point together
 abbrev pub mostDigits : ℕ
@@ -27,6 +29,15 @@ valueFrom acc (b ∷ bs) = valueFrom (acc * 10 + (b - 48)) bs
 -- the whole number that some digits write
 abbrev pub valueOf : List ℕ → ℕ
 valueOf ds = valueFrom 0 ds
+
+-- the digit of a number below 10
+abbrev pub digit : ℕ → ℕ
+digit n = 48 + n
+
+-- the last digits of a number, at most so many, without leading zeros
+unfoldable pub lastDigits : ℕ → ℕ → List ℕ
+lastDigits zero n = []
+lastDigits (suc most) n = cond (ltb n 10) [] (lastDigits most (n / 10)) ++ (digit (n % 10) ∷ [])
 
 -- what the last of n digits after the point is worth, in millionths; with n = 0, what one is worth
 abbrev pub scaleOf : ℕ → ℕ

@@ -20,12 +20,12 @@ unfoldable pub wholeOf : List ℕ → Whole
 wholeOf s = cond (leb 1 (length s) && (leb (length s) mostDigits && all isDigit s)) (Worth (valueOf s)) NoDigits
 
 -- after the bracket that opens: 1 to 4 digits, the bracket that closes, and nothing more
-unfoldable pub closes : List ℕ → Bool
-closes u = leb 1 (runOf isDigit u) && (leb (runOf isDigit u) mostUncertain && (eqb (length u) (runOf isDigit u + 1) && eqb (getD u (runOf isDigit u) 0) 41))
+unfoldable pub closesBracket : List ℕ → Bool
+closesBracket u = leb 1 (runOf isDigit u) && (leb (runOf isDigit u) mostUncertain && (eqb (length u) (runOf isDigit u + 1) && eqb (getD u (runOf isDigit u) 0) 41))
 
 -- what follows the digits: nothing, or an uncertainty in round brackets
 unfoldable pub isTail : List ℕ → Bool
-isTail s = eqb (length s) 0 || (eqb (getD s 0 0) 40 && closes (drop 1 s))
+isTail s = eqb (length s) 0 || (eqb (getD s 0 0) 40 && closesBracket (drop 1 s))
 
 -- the size of so many digits in all, so many of them after the point, that write v, and of what follows them, if their numbers are right
 unfoldable pub sizeOf : ℕ → ℕ → ℕ → List ℕ → Size

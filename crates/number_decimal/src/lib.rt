@@ -5,7 +5,7 @@ ghost use Prim.Native.Nat.{_+_, _*_, _^_, _≤_, _<_};
 ghost use lib.ListN.{length, take};
 ghost use Rattle.text.specs.Run.{runOf, isDigit};
 ghost use Rattle.number_decimal.specs.Digits.{mostBytes, valueFrom, scaleOf};
-ghost use Rattle.number_decimal.specs.Reading.{Small, wholeOf, closes, isTail, sizeOf, pointLength, unsignedOf, signLength, signedOf, readingOf};
+ghost use Rattle.number_decimal.specs.Reading.{Small, wholeOf, closesBracket, isTail, sizeOf, pointLength, unsignedOf, signLength, signedOf, readingOf};
 
 // What reading a number finds: the number, in millionths, or that there is none.
 pub enum Reading {
@@ -93,7 +93,7 @@ fn scale(n: usize) -> u64
 
 // Whether u is 1 to 4 digits, a bracket that closes, and nothing more.
 fn closes_bracket(u: &[u8]) -> bool
-    ensures { λ r. ⌜ r ≡ closes (now (u .entry)) ⌝ }
+    ensures { λ r. ⌜ r ≡ closesBracket (now (u .entry)) ⌝ }
 {
     let n = text::run::run_between(u, b'0', b'9');
     if n < 1 {

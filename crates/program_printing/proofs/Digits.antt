@@ -7,7 +7,7 @@ use borrow.Author.Tests.{lt-ltb, le-ltb}
 use native.Mathlib.Omega.{arith}
 use lib.ListN.{length, take, drop, set}
 use lib.Seq.{append-snoc, set-split, drop-at, length-take-le}
-use Rattle.program_printing.specs.Print.{digit, lastDigits}
+use Rattle.number_decimal.specs.Digits.{digit, lastDigits}
 
 drop-set : (ds : List ℕ) (i d : ℕ) → i < length ds → drop i (set ds i d) ≡ d ∷ drop (suc i) ds
 drop-set ds i d h =

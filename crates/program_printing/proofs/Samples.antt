@@ -4,7 +4,8 @@ use mathlib.Core.Path.{_≡_, refl}
 use mathlib.Core.List.{[], _∷_}
 use Rattle.text.specs.Quote.{bytes}
 use Rattle.desk_state.specs.Sheets.{filled, emptyItem}
-use Rattle.program_printing.specs.Print.{lastDigits, decimalText, line, rowNames, rowLine, printedItem}
+use Rattle.number_decimal.specs.Digits.{lastDigits}
+use Rattle.program_printing.specs.Print.{decimalText, line, rowNames, rowLine, printedItem}
 
 pub row-6 : rowLine 6 (record { level = 3; reason = 0 }) ≡ line (bytes "06 RFACG_01 B 0" ∷ [])
 unfolding rowNames lastDigits

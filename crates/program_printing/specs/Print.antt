@@ -1,12 +1,13 @@
 -- The printed report (document 01, "Measured examples", the program `desk`).
 -- Assumes nothing.
-use Prim.Native.Nat.{ℕ, zero, suc, _+_, _-_, _/_, _%_}
+use Prim.Native.Nat.{ℕ, _-_, _/_, _%_}
 use mathlib.Core.Bool.{cond}
 use mathlib.Core.List.{List, [], _∷_, _++_}
-use lib.Dec.{ltb, leb, eqb}
+use lib.Dec.{leb, eqb}
 use lib.ListN.{length, getD}
 use Rattle.text.specs.Quote.{bytes}
 use Rattle.text_copies.specs.Each.{linesFrom}
+use Rattle.number_decimal.specs.Digits.{digit, lastDigits}
 use Rattle.desk_state.specs.Sheets.{valueIn}
 use Rattle.desk_state.specs.Desks.{sheetAt}
 use Rattle.desk_state.specs.declared.sheet.Item.{Item}
@@ -19,18 +20,9 @@ use Rattle.program_printing.specs.Page.{decimalMost}
 use Rattle.program_printing.specs.declared.Printed.{Printed}
 use Rattle.program_printing.specs.declared.Printed.the-variants.{Bytes, NoRoom}
 
--- the digit of a number below 10
-abbrev pub digit : ℕ → ℕ
-digit n = 48 + n
-
 -- a number below 100 in two digits
 abbrev pub twoDigits : ℕ → List ℕ
 twoDigits n = digit (n / 10) ∷ digit (n % 10) ∷ []
-
--- the last digits of a number, at most so many, without leading zeros
-unfoldable pub lastDigits : ℕ → ℕ → List ℕ
-lastDigits zero n = []
-lastDigits (suc most) n = cond (ltb n 10) [] (lastDigits most (n / 10)) ++ (digit (n % 10) ∷ [])
 
 -- a number in decimal; one of 64 bits has at most 20 digits
 abbrev pub decimalText : ℕ → List ℕ

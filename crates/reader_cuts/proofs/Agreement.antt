@@ -9,8 +9,9 @@ use borrow.Author.Tests.{eqb-true}
 use lib.Dec.{eqb}
 use lib.ListN.{length, take, replicate}
 use lib.Seq.{length-take-le}
-use Rattle.reader_cuts.specs.Reading.{lengthLeast, lengthMost, lengthOf, badLength, undecided, Reading, waiting, ended, short, readAll, readWhole, feed}
-use Rattle.reader_cuts.specs.Called.{Called, told, call, answers, after, answered, answersSoFar, callsOf, Agrees, joined}
+use Rattle.desk_log.specs.Record.{lengthTold}
+use Rattle.reader_cuts.specs.Reading.{lengthLeast, lengthMost, badLength, undecided, Reading, waiting, ended, short, readAll, readWhole, feed}
+use Rattle.reader_cuts.specs.Called.{Called, calledWith, call, answers, afterCalls, answerAndPlace, answersSoFar, callsOf, Agrees, allBytes}
 use Rattle.reader_cuts.proofs.Laws.{good-length, read-few, undecided-few, every-reading}
 use Rattle.reader_cuts.proofs.Cuts.{feed-over, next-part, whole-over}
 
@@ -38,20 +39,20 @@ module _ {S : Type 0} (refusal : ℕ → List ℕ → S → ℕ) (store : List �
       every-reading refusal store last (λ t k cs r. Fine t k → Good r)
       (λ t k cs u g. good-short last t k cs g u)
       (λ t k cs h b g. good-ended 18 t k g)
-      (λ t k cs h q w e g. good-ended (refusal k (take (lengthOf cs) cs) t) t k g)
+      (λ t k cs h q w e g. good-ended (refusal k (take (lengthTold cs) cs) t) t k g)
       (λ t k cs r h q w e p g. p (sound-more t k cs q w e g))
       s at bs
     where
-      sound-more : (t : S) (k : ℕ) (cs : List ℕ) → badLength (lengthOf cs) ≡ false → lengthOf cs ≤ length cs → eqb (refusal k (take (lengthOf cs) cs) t) 0 ≡ true
-          → Fine t k → Fine (store (take (lengthOf cs) cs) t) (k + lengthOf cs)
+      sound-more : (t : S) (k : ℕ) (cs : List ℕ) → badLength (lengthTold cs) ≡ false → lengthTold cs ≤ length cs → eqb (refusal k (take (lengthTold cs) cs) t) 0 ≡ true
+          → Fine t k → Fine (store (take (lengthTold cs) cs) t) (k + lengthTold cs)
       sound-more t k cs q w e g =
-          let x : List ℕ = take (lengthOf cs) cs in
-          let b = good-length (lengthOf cs) q in
-          let l = length-take-le (lengthOf cs) cs w in
+          let x : List ℕ = take (lengthTold cs) cs in
+          let b = good-length (lengthTold cs) q in
+          let l = length-take-le (lengthTold cs) cs w in
           rw l at (keeps t k x g (omega arith) (omega arith) (eqb-true (refusal k x t) 0 e))
 
   -- a call on a good reading is not refused with 2
-  pub call-good : (r : Reading S) (p : List ℕ) (last : Bool) → Good r → call refusal store sound r p last ≡ told (feed refusal store r p last)
+  pub call-good : (r : Reading S) (p : List ℕ) (last : Bool) → Good r → call refusal store sound r p last ≡ calledWith (feed refusal store r p last)
   unfolding call
   call-good r p last g = rw (both (sound (r .sheets) (r .at)) (undecided (r .rest)) (fine-sound (r .sheets) (r .at) (g .fine)) (g .waits))
 
@@ -59,58 +60,58 @@ module _ {S : Type 0} (refusal : ℕ → List ℕ → S → ℕ) (store : List �
     abbrev soFar : List ℕ → Reading S
     soFar bs = readAll refusal store false s 0 bs
 
-    one : (bs p : List ℕ) (last : Bool) → call refusal store sound (soFar bs) p last ≡ told (readAll refusal store last s 0 (bs ++ p))
+    one : (bs p : List ℕ) (last : Bool) → call refusal store sound (soFar bs) p last ≡ calledWith (readAll refusal store last s 0 (bs ++ p))
     one bs p last = call-good (soFar bs) p last (read-good false s 0 bs fresh)
-        ∙ ap (λ (r : Reading S). told r) (next-part refusal store last s 0 bs p)
+        ∙ ap (λ (r : Reading S). calledWith r) (next-part refusal store last s 0 bs p)
 
     -- a reading that is over answers the same for ever
     module _ (r : Reading S) (g : Good r) (e : r .over ≡ true) where
-      stays : (p : List ℕ) (last : Bool) → call refusal store sound r p last ≡ told r
-      stays p last = call-good r p last g ∙ ap (λ (x : Reading S). told x) (feed-over refusal store r p last e)
+      stays : (p : List ℕ) (last : Bool) → call refusal store sound r p last ≡ calledWith r
+      stays p last = call-good r p last g ∙ ap (λ (x : Reading S). calledWith x) (feed-over refusal store r p last e)
 
-      stays-after : (cs : List (List ℕ × Bool)) → after refusal store sound r cs ≡ r
+      stays-after : (cs : List (List ℕ × Bool)) → afterCalls refusal store sound r cs ≡ r
       stays-after [] = refl
-      stays-after (c ∷ cs) = ap (λ (k : Called S). after refusal store sound (k .reading) cs) (stays (c .0) (c .1)) ∙ stays-after cs
+      stays-after (c ∷ cs) = ap (λ (k : Called S). afterCalls refusal store sound (k .reading) cs) (stays (c .0) (c .1)) ∙ stays-after cs
 
-      stays-answers : (cs : List (List ℕ × Bool)) → answers refusal store sound r cs ≡ replicate (length cs) (answered refusal store sound r)
+      stays-answers : (cs : List (List ℕ × Bool)) → answers refusal store sound r cs ≡ replicate (length cs) (answerAndPlace r)
       stays-answers [] = refl
       stays-answers (c ∷ cs) =
           ap (λ (k : Called S). (k .answer, k .place) ∷ answers refusal store sound (k .reading) cs) (stays (c .0) (c .1))
-          ∙ ap (λ (l : List (ℕ × ℕ)). answered refusal store sound r ∷ l) (stays-answers cs)
+          ∙ ap (λ (l : List (ℕ × ℕ)). answerAndPlace r ∷ l) (stays-answers cs)
 
     module _ (p : List ℕ) (more : List (List ℕ × Bool)) where
       after-from : (bs : List ℕ) (ps : List (List ℕ))
-          → after refusal store sound (soFar bs) (callsOf refusal store sound ps p more) ≡ readWhole refusal store s (bs ++ (joined ps ++ p))
+          → afterCalls refusal store sound (soFar bs) (callsOf ps p more) ≡ readWhole refusal store s (bs ++ (allBytes ps ++ p))
       after-from bs [] =
-          ap (λ (k : Called S). after refusal store sound (k .reading) more) (one bs p true)
+          ap (λ (k : Called S). afterCalls refusal store sound (k .reading) more) (one bs p true)
           ∙ stays-after (readWhole refusal store s (bs ++ p)) (read-good true s 0 (bs ++ p) fresh)
           (whole-over refusal store s 0 (bs ++ p)) more
       after-from bs (q ∷ ps) =
-          ap (λ (k : Called S). after refusal store sound (k .reading) (callsOf refusal store sound ps p more)) (one bs q false)
+          ap (λ (k : Called S). afterCalls refusal store sound (k .reading) (callsOf ps p more)) (one bs q false)
           ∙ after-from (bs ++ q) ps ∙ ap (readWhole refusal store s) (simp append-assoc)
 
       abbrev wholes : List ℕ → List (ℕ × ℕ)
-      wholes bs = answered refusal store sound (readWhole refusal store s bs) ∷ replicate (length more) (answered refusal store sound (readWhole refusal store s bs))
+      wholes bs = answerAndPlace (readWhole refusal store s bs) ∷ replicate (length more) (answerAndPlace (readWhole refusal store s bs))
 
       answers-from : (bs : List ℕ) (ps : List (List ℕ))
-          → answers refusal store sound (soFar bs) (callsOf refusal store sound ps p more)
-          ≡ answersSoFar refusal store sound s bs ps ++ wholes (bs ++ (joined ps ++ p))
+          → answers refusal store sound (soFar bs) (callsOf ps p more)
+          ≡ answersSoFar refusal store sound s bs ps ++ wholes (bs ++ (allBytes ps ++ p))
       answers-from bs [] =
           ap (λ (k : Called S). (k .answer, k .place) ∷ answers refusal store sound (k .reading) more) (one bs p true)
-          ∙ ap (λ (l : List (ℕ × ℕ)). answered refusal store sound (readWhole refusal store s (bs ++ p)) ∷ l)
+          ∙ ap (λ (l : List (ℕ × ℕ)). answerAndPlace (readWhole refusal store s (bs ++ p)) ∷ l)
           (stays-answers (readWhole refusal store s (bs ++ p)) (read-good true s 0 (bs ++ p) fresh)
           (whole-over refusal store s 0 (bs ++ p)) more)
       answers-from bs (q ∷ ps) =
-          ap (λ (k : Called S). (k .answer, k .place) ∷ answers refusal store sound (k .reading) (callsOf refusal store sound ps p more)) (one bs q false)
-          ∙ ap (λ (l : List (ℕ × ℕ)). answered refusal store sound (soFar (bs ++ q)) ∷ l) (answers-from (bs ++ q) ps)
-          ∙ ap (λ (l : List ℕ). answered refusal store sound (soFar (bs ++ q)) ∷ (answersSoFar refusal store sound s (bs ++ q) ps ++ wholes l)) (simp append-assoc)
+          ap (λ (k : Called S). (k .answer, k .place) ∷ answers refusal store sound (k .reading) (callsOf ps p more)) (one bs q false)
+          ∙ ap (λ (l : List (ℕ × ℕ)). answerAndPlace (soFar (bs ++ q)) ∷ l) (answers-from (bs ++ q) ps)
+          ∙ ap (λ (l : List ℕ). answerAndPlace (soFar (bs ++ q)) ∷ (answersSoFar refusal store sound s (bs ++ q) ps ++ wholes l)) (simp append-assoc)
 
       pub agrees : (ps : List (List ℕ)) → Agrees refusal store sound s ps p more
       agrees ps =
           let e : soFar [] ≡ waiting s 0 [] = read-few refusal store false s 0 [] (omega arith) in
           record {
-            reading = ap (λ (r : Reading S). after refusal store sound r (callsOf refusal store sound ps p more)) (sym e) ∙ after-from [] ps;
-            told-so = ap (λ (r : Reading S). answers refusal store sound r (callsOf refusal store sound ps p more)) (sym e) ∙ answers-from [] ps;
+            reading = ap (λ (r : Reading S). afterCalls refusal store sound r (callsOf ps p more)) (sym e) ∙ after-from [] ps;
+            told-so = ap (λ (r : Reading S). answers refusal store sound r (callsOf ps p more)) (sym e) ∙ answers-from [] ps;
           }
 
   -- after any calls, with any marks, a reading that began so is as good
@@ -122,7 +123,7 @@ module _ {S : Type 0} (refusal : ℕ → List ℕ → S → ℕ) (store : List �
       go true e = subst (λ (o : Bool). Good (cond o r (readAll refusal store last (r .sheets) (r .at) (r .rest ++ p)))) (sym e) g
       go false e = subst (λ (o : Bool). Good (cond o r (readAll refusal store last (r .sheets) (r .at) (r .rest ++ p)))) (sym e) (read-good last (r .sheets) (r .at) (r .rest ++ p) (g .fine))
 
-  pub after-good : (r : Reading S) (cs : List (List ℕ × Bool)) → Good r → Good (after refusal store sound r cs)
+  pub after-good : (r : Reading S) (cs : List (List ℕ × Bool)) → Good r → Good (afterCalls refusal store sound r cs)
   after-good r [] g = g
   after-good r (c ∷ cs) g =
       after-good (call refusal store sound r (c .0) (c .1) .reading) cs

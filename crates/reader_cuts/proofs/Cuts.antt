@@ -6,8 +6,9 @@ use mathlib.Core.List.{List, [], _∷_, _++_, append-assoc, append-nil}
 use Prim.Native.Nat.{ℕ, _+_}
 use native.Mathlib.Omega.{arith}
 use lib.ListN.{take}
-use Rattle.reader_cuts.specs.Reading.{lengthOf, Reading, waiting, ended, short, readAll, readWhole, feed, feeds}
-use Rattle.reader_cuts.specs.Called.{joined, unmarked}
+use Rattle.desk_log.specs.Record.{lengthTold}
+use Rattle.reader_cuts.specs.Reading.{Reading, waiting, ended, short, readAll, readWhole, feed, feeds}
+use Rattle.reader_cuts.specs.Called.{allBytes, unmarked}
 use Rattle.reader_cuts.proofs.Laws.{read-few, front-bad, front-refused, front-taken, every-reading}
 
 module _ {S : Type 0} (refusal : ℕ → List ℕ → S → ℕ) (store : List ℕ → S → S) where
@@ -36,18 +37,18 @@ module _ {S : Type 0} (refusal : ℕ → List ℕ → S → ℕ) (store : List �
       every-reading refusal store false (λ t k zs r. fd r ys last ≡ all last t k (zs ++ ys))
       (λ t k zs u. feed-waiting t k zs ys last)
       (λ t k zs h b. feed-over (ended 18 t k) ys last refl ∙ sym (front-bad refusal store last t k zs ys h b))
-      (λ t k zs h g w e. feed-over (ended (refusal k (take (lengthOf zs) zs) t) t k) ys last refl ∙ sym (front-refused refusal store last t k zs ys h g w e))
+      (λ t k zs h g w e. feed-over (ended (refusal k (take (lengthTold zs) zs) t) t k) ys last refl ∙ sym (front-refused refusal store last t k zs ys h g w e))
       (λ t k zs r h g w e ih. ih ∙ sym (front-taken refusal store last t k zs ys h g w e))
       s at xs
 
   -- after any parts that are not the last the reading is that of the bytes so far
-  so-far : (s : S) (bs : List ℕ) (ps : List (List ℕ)) → feeds refusal store (all false s 0 bs) (unmarked ps) ≡ all false s 0 (bs ++ joined ps)
+  so-far : (s : S) (bs : List ℕ) (ps : List (List ℕ)) → feeds refusal store (all false s 0 bs) (unmarked ps) ≡ all false s 0 (bs ++ allBytes ps)
   so-far s bs [] = ap (all false s 0) (sym (append-nil bs))
   so-far s bs (p ∷ ps) =
       ap (λ (r : Reading S). feeds refusal store r (unmarked ps)) (next-part false s 0 bs p) ∙ so-far s (bs ++ p) ps
-      ∙ ap (all false s 0) (append-assoc bs p (joined ps))
+      ∙ ap (all false s 0) (append-assoc bs p (allBytes ps))
 
-  pub parts-so-far : (s : S) (ps : List (List ℕ)) → feeds refusal store (waiting s 0 []) (unmarked ps) ≡ all false s 0 (joined ps)
+  pub parts-so-far : (s : S) (ps : List (List ℕ)) → feeds refusal store (waiting s 0 []) (unmarked ps) ≡ all false s 0 (allBytes ps)
   parts-so-far s ps =
       let e : all false s 0 [] ≡ waiting s 0 [] = read-few refusal store false s 0 [] (omega arith) in
       ap (λ (r : Reading S). feeds refusal store r (unmarked ps)) (sym e) ∙ so-far s [] ps
@@ -64,8 +65,8 @@ module _ {S : Type 0} (refusal : ℕ → List ℕ → S → ℕ) (store : List �
 
   -- any parts, the last marked, and any further ones with any marks
   pub cuts : (s : S) (ps : List (List ℕ)) (p : List ℕ) (more : List (List ℕ × Bool))
-      → feeds refusal store (feed refusal store (feeds refusal store (waiting s 0 []) (unmarked ps)) p true) more ≡ readWhole refusal store s (joined ps ++ p)
+      → feeds refusal store (feed refusal store (feeds refusal store (waiting s 0 []) (unmarked ps)) p true) more ≡ readWhole refusal store s (allBytes ps ++ p)
   cuts s ps p more =
-      let e = ap (λ (r : Reading S). fd r p true) (parts-so-far s ps) ∙ next-part true s 0 (joined ps) p in
+      let e = ap (λ (r : Reading S). fd r p true) (parts-so-far s ps) ∙ next-part true s 0 (allBytes ps) p in
       ap (λ (r : Reading S). feeds refusal store r more) e
-      ∙ feeds-over (readWhole refusal store s (joined ps ++ p)) more (whole-over s 0 (joined ps ++ p))
+      ∙ feeds-over (readWhole refusal store s (allBytes ps ++ p)) more (whole-over s 0 (allBytes ps ++ p))

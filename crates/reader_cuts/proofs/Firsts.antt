@@ -9,8 +9,8 @@ use native.Mathlib.Omega.{arith}
 use borrow.Author.Tests.{lt-ltb, le-ltb, ltb-true, ltb-false, eqb-true, eqb-false}
 use lib.Dec.{ltb, eqb}
 use lib.ListN.{length, take, drop}
-use Rattle.desk_log.specs.Record.{headLength}
-use Rattle.reader_cuts.specs.Reading.{lengthLeast, lengthMost, lengthOf, badLength, undecided, ended, short, readAll}
+use Rattle.desk_log.specs.Record.{headLength, lengthTold}
+use Rattle.reader_cuts.specs.Reading.{lengthLeast, lengthMost, badLength, undecided, ended, short, readAll}
 use Rattle.reader_cuts.specs.First.{First, stays, firstOf}
 use Rattle.reader_cuts.proofs.Laws.{good-length, read-few, read-part, front-bad, front-refused, front-taken, Look, look, few, bad, part, refused, taken, undecided-few, undecided-part}
 
@@ -24,25 +24,25 @@ module _ {S : Type 0} (refusal : ℕ → List ℕ → S → ℕ) (store : List �
   first-few h = rw (lt-ltb (length bs) headLength h)
 
   module _ (h : headLength ≤ length bs) where
-    pub first-bad : badLength (lengthOf bs) ≡ true → firstOf refusal store s at bs ≡ stays 18 s at
+    pub first-bad : badLength (lengthTold bs) ≡ true → firstOf refusal store s at bs ≡ stays 18 s at
     unfolding firstOf
     first-bad b = rw (le-ltb (length bs) headLength h, b)
 
-    module _ (g : badLength (lengthOf bs) ≡ false) where
-      pub first-part : length bs < lengthOf bs → firstOf refusal store s at bs ≡ stays 0 s at
+    module _ (g : badLength (lengthTold bs) ≡ false) where
+      pub first-part : length bs < lengthTold bs → firstOf refusal store s at bs ≡ stays 0 s at
       unfolding firstOf
-      first-part l = rw (le-ltb (length bs) headLength h, g, lt-ltb (length bs) (lengthOf bs) l)
+      first-part l = rw (le-ltb (length bs) headLength h, g, lt-ltb (length bs) (lengthTold bs) l)
 
-      module _ (w : lengthOf bs ≤ length bs) where
-        pub first-refused : eqb (refusal at (take (lengthOf bs) bs) s) 0 ≡ false
-            → firstOf refusal store s at bs ≡ stays (refusal at (take (lengthOf bs) bs) s) s at
+      module _ (w : lengthTold bs ≤ length bs) where
+        pub first-refused : eqb (refusal at (take (lengthTold bs) bs) s) 0 ≡ false
+            → firstOf refusal store s at bs ≡ stays (refusal at (take (lengthTold bs) bs) s) s at
         unfolding firstOf
-        first-refused e = rw (le-ltb (length bs) headLength h, g, le-ltb (length bs) (lengthOf bs) w, e)
+        first-refused e = rw (le-ltb (length bs) headLength h, g, le-ltb (length bs) (lengthTold bs) w, e)
 
-        pub first-taken : eqb (refusal at (take (lengthOf bs) bs) s) 0 ≡ true → firstOf refusal store s at bs
-            ≡ record { bytes = lengthOf bs; answer = 0; sheets = store (take (lengthOf bs) bs) s; at = at + lengthOf bs }
+        pub first-taken : eqb (refusal at (take (lengthTold bs) bs) s) 0 ≡ true → firstOf refusal store s at bs
+            ≡ record { bytes = lengthTold bs; answer = 0; sheets = store (take (lengthTold bs) bs) s; at = at + lengthTold bs }
         unfolding firstOf
-        first-taken e = rw (le-ltb (length bs) headLength h, g, le-ltb (length bs) (lengthOf bs) w, e)
+        first-taken e = rw (le-ltb (length bs) headLength h, g, le-ltb (length bs) (lengthTold bs) w, e)
 
 -- what reading does, by the first record
 pub record Goes {S : Type 0} (refusal : ℕ → List ℕ → S → ℕ) (store : List ℕ → S → S) (s : S) (at : ℕ) (bs : List ℕ) (f : First S) : Type 0 where
@@ -60,7 +60,7 @@ pub record Goes {S : Type 0} (refusal : ℕ → List ℕ → S → ℕ) (store :
   pub took : (f .bytes ≡ 0 → ⊥) → (lengthLeast ≤ f .bytes) × (f .bytes ≤ lengthMost) × (refusal at (take (f .bytes) bs) s ≡ 0) × (f .sheets ≡ store (take (f .bytes) bs) s)
       × (f .at ≡ at + f .bytes)
   pub took-0 : (f .bytes ≡ 0 → ⊥) → f .answer ≡ 0
-  pub told : (f .bytes ≡ 0 → ⊥) → f .bytes ≡ lengthOf bs
+  pub told : (f .bytes ≡ 0 → ⊥) → f .bytes ≡ lengthTold bs
 
 pub first-goes : {S : Type 0} (refusal : ℕ → List ℕ → S → ℕ) (store : List ℕ → S → S) (s : S) (at : ℕ) (bs : List ℕ)
     → Goes refusal store s at bs (firstOf refusal store s at bs)
@@ -96,9 +96,9 @@ first-goes {S = S} refusal store s at bs = go (look refusal s at bs)
     go (part l q w) = rw (first-part refusal store s at bs l q w) (stay-0 (undecided-part bs q w))
     go (refused l q w e) =
         rw (first-refused refusal store s at bs l q w e)
-        (stay-so (refusal at (take (lengthOf bs) bs) s) (eqb-false (refusal at (take (lengthOf bs) bs) s) 0 e) (λ last more. front-refused refusal store last s at bs more l q w e))
+        (stay-so (refusal at (take (lengthTold bs) bs) s) (eqb-false (refusal at (take (lengthTold bs) bs) s) 0 e) (λ last more. front-refused refusal store last s at bs more l q w e))
     go (taken l q w e) =
-        let k = good-length (lengthOf bs) q in
+        let k = good-length (lengthTold bs) q in
         rw (first-taken refusal store s at bs l q w e)
         (record {
           none = λ z. absurd (omega (arith, z, k .0));
@@ -106,7 +106,7 @@ first-goes {S = S} refusal store s at bs = go (look refusal s at bs)
           stops = λ last more ne. absurd (ne refl);
           goes = λ last more ne. front-taken refusal store last s at bs more l q w e;
           within = w;
-          took = λ ne. (k .0, k .1, eqb-true (refusal at (take (lengthOf bs) bs) s) 0 e, refl, refl);
+          took = λ ne. (k .0, k .1, eqb-true (refusal at (take (lengthTold bs) bs) s) 0 e, refl, refl);
           took-0 = λ ne. refl;
           told = λ ne. refl;
         })
@@ -115,33 +115,33 @@ first-goes {S = S} refusal store s at bs = go (look refusal s at bs)
 pub read-undecided : {S : Type 0} (refusal : ℕ → List ℕ → S → ℕ) (store : List ℕ → S → S) (last : Bool) (s : S) (at : ℕ) (bs : List ℕ) → undecided bs ≡ true
     → readAll refusal store last s at bs ≡ short last s at bs
 unfolding undecided
-read-undecided refusal store last s at bs e = go (ltb (length bs) headLength) (badLength (lengthOf bs)) (ltb (length bs) (lengthOf bs)) refl refl refl
+read-undecided refusal store last s at bs e = go (ltb (length bs) headLength) (badLength (lengthTold bs)) (ltb (length bs) (lengthTold bs)) refl refl refl
   where
-    go : (a b c : Bool) → ltb (length bs) headLength ≡ a → badLength (lengthOf bs) ≡ b → ltb (length bs) (lengthOf bs) ≡ c → readAll refusal store last s at bs ≡ short last s at bs
+    go : (a b c : Bool) → ltb (length bs) headLength ≡ a → badLength (lengthTold bs) ≡ b → ltb (length bs) (lengthTold bs) ≡ c → readAll refusal store last s at bs ≡ short last s at bs
     go true b c p q r = read-few refusal store last s at bs (ltb-true (length bs) headLength p)
-    go false false true p q r = read-part refusal store last s at bs (ltb-false (length bs) headLength p) q (ltb-true (length bs) (lengthOf bs) r)
+    go false false true p q r = read-part refusal store last s at bs (ltb-false (length bs) headLength p) q (ltb-true (length bs) (lengthTold bs) r)
     go false true c p q r = let z = simp (p, q) at e in absurd (false≢true z)
     go false false false p q r = let z = simp (p, q, r) at e in absurd (false≢true z)
 
 -- as many bytes as a longest record has decide one
 pub undecided-short : (bs : List ℕ) → undecided bs ≡ true → length bs < lengthMost
 unfolding undecided
-undecided-short bs e = go (ltb (length bs) headLength) (badLength (lengthOf bs)) (ltb (length bs) (lengthOf bs)) refl refl refl
+undecided-short bs e = go (ltb (length bs) headLength) (badLength (lengthTold bs)) (ltb (length bs) (lengthTold bs)) refl refl refl
   where
-    go : (a b c : Bool) → ltb (length bs) headLength ≡ a → badLength (lengthOf bs) ≡ b → ltb (length bs) (lengthOf bs) ≡ c → length bs < lengthMost
+    go : (a b c : Bool) → ltb (length bs) headLength ≡ a → badLength (lengthTold bs) ≡ b → ltb (length bs) (lengthTold bs) ≡ c → length bs < lengthMost
     go true b c p q r = omega (arith, ltb-true (length bs) headLength p)
-    go false false true p q r = let g = good-length (lengthOf bs) q in omega (arith, g .1, ltb-true (length bs) (lengthOf bs) r)
+    go false false true p q r = let g = good-length (lengthTold bs) q in omega (arith, g .1, ltb-true (length bs) (lengthTold bs) r)
     go false true c p q r = let z = simp (p, q) at e in absurd (false≢true z)
     go false false false p q r = let z = simp (p, q, r) at e in absurd (false≢true z)
 
 -- bytes that do not decide a record are fewer than six or than its length
-pub undecided-less : (bs : List ℕ) → undecided bs ≡ true → (length bs < headLength) ⊎ (length bs < lengthOf bs)
+pub undecided-less : (bs : List ℕ) → undecided bs ≡ true → (length bs < headLength) ⊎ (length bs < lengthTold bs)
 unfolding undecided
-undecided-less bs e = go (ltb (length bs) headLength) (badLength (lengthOf bs)) (ltb (length bs) (lengthOf bs)) refl refl refl
+undecided-less bs e = go (ltb (length bs) headLength) (badLength (lengthTold bs)) (ltb (length bs) (lengthTold bs)) refl refl refl
   where
-    go : (a b c : Bool) → ltb (length bs) headLength ≡ a → badLength (lengthOf bs) ≡ b → ltb (length bs) (lengthOf bs) ≡ c
-        → (length bs < headLength) ⊎ (length bs < lengthOf bs)
+    go : (a b c : Bool) → ltb (length bs) headLength ≡ a → badLength (lengthTold bs) ≡ b → ltb (length bs) (lengthTold bs) ≡ c
+        → (length bs < headLength) ⊎ (length bs < lengthTold bs)
     go true b c p q r = inl (ltb-true (length bs) headLength p)
-    go false b true p q r = inr (ltb-true (length bs) (lengthOf bs) r)
+    go false b true p q r = inr (ltb-true (length bs) (lengthTold bs) r)
     go false true false p q r = let z = simp (p, q, r) at e in absurd (false≢true z)
     go false false false p q r = let z = simp (p, q, r) at e in absurd (false≢true z)

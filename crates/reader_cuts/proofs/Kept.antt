@@ -11,8 +11,8 @@ use borrow.Author.Tests.{ltb-true, ltb-false}
 use lib.Dec.{ltb}
 use lib.ListN.{length, take, drop, length-append, take-append-drop}
 use lib.Seq.{take-all, length-take-le, drop-append-le, drop-append-add}
-use Rattle.desk_log.specs.Record.{headLength}
-use Rattle.reader_cuts.specs.Reading.{lengthLeast, lengthMost, lengthOf, undecided, ended, short, readAll}
+use Rattle.desk_log.specs.Record.{headLength, lengthTold}
+use Rattle.reader_cuts.specs.Reading.{lengthLeast, lengthMost, undecided, ended, short, readAll}
 use Rattle.reader_cuts.specs.First.{First}
 use Rattle.reader_cuts.proofs.Laws.{length-front}
 use Rattle.reader_cuts.proofs.Firsts.{Goes, read-undecided, undecided-short, undecided-less}
@@ -58,7 +58,7 @@ module _ {S : Type 0} (refusal : ℕ → List ℕ → S → ℕ) (store : List �
             six : headLength ≤ length xs
             six = ltb-false (length xs) headLength p
 
-            pick : (length xs < headLength) ⊎ (length xs < lengthOf xs) → length xs < f .bytes
+            pick : (length xs < headLength) ⊎ (length xs < lengthTold xs) → length xs < f .bytes
             pick (inl l) = omega (arith, l, six)
             pick (inr l) = let e = g .told ne ∙ length-front xs (take m part) six in omega (arith, e, l)
 

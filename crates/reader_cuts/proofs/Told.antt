@@ -9,8 +9,8 @@ use native.Mathlib.Omega.{arith}
 use lib.Dec.{eqb}
 use lib.ListN.{length, take, drop, take-append-drop, drop-of-length-le}
 use lib.Seq.{length-take-le, take-add, take-all}
-use Rattle.desk_log.specs.Record.{headLength}
-use Rattle.reader_cuts.specs.Reading.{lengthOf, badLength, undecided, Reading, ended, short, readAll}
+use Rattle.desk_log.specs.Record.{headLength, lengthTold}
+use Rattle.reader_cuts.specs.Reading.{badLength, undecided, Reading, ended, short, readAll}
 use Rattle.reader_cuts.proofs.Laws.{good-length, length-front, read-few, front-taken, undecided-few, every-reading}
 
 module _ {S : Type 0} (refusal : ℕ → List ℕ → S → ℕ) (store : List ℕ → S → S) where
@@ -24,7 +24,7 @@ module _ {S : Type 0} (refusal : ℕ → List ℕ → S → ℕ) (store : List �
   pub no-20-before : ((at : ℕ) (r : List ℕ) (s : S) → refusal at r s ≡ 20 → ⊥) → (s : S) (at : ℕ) (bs : List ℕ) → readAll refusal store false s at bs .answer ≡ 20 → ⊥
   no-20-before no20 s at bs =
       every-reading refusal store false (λ t k cs r. r .answer ≡ 20 → ⊥) (λ t k cs u e. omega arith) (λ t k cs h q e. omega arith)
-      (λ t k cs h g w q e. no20 k (take (lengthOf cs) cs) t e) (λ t k cs r h g w z p. p) s at bs
+      (λ t k cs h g w q e. no20 k (take (lengthTold cs) cs) t e) (λ t k cs r h g w z p. p) s at bs
 
   -- "After a refusal the sheets hold the records before it": they are those of the bytes before its place, which are read with 0
   pub record Before (s : S) (at : ℕ) (bs : List ℕ) (r : Reading S) : Type 0 where
@@ -46,30 +46,30 @@ module _ {S : Type 0} (refusal : ℕ → List ℕ → S → ℕ) (store : List �
       every-reading refusal store last Before (λ t k cs u. before-short last t k cs) (λ t k cs h q. record { later = omega arith; sheets = before-none t k cs })
       (λ t k cs h g w q. record { later = omega arith; sheets = before-none t k cs }) more s at bs
     where
-      more : (s : S) (at : ℕ) (bs : List ℕ) (r : Reading S) → headLength ≤ length bs → badLength (lengthOf bs) ≡ false → lengthOf bs ≤ length bs
-          → eqb (refusal at (take (lengthOf bs) bs) s) 0 ≡ true
-          → Before (store (take (lengthOf bs) bs) s) (at + lengthOf bs) (drop (lengthOf bs) bs) r → Before s at bs r
+      more : (s : S) (at : ℕ) (bs : List ℕ) (r : Reading S) → headLength ≤ length bs → badLength (lengthTold bs) ≡ false → lengthTold bs ≤ length bs
+          → eqb (refusal at (take (lengthTold bs) bs) s) 0 ≡ true
+          → Before (store (take (lengthTold bs) bs) s) (at + lengthTold bs) (drop (lengthTold bs) bs) r → Before s at bs r
       more s at bs r h g w z p =
-          let n : ℕ = lengthOf bs in
+          let n : ℕ = lengthTold bs in
           let x : List ℕ = take n bs in
           let k : ℕ = r .at - (at + n) in
           let y : List ℕ = take k (drop n bs) in
           let gl = good-length n g in
           let l : length x ≡ n = length-take-le n bs w in
           let six : headLength ≤ length x = omega (arith, l) in
-          let q : lengthOf x ≡ n = sym (length-front x (drop n bs) six) ∙ ap lengthOf (take-append-drop n bs) in
-          let xx : take (lengthOf x) x ≡ x = take-all (lengthOf x) x (omega (arith, q, l)) in
-          let none : drop (lengthOf x) x ≡ [] = drop-of-length-le x {i = lengthOf x} (omega (arith, q, l)) in
+          let q : lengthTold x ≡ n = sym (length-front x (drop n bs) six) ∙ ap lengthTold (take-append-drop n bs) in
+          let xx : take (lengthTold x) x ≡ x = take-all (lengthTold x) x (omega (arith, q, l)) in
+          let none : drop (lengthTold x) x ≡ [] = drop-of-length-le x {i = lengthTold x} (omega (arith, q, l)) in
           let sum : r .at - at ≡ n + k = omega (arith, p .later) in
           let split : take (r .at - at) bs ≡ x ++ y
           = ap (λ (m : ℕ). take m bs) (sum) ∙ take-add n k bs in
-          let ok : eqb (refusal at (take (lengthOf x) x) s) 0 ≡ true = rw xx z in
-          let bl : badLength (lengthOf x) ≡ false = rw q g in
+          let ok : eqb (refusal at (take (lengthTold x) x) s) 0 ≡ true = rw xx z in
+          let bl : badLength (lengthTold x) ≡ false = rw q g in
           record {
             later = omega (arith, p .later);
             sheets = ap (readAll refusal store true s at) split ∙ front-taken refusal store true s at x y six bl (omega (arith, q, l)) ok
-                ∙ ap (λ (u : List ℕ). readAll refusal store true (store u s) (at + lengthOf x) (drop (lengthOf x) x ++ y)) xx
-                ∙ ap (λ (u : List ℕ). readAll refusal store true (store x s) (at + lengthOf x) (u ++ y)) none
+                ∙ ap (λ (u : List ℕ). readAll refusal store true (store u s) (at + lengthTold x) (drop (lengthTold x) x ++ y)) xx
+                ∙ ap (λ (u : List ℕ). readAll refusal store true (store x s) (at + lengthTold x) (u ++ y)) none
                 ∙ ap (λ (m : ℕ). readAll refusal store true (store x s) (at + m) y) q ∙ p .sheets;
           }
 
@@ -92,4 +92,4 @@ module _ {S : Type 0} (refusal : ℕ → List ℕ → S → ℕ) (store : List �
   answers-known ok last s at bs =
       every-reading refusal store last (λ t k cs r. Known r) (λ t k cs u. known-short last t k cs u)
       (λ t k cs h q. record { going = λ e. absurd (false≢true (sym e)); known = inr (omega arith, omega arith); waits = none-waits })
-      (λ t k cs h g w q. record { going = λ e. absurd (false≢true (sym e)); known = ok k (take (lengthOf cs) cs) t; waits = none-waits }) (λ t k cs r h g w z p. p) s at bs
+      (λ t k cs h g w q. record { going = λ e. absurd (false≢true (sym e)); known = ok k (take (lengthTold cs) cs) t; waits = none-waits }) (λ t k cs r h g w z p. p) s at bs

@@ -6,8 +6,8 @@ use mathlib.Core.Bool.{cond}
 use mathlib.Core.List.{List}
 use lib.Dec.{ltb, eqb}
 use lib.ListN.{length, take}
-use Rattle.desk_log.specs.Record.{headLength}
-use Rattle.reader_cuts.specs.Reading.{lengthOf, badLength}
+use Rattle.desk_log.specs.Record.{headLength, lengthTold}
+use Rattle.reader_cuts.specs.Reading.{badLength}
 
 -- how many bytes were taken, 0 where no record was; the answer; the sheets, and where the next record starts
 pub record First (S : Type 0) : Type 0 where
@@ -24,7 +24,7 @@ module _ {S : Type 0} (refusal : ℕ → List ℕ → S → ℕ) (store : List �
   -- the first record of bs, which starts at `at`, by the tests of specs/Reading.antt
   unfoldable pub firstOf : S → ℕ → List ℕ → First S
   firstOf s at bs =
-      let n : ℕ = lengthOf bs in
+      let n : ℕ = lengthTold bs in
       let r : List ℕ = take n bs in
       cond (ltb (length bs) headLength) (stays 0 s at)
       (cond (badLength n) (stays 18 s at)

@@ -1,12 +1,12 @@
 -- Reading a log, whole or in parts (document 02, No. 10), for any sheets S and any judgement of a whole record:
 -- `refusal at r s` is 0, or the number (18, 19) with which the record r that starts at byte `at` is refused; `store r s` are the sheets with it.
 -- Assumes nothing.
-use Prim.Native.Nat.{ℕ, zero, suc, _+_, _*_}
+use Prim.Native.Nat.{ℕ, zero, suc, _+_}
 use mathlib.Core.Bool.{Bool, true, false, cond, not, _&&_, _||_}
 use mathlib.Core.List.{List, [], _∷_, _++_}
 use lib.Dec.{ltb, eqb}
-use lib.ListN.{length, getD, take, drop}
-use Rattle.desk_log.specs.Record.{headLength}
+use lib.ListN.{length, take, drop}
+use Rattle.desk_log.specs.Record.{headLength, lengthTold}
 
 -- "length is 7 to 206"
 abbrev pub lengthLeast : ℕ
@@ -15,16 +15,12 @@ lengthLeast = 7
 abbrev pub lengthMost : ℕ
 lengthMost = 206
 
--- what a record says of its length: its first two bytes, little-endian
-unfoldable pub lengthOf : List ℕ → ℕ
-lengthOf bs = getD bs 0 0 + 256 * getD bs 1 0
-
 abbrev pub badLength : ℕ → Bool
 badLength n = ltb n lengthLeast || ltb lengthMost n
 
 -- not "kept bytes that already decide a record": six decide a bad length, and as many as the length says decide the rest
 unfoldable pub undecided : List ℕ → Bool
-undecided bs = ltb (length bs) headLength || (not (badLength (lengthOf bs)) && ltb (length bs) (lengthOf bs))
+undecided bs = ltb (length bs) headLength || (not (badLength (lengthTold bs)) && ltb (length bs) (lengthTold bs))
 
 -- where the reading stands
 pub record Reading (S : Type 0) : Type 0 where
@@ -55,8 +51,8 @@ short true s at (b ∷ bs) = ended 20 s at
 abbrev pub placeFor : ℕ → ℕ → ℕ
 placeFor a at = cond (eqb a 0) 0 at
 
-abbrev pub placeOf : {S : Type 0} → Reading S → ℕ
-placeOf r = placeFor (r .answer) (r .at)
+abbrev pub placeAnswered : {S : Type 0} → Reading S → ℕ
+placeAnswered r = placeFor (r .answer) (r .at)
 
 module _ {S : Type 0} (refusal : ℕ → List ℕ → S → ℕ) (store : List ℕ → S → S) where
   -- "For each record: fewer than six bytes left, 20; a bad length, 18; fewer bytes left than the length, 20; any other shape fault, 18; then 19".
@@ -64,7 +60,7 @@ module _ {S : Type 0} (refusal : ℕ → List ℕ → S → ℕ) (store : List �
   unfoldable pub readFrom : Bool → ℕ → S → ℕ → List ℕ → Reading S
   readFrom last zero s at bs = short last s at bs
   readFrom last (suc fuel) s at bs =
-      let n : ℕ = lengthOf bs in
+      let n : ℕ = lengthTold bs in
       let r : List ℕ = take n bs in
       cond (ltb (length bs) headLength) (short last s at bs)
       (cond (badLength n) (ended 18 s at)

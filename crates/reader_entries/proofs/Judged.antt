@@ -15,7 +15,8 @@ use Rattle.desk_entries.specs.Entry.{openTo, ownItem}
 use Rattle.desk_entries.specs.Lent.{EntryLent}
 use Rattle.desk_entries.proofs.Camps.{open-lent}
 use Rattle.reader_records.proofs.Shapes.{shaped-parts, shaped-item}
-use Rattle.reader_records.specs.Shape.{benchTold, itemTold, valueTold, shaped}
+use Rattle.desk_log.specs.Record.{benchTold, itemTold, valueTold}
+use Rattle.reader_records.specs.Shape.{shaped}
 use Rattle.reader_entries.specs.Judged.{refusalOf, storeOf}
 use Rattle.reader_entries.specs.Lent.{RecordLent}
 

@@ -21,7 +21,8 @@ use Rattle.desk_entries.proofs.Camps.{sheet-in}
 use Rattle.desk_entries.proofs.Items.{fitting}
 use Rattle.desk_entries.proofs.Sounds as entries
 use Rattle.reader_cuts.specs.Reading.{lengthLeast}
-use Rattle.reader_records.specs.Shape.{benchTold, itemTold, valueTold, shaped}
+use Rattle.desk_log.specs.Record.{benchTold, itemTold, valueTold}
+use Rattle.reader_records.specs.Shape.{shaped}
 use Rattle.reader_records.proofs.Shapes.{shaped-parts}
 use Rattle.reader_entries.specs.Judged.{refusalOf, storeOf, soundAt}
 use Rattle.reader_entries.proofs.Judged.{taken-shaped}

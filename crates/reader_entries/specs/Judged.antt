@@ -8,7 +8,8 @@ use Rattle.desk_soundness.specs.Sound.{soundDesk}
 use Rattle.desk_soundness.specs.SoundLog.{logMost, soundLog}
 use Rattle.desk_entries.specs.Entry.{withEntryOn, openTo, ownItem}
 use Rattle.reader_cuts.specs.Reading.{Reading, readAll}
-use Rattle.reader_records.specs.Shape.{benchTold, itemTold, valueTold, shaped}
+use Rattle.desk_log.specs.Record.{benchTold, itemTold, valueTold}
+use Rattle.reader_records.specs.Shape.{shaped}
 
 -- "any other shape fault, 18; then 19": a record that starts at a byte of the log is taken if it has a record's shape "and the item is unowned or owned by that
 -- bench"; "Logs from before No. 8 may hold foreign overwrites; within one sheet those get 19": the item is that of the bench's own sheet

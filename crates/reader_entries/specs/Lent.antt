@@ -7,7 +7,7 @@ use mathlib.Core.List.{List}
 use lib.ListN.{length}
 use Rattle.desk_memory.specs.Memory.{isDesk, deskOf, usedOf}
 use Rattle.desk_entries.specs.Lent.{takes}
-use Rattle.reader_records.specs.Shape.{benchTold, itemTold, valueTold}
+use Rattle.desk_log.specs.Record.{benchTold, itemTold, valueTold}
 use Rattle.reader_entries.specs.Judged.{refusalOf, storeOf}
 
 -- a record r that starts at the used number of texts t and numbers n, which gets the answer a and leaves t′ and n′

@@ -6,7 +6,7 @@ use mathlib.Core.List.{List}
 use lib.ListN.{length}
 use Rattle.desk_state.specs.declared.desk.Desk.{Desk}
 use Rattle.reader_cuts.specs.Reading.{Reading, placeFor}
-use Rattle.reader_memory.specs.Memory.{overWith, keptOf, stateOf, holding, standing}
+use Rattle.reader_memory.specs.Memory.{overWith, keptOf, stateNumbers, holding, standing}
 
 pub record Left : Type 0 where
   pub answer : ℕ
@@ -21,7 +21,7 @@ left a place d used k z = record { answer = a; place = place; desk = d; used = u
 
 -- a reading: the used number is where the record starts that is refused or not yet decided, and the end of all records where all was read
 abbrev pub leftAs : Reading Desk → Left
-leftAs r = left (r .answer) (placeFor (r .answer) (r .at)) (r .sheets) (r .at) (keptOf r) (stateOf r)
+leftAs r = left (r .answer) (placeFor (r .answer) (r .at)) (r .sheets) (r .at) (keptOf r) (stateNumbers r)
 
 -- the same in memory that holds k and z, of any lengths
 abbrev pub leftIn : List ℕ → List ℕ → Reading Desk → Left

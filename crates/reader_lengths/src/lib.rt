@@ -1,7 +1,8 @@
 // The length that a record of a log tells, and whether the record's bytes so far decide it (document 02, No. 10).
 ghost use mathlib.Core.Path.{_≡_};
 ghost use Prim.Native.Nat.{_<_};
-ghost use Rattle.reader_cuts.specs.Reading.{lengthOf, badLength, undecided};
+ghost use Rattle.desk_log.specs.Record.{lengthTold};
+ghost use Rattle.reader_cuts.specs.Reading.{badLength, undecided};
 use desk_log::HEAD;
 
 // The shortest record that is read, and the longest.
@@ -17,7 +18,7 @@ fn wide(b: u8) -> usize
 
 // What the first bytes of a record tell of its length.
 pub fn length_told(bs: &[u8]) -> usize
-    ensures { λ r. ⌜ (r ≡ lengthOf (now (bs .entry))) × (r < 65536) ⌝ }
+    ensures { λ r. ⌜ (r ≡ lengthTold (now (bs .entry))) × (r < 65536) ⌝ }
 {
     if bs.len() < 1 {
         return 0;

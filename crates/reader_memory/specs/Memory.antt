@@ -46,8 +46,8 @@ paddedKept bs = bs ++ replicate (readerKept - length bs) 0
 abbrev pub keptOf : {S : Type 0} → Reading S → List ℕ
 keptOf r = paddedKept (r .rest)
 
-abbrev pub stateOf : {S : Type 0} → Reading S → List ℕ
-stateOf r = length (r .rest) ∷ cond (r .over) (overWith (r .answer)) 0 ∷ []
+abbrev pub stateNumbers : {S : Type 0} → Reading S → List ℕ
+stateNumbers r = length (r .rest) ∷ cond (r .over) (overWith (r .answer)) 0 ∷ []
 
 -- ---- what the code writes
 

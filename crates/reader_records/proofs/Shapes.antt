@@ -12,10 +12,10 @@ use Rattle.text.proofs.Bools.{and-both, not-holds}
 use Rattle.line_kinds.specs.Kinds.{passes, fits}
 use Rattle.line_kinds.proofs.Passes.{passes-known}
 use Rattle.line_items.specs.Items.{itemCount}
-use Rattle.desk_log.specs.Record.{headLength}
+use Rattle.desk_log.specs.Record.{headLength, benchTold, itemTold, valueTold}
 use Rattle.desk_state.specs.Desks.{benchCount}
 use Rattle.desk_soundness.specs.SoundLog.{logMost}
-use Rattle.reader_records.specs.Shape.{benchTold, itemTold, valueTold, shaped}
+use Rattle.reader_records.specs.Shape.{shaped}
 
 -- the tests of the shape, one by one
 pub record Shaped (start : ℕ) (r : List ℕ) : Type 0 where

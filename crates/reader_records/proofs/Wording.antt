@@ -15,12 +15,12 @@ use Rattle.line_items.specs.Items.{itemRow}
 use Rattle.line_items.specs.Typed.{lineMost, isTyped}
 use Rattle.line_kinds.specs.Kinds.{passes, fits}
 use Rattle.line_kinds.proofs.Wording.{passes-is, passes-taken}
-use Rattle.desk_log.specs.Record.{headLength, recordLength, recordOf}
+use Rattle.desk_log.specs.Record.{headLength, recordLength, recordOf, lengthTold, benchTold, itemTold, valueTold}
 use Rattle.desk_state.specs.Desks.{benchCount}
 use Rattle.desk_soundness.specs.SoundLog.{logMost}
-use Rattle.reader_cuts.specs.Reading.{lengthOf, badLength}
+use Rattle.reader_cuts.specs.Reading.{badLength}
 use Rattle.reader_cuts.proofs.Laws.{good-length, length-good}
-use Rattle.reader_records.specs.Shape.{benchTold, itemTold, valueTold, shaped}
+use Rattle.reader_records.specs.Shape.{shaped}
 use Rattle.reader_records.specs.Wording.{IsRecord}
 use Rattle.reader_records.proofs.Shapes.{shaped-parts, fits-known}
 
@@ -43,9 +43,9 @@ high-byte : (a b n : ℕ) → a + 256 * b ≡ n → n < 256 → b ≡ n / 256 % 
 high-byte a b n e h = omega arith
 
 -- a record that is as long as it tells, with a good length, is the record of what it tells
-is-record-of : (r : List ℕ) → lengthOf r ≡ length r → badLength (length r) ≡ false → getD r 2 0 ≡ 1 → getD r 3 0 ≡ 0
+is-record-of : (r : List ℕ) → lengthTold r ≡ length r → badLength (length r) ≡ false → getD r 2 0 ≡ 1 → getD r 3 0 ≡ 0
     → r ≡ recordOf (benchTold r) (itemTold r) (valueTold r)
-unfolding lengthOf
+unfolding lengthTold
 is-record-of r e g k z =
     let good = good-length (length r) g in
     let s = six r (omega arith) in
@@ -61,7 +61,7 @@ is-record-of r e g k z =
 
 module _ (start : ℕ) (r : List ℕ) where
   -- a record of good length and shape is one in the request's words
-  pub shape-is : lengthOf r ≡ length r → badLength (length r) ≡ false → shaped start r ≡ true → IsRecord start r (benchTold r) (itemTold r) (valueTold r)
+  pub shape-is : lengthTold r ≡ length r → badLength (length r) ≡ false → shaped start r ≡ true → IsRecord start r (benchTold r) (itemTold r) (valueTold r)
   unfolding fits
   shape-is e g h =
       let p = shaped-parts start r h in
@@ -87,7 +87,7 @@ module _ (start : ℕ) (r : List ℕ) where
 
   -- what the tests say of a record in the request's words
   pub record Tells (bench item : ℕ) (value : List ℕ) : Type 0 where
-    pub length-told : lengthOf r ≡ length r
+    pub length-told : lengthTold r ≡ length r
     pub good : badLength (length r) ≡ false
     pub shape : shaped start r ≡ true
     pub of-bench : benchTold r ≡ bench
@@ -96,12 +96,12 @@ module _ (start : ℕ) (r : List ℕ) where
 
 -- and the other way: a record in the request's words passes the tests, and tells its bench, item and value
 pub shape-taken : (start : ℕ) (r : List ℕ) (bench item : ℕ) (v : List ℕ) → IsRecord start r bench item v → Tells start r bench item v
-unfolding fits shaped lengthOf
+unfolding fits shaped lengthTold
 shape-taken start r bench item v h =
     let x : List ℕ = recordOf bench item v in
     let e : r ≡ x = h .bytes in
     let l : length r ≡ recordLength v = ap length e ∙ omega arith in
-    let told : lengthOf x ≡ length x = omega (arith, h .most, l) in
+    let told : lengthTold x ≡ length x = omega (arith, h .most, l) in
     let fit : fits item v ≡ true = simp (
       passes-taken item v (h .first) (h .last) (h .kind),
       value-taken v (h .form),

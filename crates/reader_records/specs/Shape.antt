@@ -5,21 +5,11 @@ use Prim.Native.Nat.{ℕ, _+_}
 use mathlib.Core.Bool.{Bool, _&&_}
 use mathlib.Core.List.{List}
 use lib.Dec.{ltb, leb, eqb}
-use lib.ListN.{length, getD, drop}
+use lib.ListN.{length, getD}
 use Rattle.line_kinds.specs.Kinds.{fits}
-use Rattle.desk_log.specs.Record.{headLength}
+use Rattle.desk_log.specs.Record.{benchTold, itemTold, valueTold}
 use Rattle.desk_state.specs.Desks.{benchCount}
 use Rattle.desk_soundness.specs.SoundLog.{logMost}
-
--- what a record tells: its bench, its item, its value (document 01, "The log")
-abbrev pub benchTold : List ℕ → ℕ
-benchTold r = getD r 4 0
-
-abbrev pub itemTold : List ℕ → ℕ
-itemTold r = getD r 5 0
-
-abbrev pub valueTold : List ℕ → List ℕ
-valueTold r = drop headLength r
 
 -- "kind 1, bench 0 to 3, item known, the value well formed, of its kind, of bytes 32 to 126 and with its name and one space a line of at most 200, the record
 -- ends within the log's first 65,536 bytes": a whole record r that starts at a byte of the log, its length apart

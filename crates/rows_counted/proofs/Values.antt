@@ -10,11 +10,11 @@ use lib.Dec.{leb}
 use Rattle.text.proofs.Bools.{and-both}
 use Rattle.text.proofs.Tables.{agree}
 use Rattle.line_items.specs.Items.{itemCount, isItem}
-use Rattle.desk_state.specs.Sheets.{valueIn}
+use Rattle.desk_state.specs.Sheets.{valueIn, valueAt}
 use Rattle.desk_memory.specs.Memory.{itemIn, sheetFrom}
 use Rattle.desk_memory.proofs.Desks.{item-at}
 use Rattle.rows_counts.specs.Counts.{rules, ruleOf}
-use Rattle.rows_counted.specs.Items.{valueOf, ofItems}
+use Rattle.rows_counted.specs.Items.{ofItems}
 
 -- an item that is there has a place
 pub place-of : (item : ℕ) → isItem item ≡ true → (1 ≤ item) × (item - 1 < itemCount)
@@ -25,7 +25,7 @@ place-of item e =
     (some, omega arith)
 
 -- what is read there is its value
-pub value-read : (t n v : List ℕ) (item : ℕ) → isItem item ≡ true → v ≡ valueIn (itemIn t n (item - 1)) → v ≡ valueOf (sheetFrom t n) item
+pub value-read : (t n v : List ℕ) (item : ℕ) → isItem item ≡ true → v ≡ valueIn (itemIn t n (item - 1)) → v ≡ valueAt (sheetFrom t n) item
 value-read t n v item h e = e ∙ sym (ap valueIn (item-at t n (item - 1) (place-of item h .1)))
 
 -- each of three items that are there

@@ -4,7 +4,8 @@ ghost use mathlib.Core.Bool.{true};
 ghost use Rattle.line_items.specs.Items.{isItem};
 ghost use Rattle.desk_memory.specs.Memory.{sheetFrom};
 ghost use Rattle.rows_counts.specs.Counts.{ruleRow, countRow};
-ghost use Rattle.rows_counted.specs.Items.{valueOf, ofItems};
+ghost use Rattle.desk_state.specs.Sheets.{valueAt};
+ghost use Rattle.rows_counted.specs.Items.{ofItems};
 use rows::Row;
 use rows::make_row;
 use rows_counts::Rule;
@@ -17,7 +18,7 @@ use rows_counts::rising_row;
 // The value of an item that is there.
 fn value_of<'a>(texts: &'a [u8], numbers: &[usize], item: usize) -> &'a [u8]
     requires { ⌜ isItem item ≡ true ⌝ }
-    ensures { λ r. ⌜ now r ≡ valueOf (sheetFrom (now (texts .entry)) (now (numbers .entry))) item ⌝ }
+    ensures { λ r. ⌜ now r ≡ valueAt (sheetFrom (now (texts .entry)) (now (numbers .entry))) item ⌝ }
 {
     desk_memory::value_at(texts, numbers, item - 1)
 }
@@ -25,7 +26,7 @@ fn value_of<'a>(texts: &'a [u8], numbers: &[usize], item: usize) -> &'a [u8]
 // The row of a rule, of the values of the items that it names.
 fn ruled_row(rule: Rule, texts: &[u8], numbers: &[usize]) -> Row
     requires { ⌜ ofItems rule ≡ true ⌝ }
-    ensures { λ r. ⌜ r ≡ ruleRow (valueOf (sheetFrom (now (texts .entry)) (now (numbers .entry)))) rule ⌝ }
+    ensures { λ r. ⌜ r ≡ ruleRow (valueAt (sheetFrom (now (texts .entry)) (now (numbers .entry)))) rule ⌝ }
 {
     match rule {
         Rule::Present(i) => present_row(value_of(texts, numbers, i)),
@@ -51,7 +52,7 @@ fn ruled_row(rule: Rule, texts: &[u8], numbers: &[usize]) -> Row
 
 // A row from 13 to 24 in a profile; other rows have no alert.
 pub fn counted_row(profile: u64, row: usize, texts: &[u8], numbers: &[usize]) -> Row
-    ensures { λ r. ⌜ r ≡ countRow profile (valueOf (sheetFrom (now (texts .entry)) (now (numbers .entry)))) row ⌝ }
+    ensures { λ r. ⌜ r ≡ countRow profile (valueAt (sheetFrom (now (texts .entry)) (now (numbers .entry)))) row ⌝ }
 {
     if !rows_counts::is_kept(profile, row) {
         return make_row(0, 0);

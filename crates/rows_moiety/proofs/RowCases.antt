@@ -7,7 +7,7 @@ use Prim.Native.Nat.{ℕ}
 use Rattle.line_quotes.specs.Quoted.{textOf}
 use Rattle.rows.specs.Rows.{rowOf, missing}
 use Rattle.formula_totals.specs.Compare.{comparedOf}
-use Rattle.rows_moiety.specs.MoietyRow.{comparedRow, row25}
+use Rattle.rows_moiety.specs.MoietyRow.{totalsRow, row25}
 
 module _ (formula moiety : List ℕ) where
   pub no-formula : missing formula ≡ true → row25 formula moiety ≡ rowOf 0 1
@@ -19,6 +19,6 @@ module _ (formula moiety : List ℕ) where
     unfolding row25
     no-moiety q = simp (p, q)
 
-    pub compared : missing moiety ≡ false → row25 formula moiety ≡ comparedRow (comparedOf (textOf moiety) (textOf formula))
+    pub compared : missing moiety ≡ false → row25 formula moiety ≡ totalsRow (comparedOf (textOf moiety) (textOf formula))
     unfolding row25
     compared q = simp (p, q)

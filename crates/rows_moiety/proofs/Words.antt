@@ -17,8 +17,8 @@ use Rattle.formula_totals.specs.Compare.{comparedOf}
 use Rattle.formula_totals.specs.Wording.{FoundAs, formula-unread, moieties-unread, some-differs, each-same}
 use Rattle.formula_totals.specs.declared.Compared.{Compared}
 use Rattle.formula_totals.proofs.Words.{found, found-only}
-use Rattle.rows_moiety.specs.MoietyRow.{comparedRow, row25}
-use Rattle.rows_moiety.specs.Wording.{AtA, Both, Row25, formula-missing, moiety-missing, moiety-unread, total-differs, no-alert}
+use Rattle.rows_moiety.specs.MoietyRow.{totalsRow, row25}
+use Rattle.rows_moiety.specs.Wording.{AtA, BothThere, Row25, formula-missing, moiety-missing, moiety-unread, total-differs, no-alert}
 use Rattle.rows_moiety.specs.Wording as W
 use Rattle.rows_moiety.proofs.RowCases.{no-formula, no-moiety, compared}
 
@@ -62,7 +62,7 @@ module _ (formula : List ℕ) (p : missing formula ≡ false) where
       go false e = absurd (n (at-a e))
 
 module _ (formula moiety : List ℕ) (lf : length formula ≤ lineMost) (lm : length moiety ≤ lineMost) where
-  found-row : Both formula moiety → (c : Compared) → FoundAs (textOf moiety) (textOf formula) c → Row25 formula moiety (comparedRow c)
+  found-row : BothThere formula moiety → (c : Compared) → FoundAs (textOf moiety) (textOf formula) c → Row25 formula moiety (totalsRow c)
   found-row h c (formula-unread e) = W.formula-unread h (at-a formula (h .0) e)
   found-row h c (moieties-unread n) = moiety-unread h n
   found-row h c (some-differs m ms e i d) = total-differs (record { both = h; formula-read = not-at-a formula (h .0) e; moiety-read = i }) d
@@ -78,8 +78,8 @@ module _ (formula moiety : List ℕ) (lf : length formula ≤ lineMost) (lm : le
           subst (Row25 formula moiety) (sym (compared formula moiety p q))
           (found-row (p, q) (comparedOf (textOf moiety) (textOf formula)) (found (textOf moiety) (textOf formula) (line-short moiety lm) (line-short formula lf)))
 
-  row-found : Both formula moiety → (c : Compared) → FoundAs (textOf moiety) (textOf formula) c → row25 formula moiety ≡ comparedRow c
-  row-found h c w = compared formula moiety (h .0) (h .1) ∙ ap comparedRow (found-only (textOf moiety) (textOf formula) (line-short moiety lm) (line-short formula lf) c w)
+  row-found : BothThere formula moiety → (c : Compared) → FoundAs (textOf moiety) (textOf formula) c → row25 formula moiety ≡ totalsRow c
+  row-found h c w = compared formula moiety (h .0) (h .1) ∙ ap totalsRow (found-only (textOf moiety) (textOf formula) (line-short moiety lm) (line-short formula lf) c w)
 
   missing-moiety : missing moiety ≡ true → row25 formula moiety ≡ rowOf 0 1
   missing-moiety q = go (missing formula) refl

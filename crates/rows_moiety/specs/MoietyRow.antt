@@ -11,11 +11,11 @@ use Rattle.formula_totals.specs.declared.Compared.{Compared}
 use Rattle.formula_totals.specs.declared.Compared.the-variants.{Same, Differs, Unread}
 
 -- "B when some element's total differs from the one in item 1, C with reason 2 when either can't be read"
-abbrev pub comparedRow : Compared → Row
-comparedRow Same = noAlert
-comparedRow Differs = rowOf 3 0
-comparedRow Unread = rowOf 2 2
+abbrev pub totalsRow : Compared → Row
+totalsRow Same = noAlert
+totalsRow Differs = rowOf 3 0
+totalsRow Unread = rowOf 2 2
 
 -- "and, tested first, level 0 with reason 1 when either is missing"
 unfoldable pub row25 : List ℕ → List ℕ → Row
-row25 formula moiety = cond (missing formula || missing moiety) (rowOf 0 1) (comparedRow (comparedOf (textOf moiety) (textOf formula)))
+row25 formula moiety = cond (missing formula || missing moiety) (rowOf 0 1) (totalsRow (comparedOf (textOf moiety) (textOf formula)))

@@ -16,12 +16,12 @@ abbrev pub AtA : List ℕ → Type 0
 AtA formula = row1 formula ≡ rowOf 4 0
 
 -- neither is missing
-abbrev pub Both : List ℕ → List ℕ → Type 0
-Both formula moiety = (missing formula ≡ false) × (missing moiety ≡ false)
+abbrev pub BothThere : List ℕ → List ℕ → Type 0
+BothThere formula moiety = (missing formula ≡ false) × (missing moiety ≡ false)
 
 -- both can be read, the moiety formula as m and ms
 pub record Read (formula moiety : List ℕ) (m : Moiety) (ms : List Moiety) : Type 0 where
-  pub both : Both formula moiety
+  pub both : BothThere formula moiety
   pub formula-read : AtA formula → ⊥
   pub moiety-read : IsText (textOf moiety) m ms
 
@@ -29,7 +29,7 @@ pub record Read (formula moiety : List ℕ) (m : Moiety) (ms : List Moiety) : Ty
 pub data Row25 (formula moiety : List ℕ) : Row → Type 0 where
   formula-missing : missing formula ≡ true → Row25 formula moiety (rowOf 0 1)
   moiety-missing : missing moiety ≡ true → Row25 formula moiety (rowOf 0 1)
-  formula-unread : Both formula moiety → AtA formula → Row25 formula moiety (rowOf 2 2)
-  moiety-unread : Both formula moiety → NoMoieties (textOf moiety) → Row25 formula moiety (rowOf 2 2)
+  formula-unread : BothThere formula moiety → AtA formula → Row25 formula moiety (rowOf 2 2)
+  moiety-unread : BothThere formula moiety → NoMoieties (textOf moiety) → Row25 formula moiety (rowOf 2 2)
   total-differs : {m : Moiety} {ms : List Moiety} → Read formula moiety m ms → SomeDiffers m ms (textOf formula) → Row25 formula moiety (rowOf 3 0)
   no-alert : {m : Moiety} {ms : List Moiety} → Read formula moiety m ms → EachSame m ms (textOf formula) → Row25 formula moiety noAlert

@@ -1,14 +1,14 @@
 // Row 25: the moiety formula against the formula (document 02, No. 12).
 ghost use mathlib.Core.Path.{_≡_};
-ghost use Rattle.rows_moiety.specs.MoietyRow.{comparedRow, row25};
+ghost use Rattle.rows_moiety.specs.MoietyRow.{totalsRow, row25};
 use formula_totals::Compared;
 use rows::Row;
 use rows::is_missing;
 use rows::make_row;
 
 // The row of what the comparison finds.
-fn compared_row(c: Compared) -> Row
-    ensures { λ r. ⌜ r ≡ comparedRow c ⌝ }
+fn totals_row(c: Compared) -> Row
+    ensures { λ r. ⌜ r ≡ totalsRow c ⌝ }
 {
     match c {
         Compared::Same => make_row(0, 0),
@@ -27,8 +27,5 @@ pub fn moiety_row(formula: &[u8], moiety: &[u8]) -> Row
     if is_missing(moiety) {
         return make_row(0, 1);
     }
-    compared_row(formula_totals::compare(
-        line_quotes::text_of(moiety),
-        line_quotes::text_of(formula),
-    ))
+    totals_row(formula_totals::compare(line_quotes::text_of(moiety), line_quotes::text_of(formula)))
 }

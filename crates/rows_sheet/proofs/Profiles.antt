@@ -10,7 +10,8 @@ use Rattle.rows.specs.Rows.{powder, noAlert}
 use Rattle.rows.specs.declared.Row.{Row}
 use Rattle.rows_counts.specs.Counts.{keeps, countRow, countRows}
 use Rattle.rows_counts.proofs.Fires.{kept-or-none}
-use Rattle.rows_sheet.specs.Sheet.{value, firstRows, lastRow, rowsOf, rowAt}
+use Rattle.desk_state.specs.Sheets.{valueAt}
+use Rattle.rows_sheet.specs.Sheet.{firstRows, lastRow, rowsOf, rowAt}
 
 -- rows 1 to 12 are those of document 01, in every profile
 pub first-rows : (profile : ℕ) (s : Sheet) → take 12 (rowsOf profile s .rows) ≡ firstRows s
@@ -50,7 +51,7 @@ counts-no-more at last =
 
 -- a row for powder has no alert, or it is the row for a single crystal
 pub powder-row : (s : Sheet) (k : ℕ) → (rowAt (rowsOf powder s) k ≡ noAlert) ⊎ (rowAt (rowsOf powder s) k ≡ rowAt (rowsOf 0 s) k)
-powder-row s k = no-more-at (rowsOf powder s .rows) (rowsOf 0 s .rows) (same-before (firstRows s) (countRows powder (value s) ++ (lastRow s ∷ [])) (countRows 0 (value s) ++ (lastRow s ∷ [])) (counts-no-more (value s) (lastRow s))) (k - 1)
+powder-row s k = no-more-at (rowsOf powder s .rows) (rowsOf 0 s .rows) (same-before (firstRows s) (countRows powder (valueAt s) ++ (lastRow s ∷ [])) (countRows 0 (valueAt s) ++ (lastRow s ∷ [])) (counts-no-more (valueAt s) (lastRow s))) (k - 1)
 
 -- "Powder gives no alert that the other profile lacks": whatever the sheet, a row's level is 0 or that under the other profile
 pub powder-no-more : (s : Sheet) (k : ℕ) → (rowAt (rowsOf powder s) k .level ≡ 0) ⊎ (rowAt (rowsOf powder s) k .level ≡ rowAt (rowsOf 0 s) k .level)

@@ -3,7 +3,7 @@
 use Prim.Native.Nat.{ℕ, _-_}
 use mathlib.Core.List.{List, [], _∷_, _++_}
 use lib.ListN.{getD}
-use Rattle.desk_state.specs.Sheets.{itemAt, valueIn}
+use Rattle.desk_state.specs.Sheets.{valueAt}
 use Rattle.desk_state.specs.declared.sheet.Sheet.{Sheet}
 use Rattle.rows_formula.specs.FormulaRows.{row1, row2, row3}
 use Rattle.rows_weight.specs.WeightRows.{row4, row5}
@@ -15,33 +15,29 @@ use Rattle.rows.specs.Rows.{noAlert}
 use Rattle.rows.specs.declared.Row.{Row}
 use Rattle.rows.specs.declared.Rows.{Rows}
 
--- the value of an item of the sheet, as typed
-abbrev pub value : Sheet → ℕ → List ℕ
-value s k = valueIn (itemAt s k)
-
 -- the twelve rows of document 01, in order
 abbrev pub firstRows : Sheet → List Row
 firstRows s =
-    row1 (value s 1) ∷
-    row2 (value s 1) ∷
-    row3 (value s 1) (value s 3) ∷
-    row4 (value s 1) (value s 2) ∷
-    row5 (value s 1) (value s 2) (value s 3) ∷
-    gradedRow 6 (value s 4) (value s 5) ∷
-    oldNameRow (value s 5) ∷
-    gradedRow 8 (value s 6) (value s 7) ∷
-    oldNameRow (value s 7) ∷
-    gradedRow 10 (value s 8) (value s 9) ∷
-    oldNameRow (value s 9) ∷
-    row12 (value s 10) ∷ []
+    row1 (valueAt s 1) ∷
+    row2 (valueAt s 1) ∷
+    row3 (valueAt s 1) (valueAt s 3) ∷
+    row4 (valueAt s 1) (valueAt s 2) ∷
+    row5 (valueAt s 1) (valueAt s 2) (valueAt s 3) ∷
+    gradedRow 6 (valueAt s 4) (valueAt s 5) ∷
+    oldNameRow (valueAt s 5) ∷
+    gradedRow 8 (valueAt s 6) (valueAt s 7) ∷
+    oldNameRow (valueAt s 7) ∷
+    gradedRow 10 (valueAt s 8) (valueAt s 9) ∷
+    oldNameRow (valueAt s 9) ∷
+    row12 (valueAt s 10) ∷ []
 
 -- document 02, No. 12: "A new last row, printed R25", of items 1 and 19
 abbrev pub lastRow : Sheet → Row
-lastRow s = row25 (value s 1) (value s 19)
+lastRow s = row25 (valueAt s 1) (valueAt s 19)
 
 -- all rows in a profile: "profiles 0, single-crystal, and 1, powder, one chosen with each report"; rows 1 to 12 and row 25 are the same in each
 abbrev pub rowsOf : ℕ → Sheet → Rows
-rowsOf profile s = record { rows = firstRows s ++ (countRows profile (value s) ++ (lastRow s ∷ [])) }
+rowsOf profile s = record { rows = firstRows s ++ (countRows profile (valueAt s) ++ (lastRow s ∷ [])) }
 
 -- a row by its number
 abbrev pub rowAt : Rows → ℕ → Row

@@ -3,7 +3,8 @@ ghost use mathlib.Core.Path.{_≡_};
 ghost use Prim.Native.Nat.{_+_, _<_};
 ghost use Rattle.line_items.specs.Items.{itemCount};
 ghost use Rattle.desk_memory.specs.Memory.{sheetFrom};
-ghost use Rattle.rows_sheet.specs.Sheet.{value, lastRow, rowsOf};
+ghost use Rattle.desk_state.specs.Sheets.{valueAt};
+ghost use Rattle.rows_sheet.specs.Sheet.{lastRow, rowsOf};
 ghost use Rattle.rows_sheet.specs.Groups.{FormulaGroupOf, GradedPairOf};
 use desk_memory::value_at;
 use rows::Row;
@@ -60,7 +61,7 @@ fn graded_texts(row: u64, new: &[u8], old: &[u8]) -> GradedPair
 
 // Rows 1 to 5 of a sheet's block.
 fn formula_group(texts: &[u8], numbers: &[usize]) -> FormulaGroup
-    ensures { λ r. ⌜ (let s = sheetFrom (now (texts .entry)) (now (numbers .entry)) in FormulaGroupOf (value s 1) (value s 2) (value s 3) r) ⌝ }
+    ensures { λ r. ⌜ (let s = sheetFrom (now (texts .entry)) (now (numbers .entry)) in FormulaGroupOf (valueAt s 1) (valueAt s 2) (valueAt s 3) r) ⌝ }
 {
     formula_texts(
         value_at(texts, numbers, 0),
@@ -72,7 +73,7 @@ fn formula_group(texts: &[u8], numbers: &[usize]) -> FormulaGroup
 // The rows of the items k + 1 and k + 2.
 fn graded_pair(row: u64, texts: &[u8], numbers: &[usize], k: usize) -> GradedPair
     requires { ⌜ k + 1 < itemCount ⌝ }
-    ensures { λ r. ⌜ (let s = sheetFrom (now (texts .entry)) (now (numbers .entry)) in GradedPairOf row (value s (k + 1)) (value s (k + 1 + 1)) r) ⌝ }
+    ensures { λ r. ⌜ (let s = sheetFrom (now (texts .entry)) (now (numbers .entry)) in GradedPairOf row (valueAt s (k + 1)) (valueAt s (k + 1 + 1)) r) ⌝ }
 {
     graded_texts(
         row,

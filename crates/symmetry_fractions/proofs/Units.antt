@@ -7,12 +7,12 @@ use native.Mathlib.Nat.{mul-le-mul-right}
 use native.Mathlib.Omega.{arith}
 use borrow.Author.Tests.{eqb-true}
 use lib.Dec.{eqb}
-use Rattle.symmetry_fractions.specs.Grammar.{whole, IsDenominator}
+use Rattle.symmetry_fractions.specs.Grammar.{oneIn24ths, IsDenominator}
 use Rattle.symmetry_fractions.specs.Reading.{unitOf}
 
 -- a byte is the digit of a denominator, whose unit is one divided by it, or it has no unit
 pub data UnitOf (b : ℕ) : Type 0 where
-  digit : (d : ℕ) → IsDenominator d → b ≡ 48 + d → unitOf b * d ≡ whole → UnitOf b
+  digit : (d : ℕ) → IsDenominator d → b ≡ 48 + d → unitOf b * d ≡ oneIn24ths → UnitOf b
   none : unitOf b ≡ 0 → UnitOf b
 
 module _ (b : ℕ) where
@@ -28,13 +28,13 @@ module _ (b : ℕ) where
   pub unit-of : UnitOf b
   unit-of = unit-by (eqb b 50) (eqb b 51) (eqb b 52) (eqb b 54) (eqb b 56) refl refl refl refl refl
 
-below-one : (n d u : ℕ) → n < d → u * d ≡ whole → n * u < whole
+below-one : (n d u : ℕ) → n < d → u * d ≡ oneIn24ths → n * u < oneIn24ths
 below-one n d zero l e = omega arith
 below-one n d (suc u) l e = let h : n * suc u + suc u ≤ d * suc u = omega (arith, mul-le-mul-right (suc u) l) in omega arith
 
-pub fraction-below-one : (a b : ℕ) → 49 ≤ a → a < b → (a - 48) * unitOf b < whole
+pub fraction-below-one : (a b : ℕ) → 49 ≤ a → a < b → (a - 48) * unitOf b < oneIn24ths
 fraction-below-one a b m l = by (unit-of b)
   where
-    by : UnitOf b → (a - 48) * unitOf b < whole
+    by : UnitOf b → (a - 48) * unitOf b < oneIn24ths
     by (UnitOf.digit d is e w) = below-one (a - 48) d (unitOf b) (omega arith) w
     by (UnitOf.none e) = rw e (omega arith)

@@ -12,7 +12,7 @@ use lib.ListN.{length, getD}
 use Rattle.text.specs.Run.{all, between}
 use Rattle.text.proofs.Bools.{and-both}
 use Rattle.text.proofs.Runs.{between-taken}
-use Rattle.symmetry_fractions.specs.Grammar.{whole, IsDenominator, IsFraction}
+use Rattle.symmetry_fractions.specs.Grammar.{oneIn24ths, IsDenominator, IsFraction}
 use Rattle.symmetry_fractions.specs.Reading.{unitOf, fractionOf}
 use Rattle.symmetry_fractions.proofs.Units.{UnitOf, unit-of}
 
@@ -25,12 +25,12 @@ fraction-by a d r l b =
 -- what is known of n / d, which is u 24ths
 pub record Sized (n d u : ℕ) : Type 0 where
   pub some : 1 ≤ u
-  pub below-one : u < whole
+  pub below-one : u < oneIn24ths
   pub few : n ≤ 7
   pub digit : d ≤ 8
   pub units : u ≡ n * unitOf (48 + d)
 
-pub sized : (n u : ℕ) {d : ℕ} → IsDenominator d → 1 ≤ n → n < d → u * d ≡ whole * n → Sized n d u
+pub sized : (n u : ℕ) {d : ℕ} → IsDenominator d → 1 ≤ n → n < d → u * d ≡ oneIn24ths * n → Sized n d u
 unfolding unitOf
 sized n u IsDenominator.two l b w = omega arith
 sized n u IsDenominator.three l b w = omega arith
@@ -56,7 +56,7 @@ module _ {t : List ℕ} {size : ℕ} (h : IsFraction t size) where
   fraction-alone = rw (h .text) (digits-taken [])
 
   -- a fraction is between zero and one
-  pub fraction-size : (1 ≤ size) × (size < whole)
+  pub fraction-size : (1 ≤ size) × (size < oneIn24ths)
   fraction-size = (known .some, known .below-one)
 
   pub fraction-length : length t ≡ 3
@@ -85,7 +85,7 @@ module _ (a d : ℕ) (l : 49 ≤ a) (b : a < d) (size : ℕ) (e : size ≡ (a - 
   fraction-is : IsFraction (a ∷ (47 ∷ (d ∷ []))) size
   fraction-is = by (unit-of d)
     where
-      scaled : (n u k m : ℕ) → m ≡ n * u → u * k ≡ whole → m * k ≡ 24 * n
+      scaled : (n u k m : ℕ) → m ≡ n * u → u * k ≡ oneIn24ths → m * k ≡ 24 * n
       scaled n u k m p q = rw p (mul-assoc n u k ∙ rw q (mul-comm n 24))
 
       by : UnitOf d → IsFraction (a ∷ (47 ∷ (d ∷ []))) size

@@ -7,8 +7,8 @@ use mathlib.Core.List.{List, [], _∷_}
 use lib.IntN.{ℤ, pos, negℤ}
 
 -- "translations in 24ths": so many are one
-abbrev pub whole : ℕ
-whole = 24
+abbrev pub oneIn24ths : ℕ
+oneIn24ths = 24
 
 -- "signed": the byte of a sign, by whether it is a minus
 abbrev pub signByte : Bool → ℕ
@@ -35,4 +35,4 @@ pub record IsFraction (t : List ℕ) (size : ℕ) : Type 0 where
   pub most : numerator ≤ 7
   pub below : numerator < denominator
   pub is-denominator : IsDenominator denominator
-  pub worth : size * denominator ≡ whole * numerator
+  pub worth : size * denominator ≡ oneIn24ths * numerator

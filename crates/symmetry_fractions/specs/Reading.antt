@@ -5,7 +5,7 @@ use mathlib.Core.Bool.{Bool, cond, _&&_, _||_}
 use mathlib.Core.List.{List}
 use lib.Dec.{leb, ltb, eqb}
 use lib.ListN.{length, getD}
-use Rattle.symmetry_fractions.specs.Grammar.{whole}
+use Rattle.symmetry_fractions.specs.Grammar.{oneIn24ths}
 
 -- the length of a fraction without its sign
 abbrev pub fractionLength : ℕ
@@ -15,8 +15,8 @@ unfoldable pub isSign : ℕ → Bool
 isSign b = eqb b 43 || eqb b 45
 
 -- n 24ths after a sign: "Translations count modulo 1". So a factor −1 is 23
-unfoldable pub signedOf : ℕ → ℕ → ℕ
-signedOf sign n = cond (eqb sign 45) (whole - n) n
+unfoldable pub signed24ths : ℕ → ℕ → ℕ
+signed24ths sign n = cond (eqb sign 45) (oneIn24ths - n) n
 
 -- how many 24ths one is, divided by the denominator with that digit; 0 if it is none
 unfoldable pub unitOf : ℕ → ℕ

@@ -1,7 +1,7 @@
 // Signs and fractions of an operator's text (document 02, No. 5).
 // A client cites Reading (isSign, signedOf, fractionOf). That `fractionOf` is the document's wording (Grammar) is shown in proofs/Wording.antt.
 ghost use mathlib.Core.Path.{_≡_};
-ghost use Rattle.symmetry_fractions.specs.Reading.{isSign, signedOf, unitOf, fractionOf};
+ghost use Rattle.symmetry_fractions.specs.Reading.{isSign, signed24ths, unitOf, fractionOf};
 
 // The number of 24ths in one.
 pub const WHOLE: u8 = 24;
@@ -21,7 +21,7 @@ pub fn is_sign(b: u8) -> bool
 
 // A number of 24ths after a sign, modulo 1.
 pub fn signed(sign: u8, n: u8) -> u8
-    ensures { λ r. ⌜ r ≡ signedOf sign n ⌝ }
+    ensures { λ r. ⌜ r ≡ signed24ths sign n ⌝ }
 {
     if sign != b'-' {
         return n;

@@ -12,12 +12,12 @@ use lib.ListN.{length, take, drop, length-drop}
 use lib.Seq.{take-all}
 use Rattle.symmetry_operators.specs.Operator.{Part, Row}
 use Rattle.symmetry_operators.specs.Check.{rowFrom}
-use Rattle.symmetry_operators.specs.Residues.{residues, turnsN, word, packed, wordAfter, productCode, codeRow, code, turning, rowFromN, identityCode}
+use Rattle.symmetry_operators.specs.Residues.{residues, turnsN, partWord, packed, wordAfter, productCode, codeRow, code, turning, rowFromN, identityCode}
 use Rattle.symmetry_rows.specs.Residues.{cells}
 use Rattle.symmetry_rows.proofs.Cells.{cells-row}
 
 -- the product with the identity is the row itself
-word-itself : (p : Part ℕ) → wordAfter p 1 8 64 ≡ word p
+word-itself : (p : Part ℕ) → wordAfter p 1 8 64 ≡ partWord p
 word-itself p = ap (λ (n : ℕ). n % 12288) (omega arith)
 
 identity-last : (r : Row ℕ) → productCode r identityCode ≡ codeRow r

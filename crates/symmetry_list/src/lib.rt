@@ -2,7 +2,7 @@
 ghost use mathlib.Core.Path.{_≡_};
 ghost use Rattle.text.specs.Run.{all};
 ghost use Rattle.symmetry_operators.specs.Operator.{fine};
-ghost use Rattle.symmetry_operators.specs.Check.{rowsOf, checked};
+ghost use Rattle.symmetry_operators.specs.Check.{operatorRows, checked};
 ghost use Rattle.symmetry_judged.specs.Answer.{outcomeOf};
 use symmetry_answers::ListAnswer;
 use symmetry_judged::Checked;
@@ -13,7 +13,7 @@ use symmetry_rows::row_fine;
 
 // Whether the numbers of all rows are in range.
 fn all_fine(rows: &[i8]) -> bool
-    ensures { λ r. ⌜ r ≡ all fine (rowsOf (now (rows .entry))) ⌝ }
+    ensures { λ r. ⌜ r ≡ all fine (operatorRows (now (rows .entry))) ⌝ }
 {
     let n = rows.len() / ROW_LENGTH;
     let mut i = 0;

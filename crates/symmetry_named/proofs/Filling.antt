@@ -14,7 +14,7 @@ use lib.ListN.{length-set, length, getD, take, drop, set, length-append, length-
 use lib.Seq.{sets, sets-eq, length-sets, take-suc, take-append-seam, take-length, length-take-le, take-all}
 use Rattle.symmetry_named.specs.declared.Operator.{Operator}
 use Rattle.symmetry_named.specs.declared.Flat.{Flat}
-use Rattle.symmetry_named.specs.Named.{noOperator, factor, translation, twelve, numbersOf, noRows, storedRow, withRow, filledTo, flatChecked, checkedNamed}
+use Rattle.symmetry_named.specs.Named.{noOperator, factorAt, translationAt, twelve, allNumbers, flatOfZeros, storedRow, withRow, filledTo, flatChecked, checkedNamed}
 use lib.Signed.{mag}
 use mir.Syntax.{w8}
 use mir.Val.{toZ, ofZ}
@@ -63,12 +63,12 @@ storing-more {f} {n} {l} {at} {k} {v} h m b =
 stored-all : {f : ℕ → ℤ} {n : ℕ} {l : List ℤ} {at k : ℕ} {v : List ℤ} → Storing f n l at k v → n ≤ k → v ≡ sets l at (tabulate f 0 n)
 stored-all {f} {n} {l} {at} {k} h m = let size = long-table f 0 n in h .is ∙ ap (sets l at) (take-all k (tabulate f 0 n) (omega arith))
 
-pub stored-law : (f : Flat) (i : ℕ) (o : Operator) {k m : ℕ} {u v : List ℤ} → Storing (factor o) 9 (f .numbers) (12 * i) k u → 9 ≤ k
-    → Storing (translation o) 3 u (12 * i + 9) m v → 3 ≤ m → _≡_ {A = Flat} (record { numbers = v }) (storedRow f i o)
+pub stored-law : (f : Flat) (i : ℕ) (o : Operator) {k m : ℕ} {u v : List ℤ} → Storing (factorAt o) 9 (f .numbers) (12 * i) k u → 9 ≤ k
+    → Storing (translationAt o) 3 u (12 * i + 9) m v → 3 ≤ m → _≡_ {A = Flat} (record { numbers = v }) (storedRow f i o)
 stored-law f i o h p g q =
     ap {B = Flat} (λ (w : List ℤ). record { numbers = w })
-    (stored-all g q ∙ ap (λ (w : List ℤ). sets w (12 * i + 9) (tabulate (translation o) 0 3)) (stored-all h p)
-    ∙ sym (sets-append (tabulate (factor o) 0 9) (tabulate (translation o) 0 3) (f .numbers) (12 * i)))
+    (stored-all g q ∙ ap (λ (w : List ℤ). sets w (12 * i + 9) (tabulate (translationAt o) 0 3)) (stored-all h p)
+    ∙ sym (sets-append (tabulate (factorAt o) 0 9) (tabulate (translationAt o) 0 3) (f .numbers) (12 * i)))
 
 pub with-room : (f : Flat) (i : ℕ) (o : Operator) → i < 192 → storedRow f i o ≡ withRow f i o
 unfolding withRow
@@ -87,24 +87,24 @@ unfolding flatChecked
 many-rows f n h = rw (lt-leb n 192 h)
 
 -- ---- the rows so far
-pub first-rows : (l : List Operator) → noRows ≡ filledTo l 0
+pub first-rows : (l : List Operator) → flatOfZeros ≡ filledTo l 0
 unfolding filledTo
 first-rows l = refl
 
 record Filled (l : List Operator) (i : ℕ) : Type 0 where
   pub long : length (filledTo l i .numbers) ≡ 2304
-  pub so-far : take (12 * i) (filledTo l i .numbers) ≡ numbersOf (take i l)
+  pub so-far : take (12 * i) (filledTo l i .numbers) ≡ allNumbers (take i l)
 
-numbers-append : (l m : List Operator) → numbersOf (l ++ m) ≡ numbersOf l ++ numbersOf m
+numbers-append : (l m : List Operator) → allNumbers (l ++ m) ≡ allNumbers l ++ allNumbers m
 numbers-append [] m = refl
-numbers-append (o ∷ l) m = ap (λ (v : List ℤ). twelve o ++ v) (numbers-append l m) ∙ sym (append-assoc (twelve o) (numbersOf l) (numbersOf m))
+numbers-append (o ∷ l) m = ap (λ (v : List ℤ). twelve o ++ v) (numbers-append l m) ∙ sym (append-assoc (twelve o) (allNumbers l) (allNumbers m))
 
-numbers-length : (l : List Operator) → length (numbersOf l) ≡ 12 * length l
+numbers-length : (l : List Operator) → length (allNumbers l) ≡ 12 * length l
 numbers-length [] = refl
-numbers-length (o ∷ l) = length-append (twelve o) (numbersOf l) ∙ let e = numbers-length l in omega arith
+numbers-length (o ∷ l) = length-append (twelve o) (allNumbers l) ∙ let e = numbers-length l in omega arith
 
 filled : (l : List Operator) (i : ℕ) → i ≤ length l → i ≤ 192 → Filled l i
-unfolding filledTo withRow noRows
+unfolding filledTo withRow flatOfZeros
 filled l zero h k = record { long = length-replicate 2304 (pos 0); so-far = refl }
 filled l (suc i) h k = step (filled l i (omega arith) (omega arith))
   where
@@ -116,19 +116,19 @@ filled l (suc i) h k = step (filled l i (omega arith) (omega arith))
         let seen : sets v (12 * i) (twelve o) ≡ (take (12 * i) v ++ twelve o) ++ drop (12 * i + 12) v = sets-eq (twelve o) v (12 * i) (omega arith) in
         let size : length (take (12 * i) v ++ twelve o) ≡ 12 * suc i = length-append (take (12 * i) v) (twelve o)
         ∙ ap (λ (n : ℕ). n + 12) (length-take-le (12 * i) v (omega arith)) ∙ omega arith in
-        let cut : take (12 * suc i) (sets v (12 * i) (twelve o)) ≡ numbersOf (take (suc i) l)
+        let cut : take (12 * suc i) (sets v (12 * i) (twelve o)) ≡ allNumbers (take (suc i) l)
         = ap (take (12 * suc i)) seen
         ∙ ap (λ (n : ℕ). take n ((take (12 * i) v ++ twelve o) ++ drop (12 * i + 12) v)) (sym size)
         ∙ take-append-seam (take (12 * i) v ++ twelve o) (drop (12 * i + 12) v)
         ∙ ap (λ (w : List ℤ). w ++ twelve o) (r .so-far)
-        ∙ sym (ap numbersOf (take-suc l i noOperator h) ∙ numbers-append (take i l) (o ∷ [])
-        ∙ ap (λ (w : List ℤ). numbersOf (take i l) ++ w) (append-nil (twelve o))) in
+        ∙ sym (ap allNumbers (take-suc l i noOperator h) ∙ numbers-append (take i l) (o ∷ [])
+        ∙ ap (λ (w : List ℤ). allNumbers (take i l) ++ w) (append-nil (twelve o))) in
         record { long = rw (lt-ltb i 192 k) (length-sets v (12 * i) (twelve o) ∙ long); so-far = rw (lt-ltb i 192 k) cut }
 
 pub named-law : (l : List Operator) → flatChecked (filledTo l (length l)) (length l) ≡ checkedNamed l
 unfolding checkedNamed
 named-law l = by-cases (leb (length l) 192)
     (λ t. let h = leb-true (length l) 192 t in
-    sym (few-rows (filledTo l (length l)) (length l) h) ∙ ap checked (filled l (length l) (le-refl _) h .so-far ∙ ap numbersOf (take-length l)))
+    sym (few-rows (filledTo l (length l)) (length l) h) ∙ ap checked (filled l (length l) (le-refl _) h .so-far ∙ ap allNumbers (take-length l)))
     (λ t. let h = leb-false (length l) 192 t in let e = numbers-length l in
-    sym (many-rows (filledTo l (length l)) (length l) h) ∙ not-list (numbersOf l) (too-many (omega arith)))
+    sym (many-rows (filledTo l (length l)) (length l) h) ∙ not-list (allNumbers l) (too-many (omega arith)))

@@ -14,30 +14,30 @@ use Rattle.symmetry_operators.specs.Check.{rowMost, Outcome, outcome, checked}
 abbrev pub noOperator : Operator
 noOperator = record { factors = []; translations = [] }
 
-abbrev pub factor : Operator → ℕ → ℤ
-factor o k = getD (o .factors) k (pos 0)
+abbrev pub factorAt : Operator → ℕ → ℤ
+factorAt o k = getD (o .factors) k (pos 0)
 
-abbrev pub translation : Operator → ℕ → ℤ
-translation o k = getD (o .translations) k (pos 0)
+abbrev pub translationAt : Operator → ℕ → ℤ
+translationAt o k = getD (o .translations) k (pos 0)
 
 -- the nine factors, and the three translations
 abbrev pub twelve : Operator → List ℤ
 twelve o =
-    factor o 0 ∷ factor o 1 ∷ factor o 2 ∷ factor o 3 ∷ factor o 4 ∷ factor o 5 ∷ factor o 6 ∷ factor o 7 ∷ factor o 8
-    ∷ translation o 0 ∷ translation o 1 ∷ translation o 2 ∷ []
+    factorAt o 0 ∷ factorAt o 1 ∷ factorAt o 2 ∷ factorAt o 3 ∷ factorAt o 4 ∷ factorAt o 5 ∷ factorAt o 6 ∷ factorAt o 7 ∷ factorAt o 8
+    ∷ translationAt o 0 ∷ translationAt o 1 ∷ translationAt o 2 ∷ []
 
 -- the numbers of the operators, one after the other
-abbrev pub numbersOf : List Operator → List ℤ
-numbersOf [] = []
-numbersOf (o ∷ l) = twelve o ++ numbersOf l
+abbrev pub allNumbers : List Operator → List ℤ
+allNumbers [] = []
+allNumbers (o ∷ l) = twelve o ++ allNumbers l
 
 -- the check of a list of operators is that of their numbers
 unfoldable pub checkedNamed : List Operator → Outcome
-checkedNamed l = checked (numbersOf l)
+checkedNamed l = checked (allNumbers l)
 
 -- ---- the numbers of at most 192 rows, filled in one by one
-unfoldable pub noRows : Flat
-noRows = record { numbers = replicate (12 * rowMost) (pos 0) }
+unfoldable pub flatOfZeros : Flat
+flatOfZeros = record { numbers = replicate (12 * rowMost) (pos 0) }
 
 abbrev pub storedRow : Flat → ℕ → Operator → Flat
 storedRow f i o = record { numbers = sets (f .numbers) (12 * i) (twelve o) }
@@ -46,7 +46,7 @@ unfoldable pub withRow : Flat → ℕ → Operator → Flat
 withRow f i o = cond (ltb i rowMost) (storedRow f i o) f
 
 unfoldable pub filledTo : List Operator → ℕ → Flat
-filledTo l zero = noRows
+filledTo l zero = flatOfZeros
 filledTo l (suc i) = withRow (filledTo l i) i (getD l i noOperator)
 
 unfoldable pub flatChecked : Flat → ℕ → Outcome

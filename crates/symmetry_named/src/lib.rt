@@ -3,7 +3,7 @@ ghost use mathlib.Core.Path.{_≡_};
 ghost use Prim.Native.Nat.{_<_};
 ghost use Rattle.symmetry_operators.specs.Check.{rowMost};
 ghost use Rattle.symmetry_judged.specs.Answer.{outcomeOf};
-ghost use Rattle.symmetry_named.specs.Named.{noRows, storedRow, withRow, flatChecked};
+ghost use Rattle.symmetry_named.specs.Named.{flatOfZeros, storedRow, withRow, flatChecked};
 use symmetry_answers::ListAnswer;
 use symmetry_judged::Checked;
 use symmetry_judged::refused;
@@ -25,7 +25,7 @@ pub struct Flat {
 
 // No rows yet.
 pub fn no_rows() -> Flat
-    ensures { λ r. ⌜ r ≡ noRows ⌝ }
+    ensures { λ r. ⌜ r ≡ flatOfZeros ⌝ }
 {
     Flat {
         numbers: [0; LIST_MOST],

@@ -15,7 +15,7 @@ use Rattle.text.proofs.Bools.{and-both, not-holds}
 use Rattle.symmetry_operators.specs.Operator.{Part, Row, residue, dot, after, product, minor, determinant, identity, eqZ, same, fine, turns}
 use Rattle.symmetry_operators.specs.Lists.{has, distinct, withEach, pairsWith}
 use Rattle.symmetry_operators.specs.Check.{rowFrom, rowsFrom, closes, pairs, closing, judged, outcome}
-use Rattle.symmetry_operators.specs.Residues.{reduced, scaled, residuesPart, residues, dotN, afterN, times, detN, turnsN, word, packed, codeRow, wordAfter, productCode, code, turning, closesCode, runPairs, identityCode, closedBy, closedN, codesOf, judgedN}
+use Rattle.symmetry_operators.specs.Residues.{reduced, scaled, residuesPart, residues, dotN, afterN, productN, detN, turnsN, partWord, packed, codeRow, wordAfter, productCode, code, turning, closesCode, runPairs, identityCode, closedBy, closedN, codesOf, judgedN}
 use Rattle.symmetry_operators.proofs.Residue.{Factor, minus, nought, one, reduced-small, mod-by, congruent, residue-below, scaled-residue}
 use Rattle.symmetry_operators.proofs.Modulo.{part-path, row-path, strip-right}
 use Rattle.symmetry_operators.proofs.Pigeon.{by-cases}
@@ -173,7 +173,7 @@ scaled-most : (z : ℤ) → scaled z ≤ 11776
 scaled-most z = let h = residue-below z in let e = scaled-residue z in omega arith
 
 part-value : {p : Part ℤ} → NearPart p
-    → (word (residuesPart p) + 219) % 12288 ≡ raised (p .x) + 8 * raised (p .y) + 64 * raised (p .z) + scaled (p .t)
+    → (partWord (residuesPart p) + 219) % 12288 ≡ raised (p .x) + 8 * raised (p .y) + 64 * raised (p .z) + scaled (p .t)
 unfolding raised
 part-value {p} f = raised-word (reduced (p .x)) (reduced (p .y)) (reduced (p .z)) (scaled (p .t)) (raised-small (f .at-x)) (raised-small (f .at-y))
     (raised-small (f .at-z)) (scaled-most (p .t))
@@ -187,13 +187,13 @@ digits a b c m a′ b′ c′ m′ h i j h′ i′ j′ e =
     let z = digit c c′ m m′ j j′ (y .1) in
     (x .0, y .0, z .0, z .1)
 
-word-known : {p q : Part ℤ} → NearPart p → NearPart q → word (residuesPart p) ≡ word (residuesPart q) → p ≡ q
+word-known : {p q : Part ℤ} → NearPart p → NearPart q → partWord (residuesPart p) ≡ partWord (residuesPart q) → p ≡ q
 word-known {p} {q} f g e =
     let s = scaled-residue (p .t) in
     let s′ = scaled-residue (q .t) in
     let v = part-value f in
     let v′ = part-value g in
-    let same : (word (residuesPart p) + 219) % 12288 ≡ (word (residuesPart q) + 219) % 12288 = ap (λ (n : ℕ). (n + 219) % 12288) e in
+    let same : (partWord (residuesPart p) + 219) % 12288 ≡ (partWord (residuesPart q) + 219) % 12288 = ap (λ (n : ℕ). (n + 219) % 12288) e in
     let d = digits (raised (p .x)) (raised (p .y)) (raised (p .z)) (residue (p .t)) (raised (q .x)) (raised (q .y)) (raised (q .z)) (residue (q .t))
     (raised-small (f .at-x)) (raised-small (f .at-y)) (raised-small (f .at-z)) (raised-small (g .at-x)) (raised-small (g .at-y))
     (raised-small (g .at-z))
@@ -203,7 +203,7 @@ word-known {p} {q} f g e =
     (f .at-t ∙ ap pos (d .3) ∙ sym (g .at-t))
 
 -- ---- codes
-word-small : (p : Part ℕ) → word p < 65536
+word-small : (p : Part ℕ) → partWord p < 65536
 word-small p = omega arith
 
 packed-known : (a b c a′ b′ c′ : ℕ) → b < 65536 → c < 65536 → b′ < 65536 → c′ < 65536 → packed a b c ≡ packed a′ b′ c′
@@ -218,7 +218,7 @@ unfolding codeRow
 code-known {r} {s} f g e =
     let w = residues r in
     let v = residues s in
-    let k = packed-known (word (w .first)) (word (w .second)) (word (w .third)) (word (v .first)) (word (v .second)) (word (v .third))
+    let k = packed-known (partWord (w .first)) (partWord (w .second)) (partWord (w .third)) (partWord (v .first)) (partWord (v .second)) (partWord (v .third))
     (word-small (w .second)) (word-small (w .third)) (word-small (v .second)) (word-small (v .third)) e in
     row-path (word-known (f .first) (g .first) (k .0)) (word-known (f .second) (g .second) (k .1)) (word-known (f .third) (g .third) (k .2))
 
@@ -250,7 +250,7 @@ strip a b c d =
     mod-by (a % 12288 + 8 * (b % 12288) + 64 * (c % 12288) + d % 12288) (a + 8 * b + 64 * c + d)
     (a / 12288 + 8 * (b / 12288) + 64 * (c / 12288) + d / 12288) 0 (omega arith)
 
-word-after : (p : Part ℕ) (s : Row ℕ) → word (afterN p s) ≡ wordAfter p (word (s .first)) (word (s .second)) (word (s .third))
+word-after : (p : Part ℕ) (s : Row ℕ) → partWord (afterN p s) ≡ wordAfter p (partWord (s .first)) (partWord (s .second)) (partWord (s .third))
 unfolding afterN
 word-after p s =
     let q = s .first in
@@ -271,10 +271,10 @@ unpacked a b c h i j =
     let f : packed a b c / 4294967296 ≡ a = omega arith in
     (ap (λ (n : ℕ). n % 65536) f ∙ mod-eq-of-lt h, ap (λ (n : ℕ). n % 65536) e ∙ omega arith, omega arith)
 
-pub times-code : (r s : Row ℕ) → codeRow (times r s) ≡ productCode r (codeRow s)
-unfolding codeRow times productCode
+pub times-code : (r s : Row ℕ) → codeRow (productN r s) ≡ productCode r (codeRow s)
+unfolding codeRow productN productCode
 times-code r s =
-    let u = unpacked (word (s .first)) (word (s .second)) (word (s .third)) (word-small (s .first)) (word-small (s .second)) (word-small (s .third))
+    let u = unpacked (partWord (s .first)) (partWord (s .second)) (partWord (s .third)) (word-small (s .first)) (word-small (s .second)) (word-small (s .third))
     in
     (λ i. packed (word-after (r .first) s i) (word-after (r .second) s i) (word-after (r .third) s i))
     ∙ sym (λ i. packed (wordAfter (r .first) (u .0 i) (u .1 i) (u .2 i)) (wordAfter (r .second) (u .0 i) (u .1 i) (u .2 i))

@@ -9,10 +9,10 @@ use native.Mathlib.Numerals.{add-one}
 use lib.ListN.{length, drop, take, set, length-set}
 use lib.Seq.{drop-drop, take-suc-set}
 use Rattle.text.specs.Run.{all}
-use Rattle.symmetry_operators.specs.Lists.{cut}
+use Rattle.symmetry_operators.specs.Lists.{inTwelves}
 
 module _ {A B : Type 0} (row : List A → B) where
-  pub length-cut : (n : ℕ) (l : List A) → length (cut row n l) ≡ n
+  pub length-cut : (n : ℕ) (l : List A) → length (inTwelves row n l) ≡ n
   length-cut zero l = refl
   length-cut (suc n) l = ap suc (length-cut n (drop 12 l))
 
@@ -23,7 +23,7 @@ module _ {A B : Type 0} (row : List A → B) (n : ℕ) (s : List A) where
     pub place : k ≡ 12 * i
 
   abbrev pub left : ℕ → ℕ → List B
-  left i k = cut row (n - i) (drop k s)
+  left i k = inTwelves row (n - i) (drop k s)
 
   pub at-first : At 0 0
   at-first = record { within = omega arith; place = omega arith }
@@ -31,22 +31,22 @@ module _ {A B : Type 0} (row : List A → B) (n : ℕ) (s : List A) where
   pub at-next : {i k : ℕ} → At i k → i < n → At (i + 1) (k + 12)
   at-next h l = record { within = omega arith; place = omega arith }
 
-  pub all-left : left 0 0 ≡ cut row n s
-  all-left = let e : n - 0 ≡ n = omega arith in ap (λ (m : ℕ). cut row m s) e
+  pub all-left : left 0 0 ≡ inTwelves row n s
+  all-left = let e : n - 0 ≡ n = omega arith in ap (λ (m : ℕ). inTwelves row m s) e
 
   pub one-left : {i k : ℕ} → At i k → i < n → left i k ≡ row (drop k s) ∷ left (i + 1) (k + 12)
   one-left {i} {k} h l =
       let e : n - i ≡ suc (n - (i + 1)) = omega arith in
-      ap (λ (m : ℕ). cut row m (drop k s)) e ∙ ap (λ (m : List A). row (drop k s) ∷ cut row (n - (i + 1)) m) (drop-drop 12 k s)
+      ap (λ (m : ℕ). inTwelves row m (drop k s)) e ∙ ap (λ (m : List A). row (drop k s) ∷ inTwelves row (n - (i + 1)) m) (drop-drop 12 k s)
 
   pub none-left : {i k : ℕ} → At i k → n ≤ i → left i k ≡ []
-  none-left {i} {k} h l = let e : n - i ≡ 0 = omega arith in ap (λ (m : ℕ). cut row m (drop k s)) e
+  none-left {i} {k} h l = let e : n - i ≡ 0 = omega arith in ap (λ (m : ℕ). inTwelves row m (drop k s)) e
 
   -- ---- a test of all rows
   module _ (p : B → Bool) where
     pub record Tested (i k : ℕ) : Type 0 where
       pub at : At i k
-      pub rest : all p (cut row n s) ≡ all p (left i k)
+      pub rest : all p (inTwelves row n s) ≡ all p (left i k)
 
     pub tested-none : Tested 0 0
     unfolding all
@@ -57,11 +57,11 @@ module _ {A B : Type 0} (row : List A → B) (n : ℕ) (s : List A) where
     tested-more {i} {k} h l e = record
         { at = at-next (h .at) l; rest = h .rest ∙ ap (all p) (one-left (h .at) l) ∙ ap (λ (t : Bool). t && all p (left (i + 1) (k + 12))) e }
 
-    pub tested-fails : {i k : ℕ} → Tested i k → i < n → p (row (drop k s)) ≡ false → false ≡ all p (cut row n s)
+    pub tested-fails : {i k : ℕ} → Tested i k → i < n → p (row (drop k s)) ≡ false → false ≡ all p (inTwelves row n s)
     unfolding all
     tested-fails {i} {k} h l e = sym (h .rest ∙ ap (all p) (one-left (h .at) l) ∙ ap (λ (t : Bool). t && all p (left (i + 1) (k + 12))) e)
 
-    pub tested-all : {i k : ℕ} → Tested i k → n ≤ i → true ≡ all p (cut row n s)
+    pub tested-all : {i k : ℕ} → Tested i k → n ≤ i → true ≡ all p (inTwelves row n s)
     unfolding all
     tested-all h l = sym (h .rest ∙ ap (all p) (none-left (h .at) l))
 
@@ -70,7 +70,7 @@ module _ {A B : Type 0} (row : List A → B) (n : ℕ) (s : List A) where
     pub record Stored (i k : ℕ) (out : List ℕ) : Type 0 where
       pub at : At i k
       pub long : length out ≡ size
-      pub rest : map value (cut row n s) ≡ take i out ++ map value (left i k)
+      pub rest : map value (inTwelves row n s) ≡ take i out ++ map value (left i k)
 
     pub stored-none : (out : List ℕ) → length out ≡ size → Stored 0 0 out
     stored-none out e = record { at = at-first; long = e; rest = ap (map value) (sym all-left) }
@@ -87,7 +87,7 @@ module _ {A B : Type 0} (row : List A → B) (n : ℕ) (s : List A) where
           (sym (ap (λ (w : ℕ). take w (set out i v)) (add-one i) ∙ take-suc-set out i v (omega (arith, h .long))));
     }
 
-    pub stored-all : {i k : ℕ} {out : List ℕ} → Stored i k out → n ≤ i → take n out ≡ map value (cut row n s)
+    pub stored-all : {i k : ℕ} {out : List ℕ} → Stored i k out → n ≤ i → take n out ≡ map value (inTwelves row n s)
     stored-all {i} {k} {out} h l =
         let e : i ≡ n = omega (arith, h .at .within) in
         sym (h .rest ∙ ap (λ m. take i out ++ map value m) (none-left (h .at) l) ∙ mathlib.Core.List.append-nil (take i out)

@@ -5,7 +5,7 @@ use mathlib.Core.List.{List, [], _∷_, _++_, map}
 use lib.IntN.{ℤ, pos, negsuc}
 use Rattle.text.specs.Run.{all}
 use Rattle.symmetry_operators.specs.Operator.{after, product, determinant, identity, samePart, same, finePart, fine, turns}
-use Rattle.symmetry_operators.specs.Check.{rowFrom, Outcome, outcome, closing, judged, shaped, checked}
+use Rattle.symmetry_operators.specs.Check.{rowFrom, Outcome, outcome, closing, judged, listShaped, checked}
 
 -- x, y, z
 abbrev one : List ℤ
@@ -35,5 +35,5 @@ abbrev outcomes : List Outcome
 outcomes = outcome 15 0 ∷ outcome 0 1 ∷ outcome 0 4 ∷ outcome 17 4 ∷ outcome 13 0 ∷ outcome 14 0 ∷ outcome 16 0 ∷ outcome 13 0 ∷ []
 
 pub examples-hold : map checked lists ≡ outcomes
-unfolding checked shaped judged closing rowFrom fine finePart turns determinant same samePart identity product after all
+unfolding checked listShaped judged closing rowFrom fine finePart turns determinant same samePart identity product after all
 examples-hold = refl

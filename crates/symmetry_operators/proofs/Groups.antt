@@ -14,7 +14,7 @@ use Rattle.symmetry_operators.specs.Group.{Inverse, Group}
 use Rattle.text.specs.Run.{all}
 use Rattle.text.proofs.Bools.{and-both}
 use Rattle.symmetry_operators.proofs.Residue.{reduced-small, scaled-small}
-use Rattle.symmetry_operators.specs.Residues.{residuesPart, residues, afterN, times}
+use Rattle.symmetry_operators.specs.Residues.{residuesPart, residues, afterN, productN}
 use Rattle.symmetry_operators.proofs.Modulo.{times-assoc, part-path, row-path}
 use Rattle.symmetry_operators.proofs.Pigeon.{in-cases, has-in, in-has, reached}
 use Rattle.symmetry_operators.proofs.Rows.{Fine, fine-row, same-is, same-self, product-residues, known, cancel}
@@ -58,8 +58,8 @@ each-pair p (c ∷ l) m r s e i j = in-cases same same-is same-self c l r i
     (λ k. each-pair p l m r s (all-parts p (withEach c m) (pairsWith l m) e .1) k j)
 
 -- ---- the identity
-identity-residues : (s : Row ℤ) → times (residues identity) (residues s) ≡ residues s
-unfolding times afterN identity
+identity-residues : (s : Row ℤ) → productN (residues identity) (residues s) ≡ residues s
+unfolding productN afterN identity
 identity-residues s = row-path
     (part-path (at-first _ _ (reduced-small (s .first .x))) (at-first _ _ (reduced-small (s .first .y))) (at-first _ _ (reduced-small (s .first .z)))
     (at-first₀ _ _ (scaled-small (s .first .t))))
@@ -91,8 +91,8 @@ unfolding afterN identity
 after-identity p = part-path (omega (arith, reduced-small (p .x))) (omega (arith, reduced-small (p .y))) (omega (arith, reduced-small (p .z)))
     (omega (arith, scaled-small (p .t)))
 
-residues-identity : (s : Row ℤ) → times (residues s) (residues identity) ≡ residues s
-unfolding times
+residues-identity : (s : Row ℤ) → productN (residues s) (residues identity) ≡ residues s
+unfolding productN
 residues-identity s = row-path (after-identity (s .first)) (after-identity (s .second)) (after-identity (s .third))
 
 -- ---- the theorem
@@ -106,9 +106,9 @@ module _ (l : List (Row ℤ)) (ok : Passed l) where
   associative : (q r s : Row ℤ) → Has l q → Has l r → Has l s → product (product q r) s ≡ product q (product r s)
   associative q r s i j k =
       known (fine-in _ (closed (product q r) s (closed q r i j) k)) (fine-in _ (closed q (product r s) i (closed r s j k)))
-      (product-residues (fine-in _ (closed q r i j)) s ∙ ap (λ w. times w (residues s)) (product-residues (fine-in q i) r)
+      (product-residues (fine-in _ (closed q r i j)) s ∙ ap (λ w. productN w (residues s)) (product-residues (fine-in q i) r)
       ∙ times-assoc (residues q) (residues r) (residues s)
-      ∙ sym (product-residues (fine-in q i) (product r s) ∙ ap (times (residues q)) (product-residues (fine-in r j) s)))
+      ∙ sym (product-residues (fine-in q i) (product r s) ∙ ap (productN (residues q)) (product-residues (fine-in r j) s)))
 
   there : Has l identity
   there = ok .identity-there

@@ -6,7 +6,7 @@ use Prim.Native.Nat.{ℕ, _+_, _*_, _-_, _/_, _%_}
 use native.Mathlib.Nat.{mul-add, add-mul, mul-assoc, mul-comm, mul-left-comm, div-add-mod, mod-mod}
 use native.Mathlib.Omega.{arith}
 use Rattle.symmetry_operators.specs.Operator.{Part, Row}
-use Rattle.symmetry_operators.specs.Residues.{dotN, afterN, times, minorN, detN}
+use Rattle.symmetry_operators.specs.Residues.{dotN, afterN, productN, minorN, detN}
 use Rattle.symmetry_operators.proofs.Residue.{mod-by, congruent, multiple}
 
 pub part-path : {A : Type 0} {p q : Part A} → p .x ≡ q .x → p .y ≡ q .y → p .z ≡ q .z → p .t ≡ q .t → p ≡ q
@@ -58,13 +58,13 @@ module _ (p : Part ℕ) (r : Row ℕ) (a b c : ℕ) where
       congruent _ (m % 12288) _ m u (mod-mod m 12288) ∙ ap (λ (n : ℕ). n % 12288) (simp (mul-add, add-mul, mul-assoc) (omega arith))
       ∙ sym (congruent _ (p .t) _ (p .t) v refl)
 
-after-assoc : (p : Part ℕ) (r s : Row ℕ) → afterN (afterN p r) s ≡ afterN p (times r s)
-unfolding times afterN
+after-assoc : (p : Part ℕ) (r s : Row ℕ) → afterN (afterN p r) s ≡ afterN p (productN r s)
+unfolding productN afterN
 after-assoc p r s = part-path (column p r (s .first .x) (s .second .x) (s .third .x)) (column p r (s .first .y) (s .second .y) (s .third .y))
     (column p r (s .first .z) (s .second .z) (s .third .z)) (translation p r (s .first .t) (s .second .t) (s .third .t))
 
-pub times-assoc : (q r s : Row ℕ) → times (times q r) s ≡ times q (times r s)
-unfolding times
+pub times-assoc : (q r s : Row ℕ) → productN (productN q r) s ≡ productN q (productN r s)
+unfolding productN
 times-assoc q r s = row-path (after-assoc (q .first) r s) (after-assoc (q .second) r s) (after-assoc (q .third) r s)
 
 -- ---- cancelling: a column's three values, by the minors, give each of its numbers times the determinant

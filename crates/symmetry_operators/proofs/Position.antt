@@ -15,8 +15,8 @@ use lib.Seq.{getD-append-add}
 use Rattle.text.specs.Run.{all}
 use Rattle.symmetry_operators.specs.Operator.{Row, product, identity, same, turns}
 use Rattle.symmetry_operators.specs.Lists.{has, distinct, looked, withEach, pairsWith}
-use Rattle.symmetry_operators.specs.Check.{rowsOf, closes, pairs, closing, judged, shaped, checked, outcome, Outcome}
-use Rattle.symmetry_operators.specs.Wording.{rowAt, Earlier, ProductMissing, FirstMissing, Counted}
+use Rattle.symmetry_operators.specs.Check.{operatorRows, closes, pairs, closing, judged, listShaped, checked, outcome, Outcome}
+use Rattle.symmetry_operators.specs.Wording.{operatorRow, Earlier, ProductMissing, FirstMissing, Counted}
 use Rattle.symmetry_operators.proofs.Pigeon.{by-cases}
 use Rattle.symmetry_operators.proofs.Runs.{run, run-le, all-run, looked-run, first-fails, before-holds, length-with, length-pairs}
 use Rattle.symmetry_operators.proofs.Words.{has-row, row-has, in-at}
@@ -69,7 +69,7 @@ module _ (l : List (Row ℤ)) where
   size = length l
 
   closes-at : (i j : ℕ) → i < size → j < size → {t : Bool} → closes l (getD (pairs l) (i * size + j) (identity, identity)) ≡ t
-      → has same l (product (rowAt l i) (rowAt l j)) ≡ t
+      → has same l (product (operatorRow l i) (operatorRow l j)) ≡ t
   closes-at i j h k e = sym (ap (closes l) (pair-at identity l l i j h k)) ∙ e
 
   earlier : (i j k m : ℕ) → j < size → Earlier i j k m → i * size + j < k * size + m
@@ -109,8 +109,8 @@ module _ (l : List (Row ℤ)) where
   product-missing e =
       let m = first-missing e in
       record {
-        first = rowAt l (m .first);
-        second = rowAt l (m .second);
+        first = operatorRow l (m .first);
+        second = operatorRow l (m .second);
         first-in = in-at l (m .first) identity (m .first-within);
         second-in = in-at l (m .second) identity (m .second-within);
         missing = m .missing;
@@ -133,10 +133,10 @@ module _ (l : List (Row ℤ)) where
   refused-counted false k h g c = record { refused = λ i j. refl; missing = λ i. absurd (omega arith); accepted = λ i. absurd (omega arith) }
 
 -- "The check reports the number of pairs looked at up to and including the first without its product, or all pairs."
-pub count-position : (n : List ℤ) → Counted (rowsOf n) (checked n)
+pub count-position : (n : List ℤ) → Counted (operatorRows n) (checked n)
 unfolding checked judged
 count-position n =
-    let l = rowsOf n in
-    refused-counted l (shaped n) 13 (omega arith) (omega arith) (refused-counted l (all turns l) 14 (omega arith) (omega arith)
+    let l = operatorRows n in
+    refused-counted l (listShaped n) 13 (omega arith) (omega arith) (refused-counted l (all turns l) 14 (omega arith) (omega arith)
     (refused-counted l (has same l identity) 15 (omega arith) (omega arith)
     (refused-counted l (distinct same l) 16 (omega arith) (omega arith) (closing-counted l))))

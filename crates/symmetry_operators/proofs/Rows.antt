@@ -11,7 +11,7 @@ use lib.IntN.{ℤ, pos, negsuc, _+ℤ_}
 use Rattle.symmetry_operators.specs.Operator.{Part, Row, residue, dot, after, product, minor, determinant, eqZ, samePart, same, finePart, fine, isFactor, turns}
 use Rattle.text.proofs.Bools.{and-both, or-either}
 use Rattle.symmetry_operators.proofs.Residue.{Is, is-own, is-add, is-minus, is-times, Factor, factor-of, factor-same, translation-of, reduced-small, mod-by, congruent, scaled-is, scaled-again, scaled-small, scaled-same}
-use Rattle.symmetry_operators.specs.Residues.{reduced, scaled, residuesPart, residues, dotN, afterN, times, minorN, detN}
+use Rattle.symmetry_operators.specs.Residues.{reduced, scaled, residuesPart, residues, dotN, afterN, productN, minorN, detN}
 use Rattle.symmetry_operators.proofs.Modulo.{part-path, row-path, strip-right, column-x, column-y, column-z}
 
 -- ---- the tests
@@ -111,8 +111,8 @@ module _ {p : Part ℤ} (f : FinePart p) where
       ∙ scaled-sum (reduced (p .x)) (reduced (p .y)) (reduced (p .z)) (reduced (s .first .t)) (reduced (s .second .t)) (reduced (s .third .t))
       (reduced (p .t)))
 
-pub product-residues : {r : Row ℤ} → Fine r → (s : Row ℤ) → residues (product r s) ≡ times (residues r) (residues s)
-unfolding product times
+pub product-residues : {r : Row ℤ} → Fine r → (s : Row ℤ) → residues (product r s) ≡ productN (residues r) (residues s)
+unfolding product productN
 product-residues f s = row-path (after-residues (f .first) s) (after-residues (f .second) s) (after-residues (f .third) s)
 
 part-known : {p q : Part ℤ} → FinePart p → FinePart q → residuesPart p ≡ residuesPart q → p ≡ q
@@ -176,8 +176,8 @@ module _ (q : Row ℕ) (one : (detN q % 12288 ≡ 1) ⊎ (detN q % 12288 ≡ 122
   small-scaled : (a b c : ℤ) → Small (scaled a) (scaled b) (scaled c)
   small-scaled a b c = record { below-first = scaled-small a; below-second = scaled-small b; below-third = scaled-small c }
 
-  cancel-residues : (r s : Row ℤ) → times q (residues r) ≡ times q (residues s) → residues r ≡ residues s
-  unfolding times afterN
+  cancel-residues : (r s : Row ℤ) → productN q (residues r) ≡ productN q (residues s) → residues r ≡ residues s
+  unfolding productN afterN
   cancel-residues r s e =
       let x = column (small (r .first .x) (r .second .x) (r .third .x)) (small (s .first .x) (s .second .x) (s .third .x)) (ap (λ w. w .first .x) e)
       (ap (λ w. w .second .x) e) (ap (λ w. w .third .x) e) in

@@ -14,8 +14,8 @@ use Rattle.text.specs.Run.{all}
 use Rattle.text.proofs.Bools.{and-both, or-either, not-holds}
 use Rattle.symmetry_operators.specs.Operator.{Row, product, determinant, identity, eqZ, same, fine, turns}
 use Rattle.symmetry_operators.specs.Lists.{has, distinct, withEach, pairsWith}
-use Rattle.symmetry_operators.specs.Check.{rowMost, rowsOf, closes, pairs, closing, judged, shaped, checked, outcome, Outcome}
-use Rattle.symmetry_operators.specs.Wording.{In, Some, rowAt, NoList, too-many, part-row, out-of-range, HasUnit, NoUnit, EqualRows, ProductMissing, IsList, Accepted}
+use Rattle.symmetry_operators.specs.Check.{rowMost, operatorRows, closes, pairs, closing, judged, listShaped, checked, outcome, Outcome}
+use Rattle.symmetry_operators.specs.Wording.{In, Some, operatorRow, NoList, too-many, part-row, out-of-range, HasUnit, NoUnit, EqualRows, ProductMissing, IsList, Accepted}
 use Rattle.symmetry_operators.specs.Group.{Group}
 use Rattle.symmetry_operators.proofs.Pigeon.{by-cases, not-is, has-in, in-has, or-left, or-right}
 use Rattle.symmetry_operators.proofs.Rows.{eqZ-is, eqZ-self, same-is, same-self}
@@ -73,22 +73,22 @@ fails : {t : Bool} → t ≡ false → t ≡ true → ⊥
 fails e f = false≢true (sym e ∙ f)
 
 -- "more than 192 rows, a part row or a number out of range"
-pub shaped-is : (n : List ℤ) → shaped n ≡ true → IsList n
-unfolding shaped
+pub shaped-is : (n : List ℤ) → listShaped n ≡ true → IsList n
+unfolding listShaped
 shaped-is n e =
     let a = and-both (eqb (length n % 12) 0) _ e in
     let b = and-both (leb (length n) (12 * rowMost)) _ (a .1) in
-    record { few = leb-true (length n) (12 * rowMost) (b .0); whole-rows = eqb-true _ _ (a .0); in-range = each fine (rowsOf n) (b .1) }
+    record { few = leb-true (length n) (12 * rowMost) (b .0); whole-rows = eqb-true _ _ (a .0); in-range = each fine (operatorRows n) (b .1) }
 
-pub shaped-taken : (n : List ℤ) → IsList n → shaped n ≡ true
-unfolding shaped
-shaped-taken n h = rw (eq-eqb (length n % 12) 0 (h .whole-rows), le-leb (length n) (12 * rowMost) (h .few)) (all-of fine (rowsOf n) (h .in-range))
+pub shaped-taken : (n : List ℤ) → IsList n → listShaped n ≡ true
+unfolding listShaped
+shaped-taken n h = rw (eq-eqb (length n % 12) 0 (h .whole-rows), le-leb (length n) (12 * rowMost) (h .few)) (all-of fine (operatorRows n) (h .in-range))
 
-pub not-shaped : (n : List ℤ) → shaped n ≡ false → NoList n
-unfolding shaped
+pub not-shaped : (n : List ℤ) → listShaped n ≡ false → NoList n
+unfolding listShaped
 not-shaped n e = by-cases (eqb (length n % 12) 0)
     (λ a. by-cases (leb (length n) (12 * rowMost))
-    (λ b. out-of-range (some-fails fine (rowsOf n) (sym (and-two a b) ∙ e)))
+    (λ b. out-of-range (some-fails fine (operatorRows n) (sym (and-two a b) ∙ e)))
     (λ b. too-many (leb-false (length n) (12 * rowMost) b)))
     (λ a. part-row (eqb-false (length n % 12) 0 a))
   where
@@ -102,7 +102,7 @@ list-or-not n h (out-of-range s) = fails (s .so) (h .in-range (s .one) (s .insid
 
 pub not-list : (n : List ℤ) → NoList n → outcome 13 0 ≡ checked n
 unfolding checked
-not-list n h = ap (λ (t : Bool). cond t (judged (rowsOf n)) (outcome 13 0)) (sym (not-holds (shaped n) (λ e. list-or-not n (shaped-is n e) h)))
+not-list n h = ap (λ (t : Bool). cond t (judged (operatorRows n)) (outcome 13 0)) (sym (not-holds (listShaped n) (λ e. list-or-not n (shaped-is n e) h)))
 
 -- "every determinant is 1 or −1"
 pub turns-is : (r : Row ℤ) → turns r ≡ true → HasUnit r
@@ -121,7 +121,7 @@ pub units-or-not : (l : List (Row ℤ)) → all turns l ≡ true → NoUnit l �
 units-or-not l e s = s .so (turns-is (s .one) (each turns l e (s .one) (s .inside)))
 
 -- "no two are equal"
-pub distinct-is : (l : List (Row ℤ)) → distinct same l ≡ true → (i j : ℕ) → i < j → j < length l → rowAt l i ≡ rowAt l j → ⊥
+pub distinct-is : (l : List (Row ℤ)) → distinct same l ≡ true → (i j : ℕ) → i < j → j < length l → operatorRow l i ≡ operatorRow l j → ⊥
 distinct-is [] e i j h k q = absurd (omega arith)
 distinct-is (a ∷ l) e i zero h k q = absurd (omega arith)
 distinct-is (a ∷ l) e zero (suc j) h k q =
@@ -151,7 +151,7 @@ equal-rows (a ∷ l) e = go (equal-rows l) (has same l a) refl e
         let w = r .within in
         record { first = suc (r .first); second = suc (r .second); apart = omega arith; within = omega arith; equal = r .equal }
 
-pub distinct-taken : (l : List (Row ℤ)) → ((i j : ℕ) → i < j → j < length l → rowAt l i ≡ rowAt l j → ⊥) → distinct same l ≡ true
+pub distinct-taken : (l : List (Row ℤ)) → ((i j : ℕ) → i < j → j < length l → operatorRow l i ≡ operatorRow l j → ⊥) → distinct same l ≡ true
 distinct-taken l f = by-cases (distinct same l) (λ e. e)
     (λ e. let r = equal-rows l e in absurd (f (r .first) (r .second) (r .apart) (r .within) (r .equal)))
 
@@ -192,14 +192,14 @@ closed-all false e = absurd (omega arith)
 
 -- the tests of a list that gets 0
 record AllPassed (n : List ℤ) : Type 0 where
-  pub list : shaped n ≡ true
-  pub passed : Passed (rowsOf n)
+  pub list : listShaped n ≡ true
+  pub passed : Passed (operatorRows n)
 
 all-passed : (n : List ℤ) → checked n .answer ≡ 0 → AllPassed n
-unfolding checked shaped judged closing
+unfolding checked listShaped judged closing
 all-passed n e =
-    let l = rowsOf n in
-    let a = cond-answer (shaped n) (judged l) (outcome 13 0) (λ h. omega arith) e in
+    let l = operatorRows n in
+    let a = cond-answer (listShaped n) (judged l) (outcome 13 0) (λ h. omega arith) e in
     let b = cond-answer (all turns l) _ (outcome 14 0) (λ h. omega arith) (a .1) in
     let c = cond-answer (has same l identity) _ (outcome 15 0) (λ h. omega arith) (b .1) in
     let d = cond-answer (distinct same l) (closing l) (outcome 16 0) (λ h. omega arith) (c .1) in
@@ -210,9 +210,9 @@ all-passed n e =
           { ranges = f .1; determinants = b .0; identity-there = c .0; none-twice = d .0; products = closed-all _ (d .1) };
     }
 
-pub accepted-is : (n : List ℤ) → checked n .answer ≡ 0 → IsList n × Accepted (rowsOf n)
+pub accepted-is : (n : List ℤ) → checked n .answer ≡ 0 → IsList n × Accepted (operatorRows n)
 accepted-is n e =
-    let l = rowsOf n in
+    let l = operatorRows n in
     let a = all-passed n e in
     let p = a .passed in (
       shaped-is n (a .list),
@@ -224,10 +224,10 @@ accepted-is n e =
       },
     )
 
-pub accepted-taken : (n : List ℤ) → IsList n → Accepted (rowsOf n) → checked n .answer ≡ 0
+pub accepted-taken : (n : List ℤ) → IsList n → Accepted (operatorRows n) → checked n .answer ≡ 0
 unfolding checked judged closing
 accepted-taken n h a =
-    let l = rowsOf n in
+    let l = operatorRows n in
     rw (
       shaped-taken n h,
       all-of turns l (λ r i. turns-taken r (a .determinants r i)),
@@ -237,9 +237,9 @@ accepted-taken n h a =
     )
 
 -- "Accept it exactly when every determinant is 1 or −1, the identity is there, no two are equal and each product of two, or of one with itself, is in the list."
-pub accepted-exactly : (n : List ℤ) → (checked n .answer ≡ 0) ↔ (IsList n × Accepted (rowsOf n))
+pub accepted-exactly : (n : List ℤ) → (checked n .answer ≡ 0) ↔ (IsList n × Accepted (operatorRows n))
 accepted-exactly n = (accepted-is n, λ h. accepted-taken n (h .0) (h .1))
 
 -- "An accepted list is proved to be a group: inverses are there too."
-pub accepted-group : (n : List ℤ) → checked n .answer ≡ 0 → Group (rowsOf n)
-accepted-group n e = group (rowsOf n) (all-passed n e .passed)
+pub accepted-group : (n : List ℤ) → checked n .answer ≡ 0 → Group (operatorRows n)
+accepted-group n e = group (operatorRows n) (all-passed n e .passed)

@@ -9,7 +9,7 @@ use lib.IntN.{ℤ, pos}
 use lib.ListN.{length, getD}
 use Rattle.text.specs.Run.{all}
 use Rattle.symmetry_operators.specs.Operator.{Row, part, product, identity, same, fine, turns}
-use Rattle.symmetry_operators.specs.Lists.{has, distinct, looked, pairsWith, cut}
+use Rattle.symmetry_operators.specs.Lists.{has, distinct, looked, pairsWith, inTwelves}
 
 -- "at most 192 operators"
 abbrev pub rowMost : ℕ
@@ -24,11 +24,11 @@ rowFrom l = record {
 }
 
 abbrev pub rowsFrom : ℕ → List ℤ → List (Row ℤ)
-rowsFrom n l = cut rowFrom n l
+rowsFrom n l = inTwelves rowFrom n l
 
 -- the rows of a list of numbers
-abbrev pub rowsOf : List ℤ → List (Row ℤ)
-rowsOf l = rowsFrom (length l / 12) l
+abbrev pub operatorRows : List ℤ → List (Row ℤ)
+operatorRows l = rowsFrom (length l / 12) l
 
 -- what the check says: the answer's number, and the number of pairs looked at
 pub record Outcome : Type 0 where
@@ -55,9 +55,9 @@ unfoldable pub judged : List (Row ℤ) → Outcome
 judged l = cond (all turns l) (cond (has same l identity) (cond (distinct same l) (closing l) (outcome 16 0)) (outcome 15 0)) (outcome 14 0)
 
 -- no part row, at most 192 rows, no number out of range
-unfoldable pub shaped : List ℤ → Bool
-shaped l = eqb (length l % 12) 0 && (leb (length l) (12 * rowMost) && all fine (rowsOf l))
+unfoldable pub listShaped : List ℤ → Bool
+listShaped l = eqb (length l % 12) 0 && (leb (length l) (12 * rowMost) && all fine (operatorRows l))
 
 -- the check of a list of numbers
 unfoldable pub checked : List ℤ → Outcome
-checked l = cond (shaped l) (judged (rowsOf l)) (outcome 13 0)
+checked l = cond (listShaped l) (judged (operatorRows l)) (outcome 13 0)

@@ -40,8 +40,8 @@ afterN p s = record {
   t = (dotN p (s .first .t) (s .second .t) (s .third .t) + p .t) % 12288;
 }
 
-unfoldable pub times : Row ℕ → Row ℕ → Row ℕ
-times r s = record { first = afterN (r .first) s; second = afterN (r .second) s; third = afterN (r .third) s }
+unfoldable pub productN : Row ℕ → Row ℕ → Row ℕ
+productN r s = record { first = afterN (r .first) s; second = afterN (r .second) s; third = afterN (r .third) s }
 
 abbrev pub minorN : ℕ → ℕ → ℕ → ℕ → ℕ
 minorN a b c d = a * d + 12287 * (b * c)
@@ -59,15 +59,15 @@ turnsN r = eqb (detN r % 12288) 1 || eqb (detN r % 12288) 12287
 
 -- ---- words and codes
 -- a part as one number
-abbrev pub word : Part ℕ → ℕ
-word p = (p .x + 8 * p .y + 64 * p .z + p .t) % 12288
+abbrev pub partWord : Part ℕ → ℕ
+partWord p = (p .x + 8 * p .y + 64 * p .z + p .t) % 12288
 
 -- three words as one number
 abbrev pub packed : ℕ → ℕ → ℕ → ℕ
 packed a b c = (a * 65536 + b) * 65536 + c
 
 unfoldable pub codeRow : Row ℕ → ℕ
-codeRow r = packed (word (r .first)) (word (r .second)) (word (r .third))
+codeRow r = packed (partWord (r .first)) (partWord (r .second)) (partWord (r .third))
 
 -- the word of the part p after an operator with the words a, b and c
 abbrev pub wordAfter : Part ℕ → ℕ → ℕ → ℕ → ℕ

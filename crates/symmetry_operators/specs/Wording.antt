@@ -9,7 +9,7 @@ use mathlib.Core.List.{List}
 use lib.IntN.{ℤ, pos, negsuc}
 use lib.ListN.{length, getD}
 use Rattle.symmetry_operators.specs.Operator.{Row, determinant, product, identity, fine}
-use Rattle.symmetry_operators.specs.Check.{rowMost, rowsOf, Outcome}
+use Rattle.symmetry_operators.specs.Check.{rowMost, operatorRows, Outcome}
 
 -- a stands at some place of the list
 pub record In {A : Type 0} (l : List A) (a : A) : Type 0 where
@@ -24,15 +24,15 @@ pub record Some {A : Type 0} (l : List A) (P : A → Type 0) : Type 0 where
   pub so : P one
 
 -- row i of a list
-abbrev pub rowAt : List (Row ℤ) → ℕ → Row ℤ
-rowAt l i = getD l i identity
+abbrev pub operatorRow : List (Row ℤ) → ℕ → Row ℤ
+operatorRow l i = getD l i identity
 
 -- ---- the refusals
 -- "more than 192 rows, a part row or a number out of range"
 pub data NoList (n : List ℤ) : Type 0 where
   too-many : 12 * rowMost < length n → NoList n
   part-row : (length n % 12 ≡ 0 → ⊥) → NoList n
-  out-of-range : Some (rowsOf n) (λ (r : Row ℤ). fine r ≡ false) → NoList n
+  out-of-range : Some (operatorRows n) (λ (r : Row ℤ). fine r ≡ false) → NoList n
 
 -- the "determinant is 1 or −1"
 abbrev pub HasUnit : Row ℤ → Type 0
@@ -52,7 +52,7 @@ pub record EqualRows (l : List (Row ℤ)) : Type 0 where
   pub second : ℕ
   pub apart : first < second
   pub within : second < length l
-  pub equal : rowAt l first ≡ rowAt l second
+  pub equal : operatorRow l first ≡ operatorRow l second
 
 -- "17 a product missing": of two rows of the list, or of one with itself
 pub record ProductMissing (l : List (Row ℤ)) : Type 0 where
@@ -67,13 +67,13 @@ pub record ProductMissing (l : List (Row ℤ)) : Type 0 where
 pub record IsList (n : List ℤ) : Type 0 where
   pub few : length n ≤ 12 * rowMost
   pub whole-rows : length n % 12 ≡ 0
-  pub in-range : (r : Row ℤ) → In (rowsOf n) r → fine r ≡ true
+  pub in-range : (r : Row ℤ) → In (operatorRows n) r → fine r ≡ true
 
 -- "Accept it exactly when every determinant is 1 or −1, the identity is there, no two are equal and each product of two, or of one with itself, is in the list."
 pub record Accepted (l : List (Row ℤ)) : Type 0 where
   pub determinants : (r : Row ℤ) → In l r → HasUnit r
   pub identity-there : In l identity
-  pub none-equal : (i j : ℕ) → i < j → j < length l → rowAt l i ≡ rowAt l j → ⊥
+  pub none-equal : (i j : ℕ) → i < j → j < length l → operatorRow l i ≡ operatorRow l j → ⊥
   pub products : (r s : Row ℤ) → In l r → In l s → In l (product r s)
 
 -- ---- the count of pairs
@@ -83,7 +83,7 @@ Earlier i j k m = (i < k) ⊎ ((i ≡ k) × (j < m))
 
 -- the product of rows i and j is in the list
 abbrev pub Closes : List (Row ℤ) → ℕ → ℕ → Type 0
-Closes l i j = In l (product (rowAt l i) (rowAt l j))
+Closes l i j = In l (product (operatorRow l i) (operatorRow l j))
 
 -- "up to and including the first without its product": that pair is (first, second), counted from 1 in the order of pairs
 pub record FirstMissing (l : List (Row ℤ)) (count : ℕ) : Type 0 where

@@ -14,10 +14,10 @@ use lib.IntN.{ℤ}
 use Rattle.text.proofs.Bools.{and-both}
 use Rattle.symmetry_operators.specs.Operator.{Part}
 use Rattle.symmetry_fractions.specs.Grammar.{signByte, IsFraction}
-use Rattle.symmetry_fractions.specs.Reading.{isSign, signedOf, fractionOf}
+use Rattle.symmetry_fractions.specs.Reading.{isSign, signed24ths, fractionOf}
 use Rattle.symmetry_fractions.proofs.Wording.{fraction-taken, fraction-alone, fraction-size, fraction-length, fraction-first, begins}
-use Rattle.symmetry_parts.specs.Grammar.{Letter, letterByte, Signed, sumText, timesOf, WithFraction, Written, IsPart}
-use Rattle.symmetry_parts.specs.Reading.{sum, numbersOf, isFree, withTranslation, lastOf, moreOf, firstOf, partOf}
+use Rattle.symmetry_parts.specs.Grammar.{Letter, letterByte, Signed, sumText, timesIn, WithFraction, MayLackPlus, IsPart}
+use Rattle.symmetry_parts.specs.Reading.{sum, partNumbers, isFree, withTranslation, lastFraction, moreOf, afterFirstSign, partOf}
 use Rattle.symmetry_parts.specs.declared.Sum.{Sum}
 use Rattle.symmetry_parts.specs.declared.PartReading.the-variants.{Found}
 use Rattle.symmetry_parts.proofs.Turns.{more-letter, more-last}
@@ -45,8 +45,8 @@ some-not-zero : (n : ℕ) → 1 ≤ n → eqb n 0 ≡ false
 some-not-zero n h = let k : n ≡ 0 → ⊥ = λ e. omega arith in ne-eqb n 0 k
 
 last-taken : (p : Sum) (minus : Bool) {t : List ℕ} {size : ℕ} → IsFraction t size → p .t ≡ 0
-    → lastOf p (signByte minus) t ≡ Found (withTranslation p (signedOf (signByte minus) size))
-unfolding lastOf
+    → lastFraction p (signByte minus) t ≡ Found (withTranslation p (signed24ths (signByte minus) size))
+unfolding lastFraction
 last-taken p minus {size = n} h e =
     simp (eq-eqb _ _ e, eq-eqb _ _ (fraction-length h), fraction-alone h, some-not-zero n (fraction-size h .0))
 
@@ -94,21 +94,21 @@ no-fraction s h = by (leb 1 (fractionOf s)) refl
     by false e = omega (arith, leb-false 1 (fractionOf s) e)
 
 letters-first : (a : Signed) (l : List Signed) {t : List ℕ} {q : Sum} → fits (start 0) (a ∷ l) ≡ true → Tail (putAll (start 0) (a ∷ l)) t q
-    → firstOf (signByte (a .minus)) (letterByte (a .letter) ∷ (sumText l ++ t)) ≡ Found q
-unfolding firstOf fits putAll
+    → afterFirstSign (signByte (a .minus)) (letterByte (a .letter) ∷ (sumText l ++ t)) ≡ Found q
+unfolding afterFirstSign fits putAll
 letters-first a l {t} h k =
     let f = and-both (isFree (start 0) (letterByte (a .letter))) (fits (put (start 0) a) l) h in
     let s : List ℕ = letterByte (a .letter) ∷ (sumText l ++ t) in
     simp (no-fraction s (letter-high (a .letter)), f .0) (more-taken (put (start 0) a) l (f .1) k)
 
-fraction-then : (minus : Bool) {t : List ℕ} {n : ℕ} (l : List Signed) → IsFraction t n → 1 ≤ length l → fits (start (signedOf (signByte minus) n)) l ≡ true
-    → firstOf (signByte minus) (t ++ sumText l) ≡ Found (putAll (start (signedOf (signByte minus) n)) l)
-unfolding firstOf sumText
+fraction-then : (minus : Bool) {t : List ℕ} {n : ℕ} (l : List Signed) → IsFraction t n → 1 ≤ length l → fits (start (signed24ths (signByte minus) n)) l ≡ true
+    → afterFirstSign (signByte minus) (t ++ sumText l) ≡ Found (putAll (start (signed24ths (signByte minus) n)) l)
+unfolding afterFirstSign sumText
 fraction-then minus [] h some f = absurd (not-suc-le-zero some)
 fraction-then minus {t} {n} (a ∷ l) h some f =
     let r = sumText (a ∷ l) in
     let long : 3 < length (t ++ r) = omega (arith, length-append t r, fraction-length h) in
-    let m = signedOf (signByte minus) n in
+    let m = signed24ths (signByte minus) n in
     let all : moreOf (start m) r ≡ Found (putAll (start m) (a ∷ l)) = ap (moreOf (start m)) (sym (append-nil r)) ∙ more-taken (start m) (a ∷ l) f Tail.none in
     simp (fraction-taken h r, some-not-zero n (fraction-size h .0), lt-leb _ _ long, drop-at t r 3 (fraction-length h)) all
 
@@ -119,24 +119,24 @@ pub record Taken (full : List ℕ) (p : Part ℤ) : Type 0 where
   pub sum : Sum
   pub text : full ≡ signByte minus ∷ rest
   pub unsigned : isSign (getD rest 0 0) ≡ false
-  pub read : firstOf (signByte minus) rest ≡ Found sum
-  pub worth : numbersOf sum ≡ p
+  pub read : afterFirstSign (signByte minus) rest ≡ Found sum
+  pub worth : partNumbers sum ≡ p
 
-full-taken : (l : List Signed) {full : List ℕ} {n : ℤ} → 1 ≤ length l → ((c : Letter) → timesOf c l ≤ 1) → WithFraction (sumText l) full n → Taken full (factors l n)
+full-taken : (l : List Signed) {full : List ℕ} {n : ℤ} → 1 ≤ length l → ((c : Letter) → timesIn c l ≤ 1) → WithFraction (sumText l) full n → Taken full (factors l n)
 unfolding sumText
 full-taken [] some once w = absurd (not-suc-le-zero some)
 full-taken (a ∷ l) some once WithFraction.none =
     let f = letters-fit 0 (a ∷ l) once in
     let r = letterByte (a .letter) ∷ sumText l in
     let q = putAll (start 0) (a ∷ l) in
-    let read : firstOf (signByte (a .minus)) (letterByte (a .letter) ∷ (sumText l ++ [])) ≡ Found q = letters-first a l f Tail.none in
+    let read : afterFirstSign (signByte (a .minus)) (letterByte (a .letter) ∷ (sumText l ++ [])) ≡ Found q = letters-first a l f Tail.none in
     record {
       minus = a .minus;
       rest = r;
       sum = q;
       text = refl;
       unsigned = letter-unsigned (a .letter);
-      read = ap (λ (u : List ℕ). firstOf (signByte (a .minus)) (letterByte (a .letter) ∷ u)) (sym (append-nil (sumText l))) ∙ read;
+      read = ap (λ (u : List ℕ). afterFirstSign (signByte (a .minus)) (letterByte (a .letter) ∷ u)) (sym (append-nil (sumText l))) ∙ read;
       worth = own-worth 0 (a ∷ l) f;
     }
 full-taken (a ∷ l) some once (WithFraction.last minus t n h) =
@@ -145,14 +145,14 @@ full-taken (a ∷ l) some once (WithFraction.last minus t n h) =
     record {
       minus = a .minus;
       rest = letterByte (a .letter) ∷ (sumText l ++ (signByte minus ∷ t));
-      sum = withTranslation (putAll (start 0) (a ∷ l)) (signedOf (signByte minus) n);
+      sum = withTranslation (putAll (start 0) (a ∷ l)) (signed24ths (signByte minus) n);
       text = refl;
       unsigned = letter-unsigned (a .letter);
       read = letters-first a l f (Tail.last minus t n h (all-translation (start 0) (a ∷ l)));
-      worth = sum-worth 0 (signedOf (signByte minus) n) (a ∷ l) f ∙ rw (signed-residue minus n (size .0) (size .1));
+      worth = sum-worth 0 (signed24ths (signByte minus) n) (a ∷ l) f ∙ rw (signed-residue minus n (size .0) (size .1));
     }
 full-taken (a ∷ l) some once (WithFraction.first minus t n h) =
-    let m = signedOf (signByte minus) n in
+    let m = signed24ths (signByte minus) n in
     let f = letters-fit m (a ∷ l) once in
     let size = fraction-size h in
     record {
@@ -169,19 +169,19 @@ full-taken (a ∷ l) some once (WithFraction.first minus t n h) =
 pub record Read (t : List ℕ) (p : Part ℤ) : Type 0 where
   pub sum : Sum
   pub read : partOf t ≡ Found sum
-  pub worth : numbersOf sum ≡ p
+  pub worth : partNumbers sum ≡ p
 
 plus-only : (minus : Bool) (t r : List ℕ) → signByte false ∷ t ≡ signByte minus ∷ r → (minus ≡ false) × (t ≡ r)
 plus-only true t r e = let z : _≡_ {A = ℕ} 43 45 = cc in absurd (omega arith)
 plus-only false t r e = (refl, cc)
 
-written-read : {full t : List ℕ} {p : Part ℤ} → Taken full p → Written full t → Read t p
+written-read : {full t : List ℕ} {p : Part ℤ} → Taken full p → MayLackPlus full t → Read t p
 unfolding partOf
-written-read k (Written.in-full t) =
+written-read k (MayLackPlus.in-full t) =
     record { sum = k .sum; read = rw (k .text) (simp (sign-is-sign (k .minus)) (k .read)); worth = k .worth }
-written-read k (Written.plus-missing t) =
+written-read k (MayLackPlus.plus-missing t) =
     let e = plus-only (k .minus) t (k .rest) (k .text) in
-    let q : firstOf 43 (k .rest) ≡ Found (k .sum) = ap (λ (m : Bool). firstOf (signByte m) (k .rest)) (sym (e .0)) ∙ k .read in
+    let q : afterFirstSign 43 (k .rest) ≡ Found (k .sum) = ap (λ (m : Bool). afterFirstSign (signByte m) (k .rest)) (sym (e .0)) ∙ k .read in
     record { sum = k .sum; read = rw (e .1) (simp (k .unsigned) q); worth = k .worth }
 
 pub part-taken : (t : List ℕ) (p : Part ℤ) → IsPart t p → Read t p

@@ -9,8 +9,8 @@ use lib.Dec.{eqb}
 use lib.IntN.{pos}
 use Rattle.text.proofs.Bools.{and-both}
 use Rattle.symmetry_fractions.specs.Grammar.{signByte, withSign}
-use Rattle.symmetry_fractions.specs.Reading.{signedOf}
-use Rattle.symmetry_parts.specs.Grammar.{Letter, letterByte, sameLetter, Signed, timesOf, factorOf}
+use Rattle.symmetry_fractions.specs.Reading.{signed24ths}
+use Rattle.symmetry_parts.specs.Grammar.{Letter, letterByte, sameLetter, Signed, timesIn, factorOf}
 use Rattle.symmetry_parts.specs.Reading.{factor, isFree, withLetter}
 use Rattle.symmetry_parts.specs.declared.Sum.{Sum}
 
@@ -22,7 +22,7 @@ numberOf Letter.Z p = p .z
 
 -- a signed letter's number, and the sum with it
 abbrev pub signedOne : Signed → ℕ
-signedOne a = signedOf (signByte (a .minus)) 1
+signedOne a = signed24ths (signByte (a .minus)) 1
 
 abbrev pub put : Sum → Signed → Sum
 put p a = withLetter p (letterByte (a .letter)) (signedOne a)
@@ -87,13 +87,13 @@ same-self Letter.Y = refl
 same-self Letter.Z = refl
 
 -- a sign with 1 gives a number that is not 0, and that factor
-one-some : (minus : Bool) → eqb (signedOf (signByte minus) 1) 0 ≡ false
-unfolding signedOf
+one-some : (minus : Bool) → eqb (signed24ths (signByte minus) 1) 0 ≡ false
+unfolding signed24ths
 one-some true = refl
 one-some false = refl
 
-one-factor : (minus : Bool) → factor (signedOf (signByte minus) 1) ≡ withSign minus 1
-unfolding signedOf factor
+one-factor : (minus : Bool) → factor (signed24ths (signByte minus) 1) ≡ withSign minus 1
+unfolding signed24ths factor
 one-factor true = refl
 one-factor false = refl
 
@@ -133,12 +133,12 @@ once-by : (c : Letter) (p : Sum) (a : Signed) (n : ℕ) (t : Bool) → sameLette
 once-by c p a n true e f h = omega (arith, free-unused c p a e f, used-same c p a e)
 once-by c p a n false e f h = omega (arith, used-other c p a e)
 
-pub fits-once : (c : Letter) (p : Sum) (l : List Signed) → fits p l ≡ true → used c p + timesOf c l ≤ 1
-unfolding fits timesOf
+pub fits-once : (c : Letter) (p : Sum) (l : List Signed) → fits p l ≡ true → used c p + timesIn c l ≤ 1
+unfolding fits timesIn
 fits-once c p [] h = omega (arith, used-most (eqb (numberOf c p) 0))
 fits-once c p (a ∷ l) h =
     let k = and-both (isFree p (letterByte (a .letter))) (fits (put p a) l) h in
-    once-by c p a (timesOf c l) (sameLetter c (a .letter)) refl (k .0) (fits-once c (put p a) l (k .1))
+    once-by c p a (timesIn c l) (sameLetter c (a .letter)) refl (k .0) (fits-once c (put p a) l (k .1))
 
 -- letters that are there at most once fit
 put-by : (c : Letter) (p : Sum) (a : Signed) (n : ℕ) (t : Bool) → sameLetter c (a .letter) ≡ t → used c p + cond t (suc n) n ≤ 1 → used c (put p a) + n ≤ 1
@@ -149,18 +149,18 @@ unused-free : (c : Letter) (p : Sum) (n : ℕ) (t : Bool) → eqb (numberOf c p)
 unused-free c p n true e h = free-number c p ∙ e
 unused-free c p n false e h = absurd (omega arith)
 
-times-own : (a : Signed) (l : List Signed) → timesOf (a .letter) (a ∷ l) ≡ suc (timesOf (a .letter) l)
-unfolding timesOf
+times-own : (a : Signed) (l : List Signed) → timesIn (a .letter) (a ∷ l) ≡ suc (timesIn (a .letter) l)
+unfolding timesIn
 times-own a l = rw (same-self (a .letter))
 
-pub once-fits : (p : Sum) (l : List Signed) → ((c : Letter) → used c p + timesOf c l ≤ 1) → fits p l ≡ true
-unfolding fits timesOf
+pub once-fits : (p : Sum) (l : List Signed) → ((c : Letter) → used c p + timesIn c l ≤ 1) → fits p l ≡ true
+unfolding fits timesIn
 once-fits p [] h = refl
 once-fits p (a ∷ l) h =
     let d = a .letter in
-    let own : used d p + suc (timesOf d l) ≤ 1 = omega (arith, h d, times-own a l) in
-    let free = unused-free d p (timesOf d l) (eqb (numberOf d p) 0) refl own in
-    rw free (once-fits (put p a) l (λ c. put-by c p a (timesOf c l) (sameLetter c d) refl (h c)))
+    let own : used d p + suc (timesIn d l) ≤ 1 = omega (arith, h d, times-own a l) in
+    let free = unused-free d p (timesIn d l) (eqb (numberOf d p) 0) refl own in
+    rw free (once-fits (put p a) l (λ c. put-by c p a (timesIn c l) (sameLetter c d) refl (h c)))
 
 -- a letter that is held stays as it is
 module _ (c : Letter) where

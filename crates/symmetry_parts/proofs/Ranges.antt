@@ -13,11 +13,11 @@ use Rattle.text.specs.Run.{all, between, other}
 use Rattle.text.proofs.Bools.{and-both}
 use Rattle.text.proofs.Runs.{all-append, all-lack}
 use Rattle.symmetry_operators.specs.Operator.{Part, isFactor, isTranslation, finePart}
-use Rattle.symmetry_fractions.specs.Grammar.{whole, signByte}
+use Rattle.symmetry_fractions.specs.Grammar.{oneIn24ths, signByte}
 use Rattle.symmetry_fractions.specs.Reading.{isSign}
 use Rattle.symmetry_fractions.proofs.Wording.{fraction-bytes}
-use Rattle.symmetry_parts.specs.Grammar.{Letter, letterByte, Signed, sumText, WithFraction, Written, IsPart}
-use Rattle.symmetry_parts.specs.Reading.{factor, numbersOf}
+use Rattle.symmetry_parts.specs.Grammar.{Letter, letterByte, Signed, sumText, WithFraction, MayLackPlus, IsPart}
+use Rattle.symmetry_parts.specs.Reading.{factor, partNumbers}
 use Rattle.symmetry_parts.specs.declared.Sum.{Sum}
 
 factor-by : (zero one : Bool) → isFactor (cond zero (pos 0) (cond one (pos 1) (negsuc 0))) ≡ true
@@ -29,11 +29,11 @@ factor-fine : (n : ℕ) → isFactor (factor n) ≡ true
 unfolding factor
 factor-fine n = factor-by (eqb n 0) (eqb n 1)
 
-translation-fine : (n : ℕ) → isTranslation (pos (n % whole)) ≡ true
-translation-fine n = let h : n % whole < whole = mod-lt n (lit< tt) in simp (le-leb 0 (n % whole) (omega arith), le-leb (n % whole) 23 (omega arith))
+translation-fine : (n : ℕ) → isTranslation (pos (n % oneIn24ths)) ≡ true
+translation-fine n = let h : n % oneIn24ths < oneIn24ths = mod-lt n (lit< tt) in simp (le-leb 0 (n % oneIn24ths) (omega arith), le-leb (n % oneIn24ths) 23 (omega arith))
 
 -- whatever was read, its numbers are within their ranges
-pub numbers-fine : (q : Sum) → finePart (numbersOf q) ≡ true
+pub numbers-fine : (q : Sum) → finePart (partNumbers q) ≡ true
 unfolding finePart
 numbers-fine q = simp (factor-fine (q .x), factor-fine (q .y), factor-fine (q .z), translation-fine (q .t))
 
@@ -71,10 +71,10 @@ full-all h WithFraction.none = h
 full-all {sum} h (WithFraction.first minus t n f) = sign-all minus (t ++ sum) (all-append isPartByte t sum (fraction-all t (fraction-bytes f)) h)
 full-all {sum} h (WithFraction.last minus t n f) = all-append isPartByte sum (signByte minus ∷ t) h (sign-all minus t (fraction-all t (fraction-bytes f)))
 
-written-all : {full t : List ℕ} → all isPartByte full ≡ true → Written full t → all isPartByte t ≡ true
+written-all : {full t : List ℕ} → all isPartByte full ≡ true → MayLackPlus full t → all isPartByte t ≡ true
 unfolding all
-written-all h (Written.in-full t) = h
-written-all h (Written.plus-missing t) = and-both (isPartByte (signByte false)) (all isPartByte t) h .1
+written-all h (MayLackPlus.in-full t) = h
+written-all h (MayLackPlus.plus-missing t) = and-both (isPartByte (signByte false)) (all isPartByte t) h .1
 
 part-all : {t : List ℕ} {p : Part ℤ} → IsPart t p → all isPartByte t ≡ true
 part-all h = written-all (full-all (sum-all (h .letters)) (h .with-fraction)) (h .written)

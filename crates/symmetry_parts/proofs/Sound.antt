@@ -14,10 +14,10 @@ use lib.IntN.{ℤ, pos}
 use Rattle.text.proofs.Bools.{or-either, cond-first}
 use Rattle.symmetry_operators.specs.Operator.{Part}
 use Rattle.symmetry_fractions.specs.Grammar.{signByte, withSign, IsFraction}
-use Rattle.symmetry_fractions.specs.Reading.{isSign, signedOf, fractionOf}
+use Rattle.symmetry_fractions.specs.Reading.{isSign, signed24ths, fractionOf}
 use Rattle.symmetry_fractions.proofs.Wording.{fraction-size, fraction-length, begins}
-use Rattle.symmetry_parts.specs.Grammar.{Letter, letterByte, Signed, sumText, timesOf, WithFraction, Written, IsPart}
-use Rattle.symmetry_parts.specs.Reading.{numbersOf, isFree, withLetter, lastOf, moreOf, firstOf, partOf}
+use Rattle.symmetry_parts.specs.Grammar.{Letter, letterByte, Signed, sumText, timesIn, WithFraction, MayLackPlus, IsPart}
+use Rattle.symmetry_parts.specs.Reading.{partNumbers, isFree, withLetter, lastFraction, moreOf, afterFirstSign, partOf}
 use Rattle.symmetry_parts.specs.declared.Sum.{Sum}
 use Rattle.symmetry_parts.specs.declared.PartReading.{PartReading}
 use Rattle.symmetry_parts.specs.declared.PartReading.the-variants.{Found, NoPart}
@@ -77,8 +77,8 @@ fraction-whole s e some =
     let same : b .fraction ≡ s = sym (b .text ∙ ap (λ (r : List ℕ). b .fraction ++ r) none ∙ append-nil (b .fraction)) in
     subst (λ (t : List ℕ). IsFraction t (fractionOf s)) same (b .is-fraction)
 
-last-is : (p : Sum) (minus : Bool) (s : List ℕ) (q : Sum) → lastOf p (signByte minus) s ≡ Found q → Tail p (signByte minus ∷ s) q
-unfolding lastOf
+last-is : (p : Sum) (minus : Bool) (s : List ℕ) (q : Sum) → lastFraction p (signByte minus) s ≡ Found q → Tail p (signByte minus ∷ s) q
+unfolding lastFraction
 last-is p minus s q e =
     let a = cond-first (eqb (p .t) 0) _ NoPart (Found q) (not-found q) e in
     let b = cond-first (eqb (length s) 3) _ NoPart (Found q) (not-found q) (a .1) in
@@ -95,7 +95,7 @@ record Rest (p : Sum) (s : List ℕ) (q : Sum) : Type 0 where
   fit : fits p letters ≡ true
   is-tail : Tail (putAll p letters) tail q
 
-added : (p : Sum) (minus : Bool) (c : Letter) (r : List ℕ) (q : Sum) → isFree p (letterByte c) ≡ true → Rest (withLetter p (letterByte c) (signedOf (signByte minus) 1)) r q
+added : (p : Sum) (minus : Bool) (c : Letter) (r : List ℕ) (q : Sum) → isFree p (letterByte c) ≡ true → Rest (withLetter p (letterByte c) (signed24ths (signByte minus) 1)) r q
     → Rest p (signByte minus ∷ (letterByte c ∷ r)) q
 unfolding fits putAll sumText
 added p minus c r q f k =
@@ -107,18 +107,18 @@ added p minus c r q f k =
       is-tail = k .is-tail;
     }
 
-more-by : (p : Sum) (sign b : ℕ) (r : List ℕ) (q : Sum) → (moreOf (withLetter p b (signedOf sign 1)) r ≡ Found q → Rest (withLetter p b (signedOf sign 1)) r q)
-    → (t : Bool) → isFree p b ≡ t → SignOf sign → cond t (moreOf (withLetter p b (signedOf sign 1)) r) (lastOf p sign (b ∷ r)) ≡ Found q → Rest p (sign ∷ (b ∷ r)) q
+more-by : (p : Sum) (sign b : ℕ) (r : List ℕ) (q : Sum) → (moreOf (withLetter p b (signed24ths sign 1)) r ≡ Found q → Rest (withLetter p b (signed24ths sign 1)) r q)
+    → (t : Bool) → isFree p b ≡ t → SignOf sign → cond t (moreOf (withLetter p b (signed24ths sign 1)) r) (lastFraction p sign (b ∷ r)) ≡ Found q → Rest p (sign ∷ (b ∷ r)) q
 unfolding fits putAll sumText
 more-by p sign b r q ih true f s e =
     let l = letter-of p b f in
     let m = s .minus in
     let c = l .letter in
-    let k = subst (λ (x : ℕ). Rest (withLetter p x (signedOf (signByte m) 1)) r q) (l .is) (subst (λ (x : ℕ). Rest (withLetter p b (signedOf x 1)) r q) (s .is) (ih e)) in
+    let k = subst (λ (x : ℕ). Rest (withLetter p x (signed24ths (signByte m) 1)) r q) (l .is) (subst (λ (x : ℕ). Rest (withLetter p b (signed24ths x 1)) r q) (s .is) (ih e)) in
     let free : isFree p (letterByte c) ≡ true = ap (isFree p) (sym (l .is)) ∙ f in
     subst (λ (x : ℕ). Rest p (x ∷ (b ∷ r)) q) (sym (s .is)) (subst (λ (x : ℕ). Rest p (signByte m ∷ (x ∷ r)) q) (sym (l .is)) (added p m c r q free k))
 more-by p sign b r q ih false f s e =
-    let last : Tail p (signByte (s .minus) ∷ (b ∷ r)) q = last-is p (s .minus) (b ∷ r) q (ap (λ (x : ℕ). lastOf p x (b ∷ r)) (sym (s .is)) ∙ e) in
+    let last : Tail p (signByte (s .minus) ∷ (b ∷ r)) q = last-is p (s .minus) (b ∷ r) q (ap (λ (x : ℕ). lastFraction p x (b ∷ r)) (sym (s .is)) ∙ e) in
     record {
       letters = [];
       tail = sign ∷ (b ∷ r);
@@ -133,18 +133,18 @@ more-is p [] q e = record { letters = []; tail = []; text = refl; fit = refl; is
 more-is p (sign ∷ []) q e = absurd (not-found q e)
 more-is p (sign ∷ (b ∷ r)) q e =
     let h = cond-first (isSign sign) _ NoPart (Found q) (not-found q) e in
-    more-by p sign b r q (more-is (withLetter p b (signedOf sign 1)) r q) (isFree p b) refl (sign-of sign (h .0)) (h .1)
+    more-by p sign b r q (more-is (withLetter p b (signed24ths sign 1)) r q) (isFree p b) refl (sign-of sign (h .0)) (h .1)
 
 -- a part's text with every sign
 record Full (t : List ℕ) (p : Part ℤ) : Type 0 where
   letters : List Signed
   translation : ℤ
   some : 1 ≤ length letters
-  once : (c : Letter) → timesOf c letters ≤ 1
+  once : (c : Letter) → timesIn c letters ≤ 1
   with-fraction : WithFraction (sumText letters) t translation
   worth : p ≡ factors letters translation
 
-tail-full : (l : List Signed) {t : List ℕ} {q : Sum} → 1 ≤ length l → fits (start 0) l ≡ true → Tail (putAll (start 0) l) t q → Full (sumText l ++ t) (numbersOf q)
+tail-full : (l : List Signed) {t : List ℕ} {q : Sum} → 1 ≤ length l → fits (start 0) l ≡ true → Tail (putAll (start 0) l) t q → Full (sumText l ++ t) (partNumbers q)
 tail-full l some f Tail.none =
     record {
       letters = l;
@@ -162,30 +162,30 @@ tail-full l some f (Tail.last minus t n h e) =
       some = some;
       once = fit-once 0 l f;
       with-fraction = WithFraction.last minus t n h;
-      worth = sum-worth 0 (signedOf (signByte minus) n) l f ∙ rw (signed-residue minus n (size .0) (size .1));
+      worth = sum-worth 0 (signed24ths (signByte minus) n) l f ∙ rw (signed-residue minus n (size .0) (size .1));
     }
 
-letter-full : (minus : Bool) (c : Letter) (r : List ℕ) (q : Sum) → isFree (start 0) (letterByte c) ≡ true → Rest (withLetter (start 0) (letterByte c) (signedOf (signByte minus) 1)) r q
-    → Full (signByte minus ∷ (letterByte c ∷ r)) (numbersOf q)
+letter-full : (minus : Bool) (c : Letter) (r : List ℕ) (q : Sum) → isFree (start 0) (letterByte c) ≡ true → Rest (withLetter (start 0) (letterByte c) (signed24ths (signByte minus) 1)) r q
+    → Full (signByte minus ∷ (letterByte c ∷ r)) (partNumbers q)
 unfolding sumText fits putAll
 letter-full minus c r q f k =
     let l : List Signed = record { minus = minus; letter = c } ∷ k .letters in
     rw (k .text) (tail-full l (omega arith) (rw f (k .fit)) (k .is-tail))
 
 -- after a fraction no other follows, and there are letters
-fraction-full : (minus : Bool) {t : List ℕ} {n : ℕ} (r : List ℕ) (q : Sum) → IsFraction t n → 1 ≤ length r → Rest (start (signedOf (signByte minus) n)) r q
-    → Full (signByte minus ∷ (t ++ r)) (numbersOf q)
+fraction-full : (minus : Bool) {t : List ℕ} {n : ℕ} (r : List ℕ) (q : Sum) → IsFraction t n → 1 ≤ length r → Rest (start (signed24ths (signByte minus) n)) r q
+    → Full (signByte minus ∷ (t ++ r)) (partNumbers q)
 unfolding sumText
 fraction-full minus {t} {n} r q h some k = by (k .letters) (k .fit) (k .text) (k .is-tail)
   where
     m : ℕ
-    m = signedOf (signByte minus) n
+    m = signed24ths (signByte minus) n
 
     letters-some : (l : List Signed) → r ≡ sumText l ++ [] → 1 ≤ length l
     letters-some [] e = absurd (omega (arith, ap length e))
     letters-some (a ∷ l) e = omega arith
 
-    by : (l : List Signed) {u : List ℕ} {v : Sum} → fits (start m) l ≡ true → r ≡ sumText l ++ u → Tail (putAll (start m) l) u v → Full (signByte minus ∷ (t ++ r)) (numbersOf v)
+    by : (l : List Signed) {u : List ℕ} {v : Sum} → fits (start m) l ≡ true → r ≡ sumText l ++ u → Tail (putAll (start m) l) u v → Full (signByte minus ∷ (t ++ r)) (partNumbers v)
     by l f e Tail.none =
         let size = fraction-size h in
         record {
@@ -199,40 +199,40 @@ fraction-full minus {t} {n} r q h some k = by (k .letters) (k .fit) (k .text) (k
     by l f e (Tail.last _ _ _ _ z) = let size = fraction-size h in absurd (signed-some minus n (size .0) (size .1) (sym (all-translation (start m) l) ∙ z))
 
 letter-first : (minus : Bool) (s : List ℕ) (q : Sum) → isFree (start 0) (getD s 0 0) ≡ true
-    → moreOf (withLetter (start 0) (getD s 0 0) (signedOf (signByte minus) 1)) (drop 1 s) ≡ Found q → Full (signByte minus ∷ s) (numbersOf q)
+    → moreOf (withLetter (start 0) (getD s 0 0) (signed24ths (signByte minus) 1)) (drop 1 s) ≡ Found q → Full (signByte minus ∷ s) (partNumbers q)
 letter-first minus [] q f e = absurd (omega (arith, free-within (start 0) [] 0 f))
 letter-first minus (b ∷ r) q f e =
     let l = letter-of (start 0) b f in
     let c = l .letter in
-    let k = subst (λ (x : ℕ). Rest (withLetter (start 0) x (signedOf (signByte minus) 1)) r q) (l .is) (more-is _ r q e) in
-    subst (λ (x : ℕ). Full (signByte minus ∷ (x ∷ r)) (numbersOf q)) (sym (l .is)) (letter-full minus c r q (ap (isFree (start 0)) (sym (l .is)) ∙ f) k)
+    let k = subst (λ (x : ℕ). Rest (withLetter (start 0) x (signed24ths (signByte minus) 1)) r q) (l .is) (more-is _ r q e) in
+    subst (λ (x : ℕ). Full (signByte minus ∷ (x ∷ r)) (partNumbers q)) (sym (l .is)) (letter-full minus c r q (ap (isFree (start 0)) (sym (l .is)) ∙ f) k)
 
 fraction-first-is : (minus : Bool) (s : List ℕ) (q : Sum) → 1 ≤ fractionOf s → 3 < length s
-    → moreOf (start (signedOf (signByte minus) (fractionOf s))) (drop 3 s) ≡ Found q → Full (signByte minus ∷ s) (numbersOf q)
+    → moreOf (start (signed24ths (signByte minus) (fractionOf s))) (drop 3 s) ≡ Found q → Full (signByte minus ∷ s) (partNumbers q)
 fraction-first-is minus s q some long e =
     let b = begins s some in
     let f = b .is-fraction in
     let rest : drop 3 s ≡ b .rest = ap (drop 3) (b .text) ∙ drop-at (b .fraction) (b .rest) 3 (fraction-length f) in
     let total : length s ≡ length (b .fraction) + length (b .rest) = ap length (b .text) ∙ length-append (b .fraction) (b .rest) in
     let more : 1 ≤ length (b .rest) = omega (arith, fraction-length f) in
-    let k = more-is (start (signedOf (signByte minus) (fractionOf s))) (b .rest) q (ap (moreOf (start (signedOf (signByte minus) (fractionOf s)))) (sym rest) ∙ e) in
-    subst (λ (u : List ℕ). Full (signByte minus ∷ u) (numbersOf q)) (sym (b .text)) (fraction-full minus (b .rest) q f more k)
+    let k = more-is (start (signed24ths (signByte minus) (fractionOf s))) (b .rest) q (ap (moreOf (start (signed24ths (signByte minus) (fractionOf s)))) (sym rest) ∙ e) in
+    subst (λ (u : List ℕ). Full (signByte minus ∷ u) (partNumbers q)) (sym (b .text)) (fraction-full minus (b .rest) q f more k)
 
 first-by : (minus : Bool) (s : List ℕ) (q : Sum) (t : Bool) → eqb (fractionOf s) 0 ≡ t
-    → cond t (cond (isFree (start 0) (getD s 0 0)) (moreOf (withLetter (start 0) (getD s 0 0) (signedOf (signByte minus) 1)) (drop 1 s)) NoPart)
-    (cond (leb (length s) 3) NoPart (moreOf (start (signedOf (signByte minus) (fractionOf s))) (drop 3 s))) ≡ Found q
-    → Full (signByte minus ∷ s) (numbersOf q)
+    → cond t (cond (isFree (start 0) (getD s 0 0)) (moreOf (withLetter (start 0) (getD s 0 0) (signed24ths (signByte minus) 1)) (drop 1 s)) NoPart)
+    (cond (leb (length s) 3) NoPart (moreOf (start (signed24ths (signByte minus) (fractionOf s))) (drop 3 s))) ≡ Found q
+    → Full (signByte minus ∷ s) (partNumbers q)
 first-by minus s q true z e = let h = cond-first (isFree (start 0) (getD s 0 0)) _ NoPart (Found q) (not-found q) e in letter-first minus s q (h .0) (h .1)
 first-by minus s q false z e =
     let h = cond-second (leb (length s) 3) NoPart _ (Found q) (not-found q) e in
     let some : fractionOf s ≡ 0 → ⊥ = eqb-false _ _ z in
     fraction-first-is minus s q (omega (arith, some)) (leb-false _ _ (h .0)) (h .1)
 
-first-is : (minus : Bool) (s : List ℕ) (q : Sum) → firstOf (signByte minus) s ≡ Found q → Full (signByte minus ∷ s) (numbersOf q)
-unfolding firstOf
+first-is : (minus : Bool) (s : List ℕ) (q : Sum) → afterFirstSign (signByte minus) s ≡ Found q → Full (signByte minus ∷ s) (partNumbers q)
+unfolding afterFirstSign
 first-is minus s q e = first-by minus s q (eqb (fractionOf s) 0) refl e
 
-written-is : {full t : List ℕ} {p : Part ℤ} → Full full p → Written full t → IsPart t p
+written-is : {full t : List ℕ} {p : Part ℤ} → Full full p → MayLackPlus full t → IsPart t p
 written-is {full} k w =
     record {
       letters = k .letters;
@@ -245,15 +245,15 @@ written-is {full} k w =
       worth = k .worth;
     }
 
-part-by : (s : List ℕ) (q : Sum) (t : Bool) → isSign (getD s 0 0) ≡ t → cond t (firstOf (getD s 0 0) (drop 1 s)) (firstOf 43 s) ≡ Found q → IsPart s (numbersOf q)
+part-by : (s : List ℕ) (q : Sum) (t : Bool) → isSign (getD s 0 0) ≡ t → cond t (afterFirstSign (getD s 0 0) (drop 1 s)) (afterFirstSign 43 s) ≡ Found q → IsPart s (partNumbers q)
 part-by [] q true h e = absurd (omega (arith, sign-within [] 0 h))
 part-by (b ∷ r) q true h e =
     let s = sign-of b h in
-    let full = first-is (s .minus) r q (ap (λ (x : ℕ). firstOf x r) (sym (s .is)) ∙ e) in
-    subst (λ (x : ℕ). IsPart (x ∷ r) (numbersOf q)) (sym (s .is)) (written-is full (Written.in-full _))
-part-by s q false h e = written-is (first-is false s q e) (Written.plus-missing s)
+    let full = first-is (s .minus) r q (ap (λ (x : ℕ). afterFirstSign x r) (sym (s .is)) ∙ e) in
+    subst (λ (x : ℕ). IsPart (x ∷ r) (partNumbers q)) (sym (s .is)) (written-is full (MayLackPlus.in-full _))
+part-by s q false h e = written-is (first-is false s q e) (MayLackPlus.plus-missing s)
 
 -- what is read as a part the grammar takes for it
-pub part-is : (s : List ℕ) (q : Sum) → partOf s ≡ Found q → IsPart s (numbersOf q)
+pub part-is : (s : List ℕ) (q : Sum) → partOf s ≡ Found q → IsPart s (partNumbers q)
 unfolding partOf
 part-is s q e = part-by s q (isSign (getD s 0 0)) refl e

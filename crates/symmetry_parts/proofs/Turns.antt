@@ -11,8 +11,8 @@ use lib.ListN.{length, getD, drop, drop-of-length-le, List·getD-eq-default}
 use lib.Seq.{drop-cons, getD-drop, drop-drop}
 use lib.Dec.{leb, eqb}
 use borrow.Author.Tests.{leb-true, leb-false}
-use Rattle.symmetry_fractions.specs.Reading.{isSign, signedOf}
-use Rattle.symmetry_parts.specs.Reading.{isFree, withLetter, lastOf, moreOf}
+use Rattle.symmetry_fractions.specs.Reading.{isSign, signed24ths}
+use Rattle.symmetry_parts.specs.Reading.{isFree, withLetter, lastFraction, moreOf}
 use Rattle.symmetry_parts.specs.declared.Sum.{Sum}
 use Rattle.symmetry_parts.specs.declared.PartReading.the-variants.{Found, NoPart}
 
@@ -45,13 +45,13 @@ module _ (p : Sum) where
   more-unsigned sign [] e = refl
   more-unsigned sign (b ∷ r) e = rw e
 
-  pub more-last : (sign : ℕ) (r : List ℕ) → isSign sign ≡ true → isFree p (getD r 0 0) ≡ false → moreOf p (sign ∷ r) ≡ lastOf p sign r
-  unfolding moreOf lastOf
+  pub more-last : (sign : ℕ) (r : List ℕ) → isSign sign ≡ true → isFree p (getD r 0 0) ≡ false → moreOf p (sign ∷ r) ≡ lastFraction p sign r
+  unfolding moreOf lastFraction
   more-last sign [] e f = sym (same-either (eqb (p .t) 0))
   more-last sign (b ∷ r) e f = rw (e, f)
 
   pub more-letter : (sign : ℕ) (r : List ℕ) → isSign sign ≡ true → isFree p (getD r 0 0) ≡ true
-      → moreOf p (sign ∷ r) ≡ moreOf (withLetter p (getD r 0 0) (signedOf sign 1)) (drop 1 r)
+      → moreOf p (sign ∷ r) ≡ moreOf (withLetter p (getD r 0 0) (signed24ths sign 1)) (drop 1 r)
   unfolding moreOf
   more-letter sign [] e f = absurd (free-byte f)
   more-letter sign (b ∷ r) e f = rw (e, f)
@@ -72,14 +72,14 @@ module _ (p : Sum) where
       pub turn-unsigned : isSign (getD s i 0) ≡ false → moreOf p (drop i s) ≡ NoPart
       turn-unsigned e = ap (moreOf p) here ∙ more-unsigned (getD s i 0) (drop (suc i) s) e
 
-      pub turn-last : isSign (getD s i 0) ≡ true → isFree p (getD s (i + 1) 0) ≡ false → moreOf p (drop i s) ≡ lastOf p (getD s i 0) (drop (i + 1) s)
+      pub turn-last : isSign (getD s i 0) ≡ true → isFree p (getD s (i + 1) 0) ≡ false → moreOf p (drop i s) ≡ lastFraction p (getD s i 0) (drop (i + 1) s)
       turn-last e f =
           ap (moreOf p) here
           ∙ more-last (getD s i 0) (drop (suc i) s) e (ap (isFree p) next-byte ∙ f)
-          ∙ ap (λ (k : ℕ). lastOf p (getD s i 0) (drop k s)) (sym (add-one i))
+          ∙ ap (λ (k : ℕ). lastFraction p (getD s i 0) (drop k s)) (sym (add-one i))
 
       pub turn-letter : isSign (getD s i 0) ≡ true → isFree p (getD s (i + 1) 0) ≡ true
-          → moreOf p (drop i s) ≡ moreOf (withLetter p (getD s (i + 1) 0) (signedOf (getD s i 0) 1)) (drop (i + 2) s)
+          → moreOf p (drop i s) ≡ moreOf (withLetter p (getD s (i + 1) 0) (signed24ths (getD s i 0) 1)) (drop (i + 2) s)
       turn-letter e f =
           let sum : suc i + 1 ≡ i + 2 = omega arith in
           let two : drop 1 (drop (suc i) s) ≡ drop (i + 2) s = drop-drop 1 (suc i) s ∙ ap (λ (k : ℕ). drop k s) sum in

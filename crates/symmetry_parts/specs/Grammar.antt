@@ -35,9 +35,9 @@ sumText [] = []
 sumText (a ∷ l) = signByte (a .minus) ∷ (letterByte (a .letter) ∷ sumText l)
 
 -- how often a letter is in a sum
-unfoldable pub timesOf : Letter → List Signed → ℕ
-timesOf c [] = 0
-timesOf c (a ∷ l) = cond (sameLetter c (a .letter)) (suc (timesOf c l)) (timesOf c l)
+unfoldable pub timesIn : Letter → List Signed → ℕ
+timesIn c [] = 0
+timesIn c (a ∷ l) = cond (sameLetter c (a .letter)) (suc (timesIn c l)) (timesIn c l)
 
 -- a letter's factor in a sum that has it at most once: 1 or −1 by its sign, and 0 if it is not there
 unfoldable pub factorOf : Letter → List Signed → ℤ
@@ -51,9 +51,9 @@ pub data WithFraction (sum : List ℕ) : List ℕ → ℤ → Type 0 where
   last : (minus : Bool) (t : List ℕ) (size : ℕ) → IsFraction t size → WithFraction sum (sum ++ (signByte minus ∷ t)) (withSign minus size)
 
 -- "only the part's first plus may be missing": the text with every sign, and the text as it is written
-pub data Written : List ℕ → List ℕ → Type 0 where
-  in-full : (t : List ℕ) → Written t t
-  plus-missing : (t : List ℕ) → Written (signByte false ∷ t) t
+pub data MayLackPlus : List ℕ → List ℕ → Type 0 where
+  in-full : (t : List ℕ) → MayLackPlus t t
+  plus-missing : (t : List ℕ) → MayLackPlus (signByte false ∷ t) t
 
 -- a part, and its factors and translation; "Translations count modulo 1"
 pub record IsPart (t : List ℕ) (p : Part ℤ) : Type 0 where
@@ -61,7 +61,7 @@ pub record IsPart (t : List ℕ) (p : Part ℤ) : Type 0 where
   pub full : List ℕ
   pub translation : ℤ
   pub some : 1 ≤ length letters
-  pub once : (c : Letter) → timesOf c letters ≤ 1
+  pub once : (c : Letter) → timesIn c letters ≤ 1
   pub with-fraction : WithFraction (sumText letters) full translation
-  pub written : Written full t
+  pub written : MayLackPlus full t
   pub worth : p ≡ part (factorOf Letter.X letters) (factorOf Letter.Y letters) (factorOf Letter.Z letters) (pos (residue translation))

@@ -2,7 +2,7 @@
 // A client cites Reading (partOf). That this reading is the document's wording (Grammar) is shown in proofs/Sound.antt and proofs/Complete.antt.
 ghost use mathlib.Core.Path.{_≡_};
 ghost use lib.ListN.{getD};
-ghost use Rattle.symmetry_parts.specs.Reading.{isFree, withLetter, lastOf, moreOf, firstOf, partOf};
+ghost use Rattle.symmetry_parts.specs.Reading.{isFree, withLetter, lastFraction, moreOf, afterFirstSign, partOf};
 use symmetry_fractions::FRACTION;
 
 // What is read of a part: the factors of x, y, z and the translation in 24ths, all modulo 24, so that −1 is 23; 0 for what is not there.
@@ -66,7 +66,7 @@ fn with_letter(p: Sum, b: u8, n: u8) -> Sum
 
 // After p and a sign there is no further letter: s is the fraction, if there was none before.
 fn read_last(p: Sum, sign: u8, s: &[u8]) -> PartReading
-    ensures { λ r. ⌜ r ≡ lastOf p sign (now (s .entry)) ⌝ }
+    ensures { λ r. ⌜ r ≡ lastFraction p sign (now (s .entry)) ⌝ }
 {
     if p.t != 0 {
         return PartReading::NoPart;
@@ -109,7 +109,7 @@ fn read_more(p: Sum, s: &[u8]) -> PartReading
 
 // The part that s is after its first sign.
 fn read_first(sign: u8, s: &[u8]) -> PartReading
-    ensures { λ r. ⌜ r ≡ firstOf sign (now (s .entry)) ⌝ }
+    ensures { λ r. ⌜ r ≡ afterFirstSign sign (now (s .entry)) ⌝ }
 {
     let size = symmetry_fractions::read_fraction(s);
     if size != 0 {

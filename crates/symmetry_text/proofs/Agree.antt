@@ -23,7 +23,7 @@ use Rattle.symmetry_parts.proofs.Sound.{part-is}
 use Rattle.symmetry_parts.proofs.Ranges.{numbers-fine, part-lacks-comma, part-lacks-space}
 use Rattle.symmetry_text.specs.Grammar.{IsOperator, ReadAs}
 use Rattle.symmetry_readings.specs.Answers.{rowLength, readingNumber, numbers}
-use Rattle.symmetry_text.specs.Reading.{rowPart, rowOf, partsOf, beforeComma, atComma, secondOf, readingOf}
+use Rattle.symmetry_text.specs.Reading.{rowPart, rowOfParts, partsOf, beforeComma, atComma, secondOf, readingOf}
 use Rattle.symmetry_readings.specs.declared.RowPart.{RowPart}
 use Rattle.symmetry_readings.specs.declared.Reading.{Reading}
 use Rattle.symmetry_readings.specs.declared.Reading.the-variants.{Row, NoOperator}
@@ -84,7 +84,7 @@ module _ (a b c : RowPart) where
     text : s ≡ before ++ (44 ∷ after)
     read : f before after ≡ Row a b c
 
-  parts-by : (first second third : List ℕ) (x y z : PartReading) → partOf first ≡ x → partOf second ≡ y → partOf third ≡ z → rowOf x y z ≡ Row a b c
+  parts-by : (first second third : List ℕ) (x y z : PartReading) → partOf first ≡ x → partOf second ≡ y → partOf third ≡ z → rowOfParts x y z ≡ Row a b c
       → IsOperator (first ++ (44 ∷ (second ++ (44 ∷ third)))) (rowFrom (numbers (Row a b c)))
   unfolding rowFrom
   parts-by first second third NoPart y z h k l e = absurd (not-row a b c e)

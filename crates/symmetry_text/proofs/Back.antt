@@ -10,7 +10,7 @@ use mir.Val.{toZ, ofZ}
 use mir.Facts.{toZ-pos}
 use lib.Dec.{eqb, lit<}
 use lib.IntN.{ℤ, pos, negsuc}
-use Rattle.symmetry_fractions.specs.Grammar.{whole}
+use Rattle.symmetry_fractions.specs.Grammar.{oneIn24ths}
 use Rattle.symmetry_parts.specs.Reading.{factor}
 
 abbrev held : ℤ → ℤ
@@ -25,5 +25,5 @@ pub factor-back : (n : ℕ) → toZ w8 (ofZ w8 (factor n)) ≡ factor n
 unfolding factor
 factor-back n = factor-by (eqb n 0) (eqb n 1)
 
-pub translation-back : (n : ℕ) → toZ w8 (n % whole) ≡ pos (n % whole)
-translation-back n = let h : n % whole < whole = mod-lt n (lit< tt) in toZ-pos w8 (omega arith)
+pub translation-back : (n : ℕ) → toZ w8 (n % oneIn24ths) ≡ pos (n % oneIn24ths)
+translation-back n = let h : n % oneIn24ths < oneIn24ths = mod-lt n (lit< tt) in toZ-pos w8 (omega arith)

@@ -8,8 +8,8 @@ use lib.IntN.{ℤ, pos, negsuc}
 use lib.ListN.{replicate}
 use Rattle.text.specs.Quote.{bytes}
 use Rattle.text.specs.Run.{runOf, other, hasAt, kindAt}
-use Rattle.symmetry_fractions.specs.Reading.{isSign, signedOf, unitOf, fractionOf}
-use Rattle.symmetry_parts.specs.Reading.{factor, isFree, withLetter, lastOf, moreOf, firstOf, partOf}
+use Rattle.symmetry_fractions.specs.Reading.{isSign, signed24ths, unitOf, fractionOf}
+use Rattle.symmetry_parts.specs.Reading.{factor, isFree, withLetter, lastFraction, moreOf, afterFirstSign, partOf}
 use Rattle.symmetry_readings.specs.Answers.{rowLength, readingNumber, numbers}
 use Rattle.symmetry_text.specs.Reading.{partsOf, atComma, readingOf}
 
@@ -69,5 +69,5 @@ abbrev expected : Vector → ℕ × List ℤ
 expected v = (v .number, v .row)
 
 pub vectors-hold : map (λ (v : Vector). answerOf (bytes (v .typed))) vectors ≡ map expected vectors
-unfolding vectors atComma partsOf partOf firstOf moreOf lastOf withLetter isFree factor fractionOf unitOf signedOf isSign runOf hasAt kindAt other
+unfolding vectors atComma partsOf partOf afterFirstSign moreOf lastFraction withLetter isFree factor fractionOf unitOf signed24ths isSign runOf hasAt kindAt other
 vectors-hold = refl

@@ -6,7 +6,7 @@ use mathlib.Core.List.{List}
 use lib.IntN.{pos}
 use lib.ListN.{take, drop}
 use Rattle.text.specs.Run.{runOf, other, hasAt}
-use Rattle.symmetry_fractions.specs.Grammar.{whole}
+use Rattle.symmetry_fractions.specs.Grammar.{oneIn24ths}
 use Rattle.symmetry_parts.specs.Reading.{factor, partOf}
 use Rattle.symmetry_parts.specs.declared.Sum.{Sum}
 use Rattle.symmetry_parts.specs.declared.PartReading.{PartReading}
@@ -17,18 +17,18 @@ use Rattle.symmetry_readings.specs.declared.Reading.the-variants.{Row, NoOperat
 
 -- the numbers of a part that was read
 abbrev pub rowPart : Sum → RowPart
-rowPart p = record { x = factor (p .x); y = factor (p .y); z = factor (p .z); t = pos (p .t % whole) }
+rowPart p = record { x = factor (p .x); y = factor (p .y); z = factor (p .z); t = pos (p .t % oneIn24ths) }
 
 -- the row of three parts, if each was read
-abbrev pub rowOf : PartReading → PartReading → PartReading → Reading
-rowOf NoPart b c = NoOperator
-rowOf (Found p) NoPart c = NoOperator
-rowOf (Found p) (Found q) NoPart = NoOperator
-rowOf (Found p) (Found q) (Found r) = Row (rowPart p) (rowPart q) (rowPart r)
+abbrev pub rowOfParts : PartReading → PartReading → PartReading → Reading
+rowOfParts NoPart b c = NoOperator
+rowOfParts (Found p) NoPart c = NoOperator
+rowOfParts (Found p) (Found q) NoPart = NoOperator
+rowOfParts (Found p) (Found q) (Found r) = Row (rowPart p) (rowPart q) (rowPart r)
 
 -- the row of three parts' texts
 unfoldable pub partsOf : List ℕ → List ℕ → List ℕ → Reading
-partsOf first second third = rowOf (partOf first) (partOf second) (partOf third)
+partsOf first second third = rowOfParts (partOf first) (partOf second) (partOf third)
 
 -- how many bytes come before the first comma
 abbrev pub beforeComma : List ℕ → ℕ

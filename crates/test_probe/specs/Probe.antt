@@ -30,6 +30,6 @@ lineTold (Parts n v) = record { found = 1; «name_end» = n; «value_start» = v
 lineTold Malformed = record { found = 0; «name_end» = 0; «value_start» = 0 }
 
 -- the item, or 0
-abbrev pub itemTold : Named → ℕ
-itemTold (Item k) = k
-itemTold Unknown = 0
+abbrev pub nameTold : Named → ℕ
+nameTold (Item k) = k
+nameTold Unknown = 0

@@ -3,7 +3,7 @@ ghost use mathlib.Core.Path.{_≡_};
 ghost use Rattle.number_decimal.specs.Reading.{readingOf};
 ghost use Rattle.line_items.specs.Items.{itemOf};
 ghost use Rattle.line_reader.specs.Line.{splitOf};
-ghost use Rattle.test_probe.specs.Probe.{numberTold, formTold, lineTold, itemTold};
+ghost use Rattle.test_probe.specs.Probe.{numberTold, formTold, lineTold, nameTold};
 use line_items::Named;
 use line_reader::line::Split;
 use number_decimal::Reading;
@@ -77,7 +77,7 @@ pub extern "C" fn probe_line(t: &[u8]) -> ProbeLine
 // The item of a name.
 #[no_mangle]
 pub extern "C" fn probe_item(name: &[u8]) -> u64
-    ensures { λ r. ⌜ r ≡ itemTold (itemOf (now (name .entry))) ⌝ }
+    ensures { λ r. ⌜ r ≡ nameTold (itemOf (now (name .entry))) ⌝ }
 {
     let Named::Item(item) = line_lookup::item_named(name) else {
         return 0;

@@ -14,7 +14,7 @@ use Rattle.formula_sum.specs.Recognised.{allRecognised}
 use Rattle.formula_order.specs.Order.{rank, orderKey, rising, inOrder}
 use Rattle.formula_symbols.specs.Symbols.{hasTerm}
 use Rattle.formula_class.specs.Class.{formulaClass}
-use Rattle.formula_sum.specs.Sum.{total, sumOf}
+use Rattle.formula_sum.specs.Sum.{totalWeight, sumOf}
 use Rattle.line_categories.specs.declared.Class.{Class}
 use Rattle.line_categories.specs.declared.Class.the-variants.{Inorganic, MetalOrganic, Organic}
 use Rattle.formula_elements.specs.declared.Weight.{Weight}
@@ -61,5 +61,5 @@ answered f =
     record { recognised = allRecognised (bytes f); ordered = inOrder (bytes f); class = formulaClass (bytes f); sum = sumOf (bytes f) }
 
 pub formulas-hold : map (λ (x : Example). answered (x .formula)) examples ≡ map (λ (x : Example). x .answers) examples
-unfolding examples cut some termOf kindAt isCount countOf all between valueFrom allRecognised isElement elementOf symbols placeOf sameSymbol inOrder rising orderKey rank formulaClass hasTerm isMetal notMetals sumOf total weightOf weightIn weights
+unfolding examples cut some termOf kindAt isCount countOf all between valueFrom allRecognised isElement elementOf symbols placeOf sameSymbol inOrder rising orderKey rank formulaClass hasTerm isMetal notMetals sumOf totalWeight weightOf weightIn weights
 formulas-hold = refl

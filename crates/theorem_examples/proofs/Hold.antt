@@ -5,7 +5,7 @@ use mathlib.Core.List.{map}
 use Rattle.text.specs.Run.{between, other, runOf, all, hasAt, kindAt}
 use Rattle.text_equality.specs.Same.{lower, sameBy, beginsFolded}
 use Rattle.number_decimal.specs.Digits.{valueFrom}
-use Rattle.number_decimal.specs.Reading.{closes, isTail, sizeOf, unsignedOf, readingOf, isNumber}
+use Rattle.number_decimal.specs.Reading.{closesBracket, isTail, sizeOf, unsignedOf, readingOf, isNumber}
 use Rattle.line_quotes.specs.Quoted.{isQuotedBy, isQuoted, textOf}
 use Rattle.line_values.specs.Value.{mayBegin, isReserved, isBare, isValue, isUnassigned}
 use Rattle.line_items.specs.Items.{items, findFrom}
@@ -17,7 +17,7 @@ use Rattle.formula_sum.specs.Recognised.{allRecognised}
 use Rattle.formula_order.specs.Order.{rank, orderKey, rising, inOrder}
 use Rattle.formula_symbols.specs.Symbols.{hasTerm}
 use Rattle.formula_class.specs.Class.{formulaClass}
-use Rattle.formula_sum.specs.Sum.{total, sumOf}
+use Rattle.formula_sum.specs.Sum.{totalWeight, sumOf}
 use Rattle.rows_levels.specs.Bounds.{bounds, judgedOf, gradeOf, gradedOf}
 use Rattle.desk_state.specs.Lines.{appended, erased}
 use Rattle.rows.specs.Rows.{missing}
@@ -35,5 +35,5 @@ use Rattle.desk_keys.specs.Key.{stored, storedIfOpen, keyStep, keyOf}
 use Rattle.theorem_examples.specs.Table.{Example, sheetWith, answerOf, examples}
 
 pub examples-hold : map (λ (e : Example). answerOf (e .asked)) examples ≡ map (λ (e : Example). e .answer) examples
-unfolding sheetWith answerOf examples between other runOf all hasAt lower sameBy beginsFolded valueFrom closes isTail sizeOf unsignedOf readingOf isNumber mayBegin isReserved isBare isQuotedBy isQuoted isValue isUnassigned textOf items findFrom isCategory passes splitOf classOf kindAt isCount countOf termOf cut some sameSymbol placeOf symbols elementOf isElement notMetals isMetal weights weightIn weightOf allRecognised rank orderKey rising inOrder hasTerm formulaClass total sumOf bounds judgedOf gradeOf gradedOf appended erased missing row1 row2 row3 weighedOf ratioLevel row4 farApart isWeighedCategory row5 gradedRow oldNameRow hasShape multiplierOf thresholdLevel thresholdRow row12 every soundLine soundEmpty counted soundFilled soundItem soundLines soundSheet soundDesk countsOf soundLog fits sheetOfBench stored openTo storedIfOpen keyStep keyOf
+unfolding sheetWith answerOf examples between other runOf all hasAt lower sameBy beginsFolded valueFrom closesBracket isTail sizeOf unsignedOf readingOf isNumber mayBegin isReserved isBare isQuotedBy isQuoted isValue isUnassigned textOf items findFrom isCategory passes splitOf classOf kindAt isCount countOf termOf cut some sameSymbol placeOf symbols elementOf isElement notMetals isMetal weights weightIn weightOf allRecognised rank orderKey rising inOrder hasTerm formulaClass totalWeight sumOf bounds judgedOf gradeOf gradedOf appended erased missing row1 row2 row3 weighedOf ratioLevel row4 farApart isWeighedCategory row5 gradedRow oldNameRow hasShape multiplierOf thresholdLevel thresholdRow row12 every soundLine soundEmpty counted soundFilled soundItem soundLines soundSheet soundDesk countsOf soundLog fits sheetOfBench stored openTo storedIfOpen keyStep keyOf
 examples-hold = refl

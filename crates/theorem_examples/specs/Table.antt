@@ -7,7 +7,7 @@ use Prim.Native.String.{String}
 use mathlib.Core.Bool.{cond}
 use mathlib.Core.List.{List, [], _∷_, _++_}
 use lib.Dec.{eqb}
-use lib.ListN.{getD, set, take, replicate}
+use lib.ListN.{getD, set, replicate}
 use Rattle.text.specs.Quote.{bytes}
 use Rattle.formula_sum.specs.Sum.{sumOf}
 use Rattle.formula_elements.specs.declared.Weight.{Weight}
@@ -21,7 +21,7 @@ use Rattle.rows.specs.declared.Rows.{Rows}
 use Rattle.rows_levels.specs.Bounds.{gradedOf, gradedNumber, gradedLevel}
 use Rattle.rows_levels.specs.declared.Graded.{Graded}
 use Rattle.theorem_work.specs.Calls.{Call, key, ask, typing, Reply, keyed, reported, told}
-use Rattle.theorem_sequences.specs.Calls.{State}
+use Rattle.theorem_sequences.specs.Calls.{usedLog}
 use Rattle.theorem_sequences.specs.Sequences.{deskAnswers, stateAfter}
 
 -- a value typed for an item
@@ -54,19 +54,16 @@ summed NoWeight = []
 abbrev pub rowNumbers : Row → List ℕ
 rowNumbers r = r .level ∷ r .reason ∷ []
 
-abbrev pub usedBytes : State → List ℕ
-usedBytes s = take (s .used) (s .log)
-
 abbrev pub gradedNumbers : Graded → List ℕ
 gradedNumbers g = gradedNumber g ∷ gradedLevel g ∷ []
 
-abbrev pub keyAnswer : Reply Rows → List ℕ
-keyAnswer (keyed n) = n ∷ []
-keyAnswer (reported n rows) = []
-keyAnswer (told w) = []
+abbrev pub keyedNumber : Reply Rows → List ℕ
+keyedNumber (keyed n) = n ∷ []
+keyedNumber (reported n rows) = []
+keyedNumber (told w) = []
 
 abbrev pub enterAnswer : Call → Reply Rows → List ℕ
-enterAnswer (key bench byte) r = cond (eqb byte 10) (keyAnswer r) []
+enterAnswer (key bench byte) r = cond (eqb byte 10) (keyedNumber r) []
 enterAnswer (ask q) r = []
 
 abbrev pub enterAnswers : List (Call × Reply Rows) → List ℕ
@@ -78,7 +75,7 @@ unfoldable pub answerOf : Asked → List ℕ
 answerOf (sum formula) = summed (sumOf (bytes formula))
 answerOf (row n values) = rowNumbers (getD (rowsOf 0 (record { items = sheetWith values; count = 1 }) .rows) (n - 1) (rowOf 9 9))
 answerOf (graded n value) = gradedNumbers (gradedOf n (bytes value))
-answerOf (played cs) = usedBytes (stateAfter rowsOf noRows (replicate 64 0) cs)
+answerOf (played cs) = usedLog (stateAfter rowsOf noRows (replicate 64 0) cs)
 answerOf (enters len cs) = enterAnswers (deskAnswers rowsOf noRows (replicate len 0) cs)
 
 pub record Example : Type 0 where

@@ -10,15 +10,15 @@ use borrow.Author.Tests.{eq-eqb}
 use lib.Dec.{eqb}
 use lib.ListN.{length, take, drop, length-append}
 use lib.Seq.{take-at, drop-at}
-use Rattle.desk_log.specs.Record.{recordLength}
-use Rattle.reader_cuts.specs.Reading.{lengthMost, lengthOf, badLength, Reading, ended, short, readAll}
+use Rattle.desk_log.specs.Record.{recordLength, lengthTold}
+use Rattle.reader_cuts.specs.Reading.{lengthMost, badLength, Reading, ended, short, readAll}
 use Rattle.reader_cuts.proofs.Laws.{length-good, read-few, read-bad, read-refused, read-taken, every-reading}
 use Rattle.reader_cuts.proofs.Firsts.{read-undecided}
 use Rattle.theorem_history.specs.Histories.{Noted, recordFor, records, Grown, still, entry, notingRefusal, notingStore, historyIn, NotesBeside}
 
 -- a record says its own length
-pub says-length : (e : Noted) (x : List ℕ) → recordLength (e .value) ≤ lengthMost → lengthOf (recordFor e ++ x) ≡ recordLength (e .value)
-unfolding lengthOf
+pub says-length : (e : Noted) (x : List ℕ) → recordLength (e .value) ≤ lengthMost → lengthTold (recordFor e ++ x) ≡ recordLength (e .value)
+unfolding lengthTold
 says-length e x h = omega arith
 
 pub length-record : (e : Noted) → length (recordFor e) ≡ recordLength (e .value)
@@ -34,14 +34,14 @@ module _ {S : Type 0} (refusal : ℕ → List ℕ → S → ℕ) (store : List �
       let l = says-length e (records es) b in
       let len = length-record e in
       let all = length-append (recordFor e) (records es) in
-      let r : take (lengthOf bs) bs ≡ recordFor e = rw l (take-at (recordFor e) (records es) n len) in
-      let d : drop (lengthOf bs) bs ≡ records es = rw l (drop-at (recordFor e) (records es) n len) in
-      let good : badLength (lengthOf bs) ≡ false = rw l (length-good n (omega arith) b) in
-      let ok : eqb (refusal at (take (lengthOf bs) bs) s) 0 ≡ true = rw r (eq-eqb (refusal at (recordFor e) s) 0 c) in
+      let r : take (lengthTold bs) bs ≡ recordFor e = rw l (take-at (recordFor e) (records es) n len) in
+      let d : drop (lengthTold bs) bs ≡ records es = rw l (drop-at (recordFor e) (records es) n len) in
+      let good : badLength (lengthTold bs) ≡ false = rw l (length-good n (omega arith) b) in
+      let ok : eqb (refusal at (take (lengthTold bs) bs) s) 0 ≡ true = rw r (eq-eqb (refusal at (recordFor e) s) 0 c) in
       let end : at + n + length (records es) ≡ at + length bs = omega arith in
       read-taken refusal store true s at bs (omega arith) good (omega arith) ok
-      ∙ ap (λ (x : List ℕ). readAll refusal store true (store x s) (at + lengthOf bs) (drop (lengthOf bs) bs)) r
-      ∙ ap (λ (x : List ℕ). readAll refusal store true (store (recordFor e) s) (at + lengthOf bs) x) d
+      ∙ ap (λ (x : List ℕ). readAll refusal store true (store x s) (at + lengthTold bs) (drop (lengthTold bs) bs)) r
+      ∙ ap (λ (x : List ℕ). readAll refusal store true (store (recordFor e) s) (at + lengthTold bs) x) d
       ∙ ap (λ (x : ℕ). readAll refusal store true (store (recordFor e) s) (at + x) (records es)) l
       ∙ read-back g ∙ ap (λ (x : ℕ). ended 0 t x) end
 

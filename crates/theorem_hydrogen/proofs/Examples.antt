@@ -6,8 +6,8 @@ use mathlib.Core.Path.{_≡_, refl}
 use mathlib.Core.List.{List, [], _∷_, map}
 use Rattle.text.specs.Quote.{bytes}
 use Rattle.text.specs.Run.{between, other, runOf, all, kindAt, hasAt}
-use Rattle.number_decimal.specs.Digits.{valueFrom}
-use Rattle.number_decimal.specs.Reading.{closes, isTail, sizeOf, unsignedOf, readingOf}
+use Rattle.number_decimal.specs.Digits.{valueFrom, lastDigits}
+use Rattle.number_decimal.specs.Reading.{closesBracket, isTail, sizeOf, unsignedOf, readingOf}
 use Rattle.line_quotes.specs.Quoted.{isQuotedBy, isQuoted, textOf}
 use Rattle.line_values.specs.Value.{isUnassigned}
 use Rattle.formula_elements.specs.Elements.{sameSymbol, placeOf, symbols, elementOf, isElement, weights, weightIn, weightOf}
@@ -16,7 +16,7 @@ use Rattle.formula_terms.specs.Terms.{cut, some}
 use Rattle.formula_terms.specs.Grammar.{joined}
 use Rattle.formula_symbols.specs.Symbols.{hasTerm}
 use Rattle.formula_sum.specs.Recognised.{allRecognised}
-use Rattle.formula_sum.specs.Sum.{total, sumOf}
+use Rattle.formula_sum.specs.Sum.{totalWeight, sumOf}
 use Rattle.formula_order.specs.Order.{rank, orderKey, rising, inOrder}
 use Rattle.rows.specs.Rows.{missing}
 use Rattle.rows_levels.specs.Bounds.{bounds}
@@ -24,10 +24,10 @@ use Rattle.rows_formula.specs.FormulaRows.{row1, row2}
 use Rattle.rows_weight.specs.WeightRows.{weighedOf, ratioLevel, row4}
 use Rattle.hydrogen_answers.specs.declared.Proposed.{Proposed}
 use Rattle.hydrogen_answers.specs.declared.Proposed.the-variants.{Count, NoStart}
-use Rattle.hydrogen_text.specs.Hydrogens.{digitsOf, hydrogenText, otherWords}
+use Rattle.hydrogen_text.specs.Hydrogens.{decimalOf, hydrogenText, otherWords}
 use Rattle.hydrogen_text.specs.NewText.{placed, withHydrogens, newText}
 use Rattle.hydrogen_right.specs.Right.{allWeighed}
-use Rattle.hydrogen_right.specs.Stages.{isStart, passes, isRight}
+use Rattle.hydrogen_right.specs.Stages.{isStart, rowsPass, isRight}
 use Rattle.hydrogen_helper.specs.Helper.{firstFrom, helperOf}
 
 pub record NewExample : Type 0 where
@@ -58,7 +58,7 @@ abbrev said : NewExample → List ℕ
 said e = bytes (e .new)
 
 pub new-hold : map made newExamples ≡ map said newExamples
-unfolding newExamples newText withHydrogens placed otherWords hydrogenText digitsOf joined cut termOf kindAt isCount countOf all between valueFrom sameSymbol hasTerm some orderKey rank
+unfolding newExamples newText withHydrogens placed otherWords hydrogenText decimalOf lastDigits joined cut termOf kindAt isCount countOf all between valueFrom sameSymbol hasTerm some orderKey rank
 new-hold = refl
 
 pub record HelperExample : Type 0 where
@@ -88,5 +88,5 @@ abbrev answer : HelperExample → Proposed
 answer e = e .answer
 
 pub helper-hold : map helped helperExamples ≡ map answer helperExamples
-unfolding helperExamples helperOf firstFrom isStart isRight passes allWeighed row1 row2 row4 missing isUnassigned textOf isQuoted isQuotedBy weighedOf ratioLevel bounds readingOf unsignedOf sizeOf isTail closes hasAt runOf other allRecognised isElement elementOf placeOf symbols inOrder rising sumOf total weightOf weightIn weights newText withHydrogens placed otherWords hydrogenText digitsOf joined cut termOf kindAt isCount countOf all between valueFrom sameSymbol hasTerm some orderKey rank
+unfolding helperExamples helperOf firstFrom isStart isRight rowsPass allWeighed row1 row2 row4 missing isUnassigned textOf isQuoted isQuotedBy weighedOf ratioLevel bounds readingOf unsignedOf sizeOf isTail closesBracket hasAt runOf other allRecognised isElement elementOf placeOf symbols inOrder rising sumOf totalWeight weightOf weightIn weights newText withHydrogens placed otherWords hydrogenText decimalOf lastDigits joined cut termOf kindAt isCount countOf all between valueFrom sameSymbol hasTerm some orderKey rank
 helper-hold = refl

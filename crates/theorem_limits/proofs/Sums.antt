@@ -17,10 +17,10 @@ use Rattle.formula_terms.specs.Terms.{cut, termsOf}
 use Rattle.formula_elements.specs.Elements.{sameSymbol, weights, weightIn, weightOf}
 use Rattle.formula_elements.specs.declared.Weight.{Weight}
 use Rattle.formula_elements.specs.declared.Weight.the-variants.{Thousandths}
-use Rattle.formula_sum.specs.Sum.{mostSummed, total, sumOf}
+use Rattle.formula_sum.specs.Sum.{mostSummed, totalWeight, sumOf}
 
 -- the sum of a text that a line can hold is the sum of its terms, each count times its weight
-pub line-summed : (s : List ℕ) → length s ≤ lineMost → sumOf s ≡ total (termsOf s)
+pub line-summed : (s : List ℕ) → length s ≤ lineMost → sumOf s ≡ totalWeight (termsOf s)
 unfolding sumOf
 line-summed s h = simp (le-leb (length s) mostSummed (omega (arith, h)))
 
@@ -32,5 +32,5 @@ pub full-line : length (bytes "_chemical_formula_sum '" ++ (fullFormula ++ bytes
 full-line = refl
 
 pub full-sum : sumOf fullFormula ≡ Thousandths 51794832011
-unfolding cut termOf kindAt isCount countOf all between valueFrom sameSymbol sumOf total weightOf weightIn weights
+unfolding cut termOf kindAt isCount countOf all between valueFrom sameSymbol sumOf totalWeight weightOf weightIn weights
 full-sum = refl

@@ -15,7 +15,7 @@ use Rattle.desk_questions.specs.Report.{reportedOf}
 use Rattle.rows.specs.Rows.{noRows}
 use Rattle.rows_sheet.specs.Sheet.{rowsOf}
 use Rattle.reader_cuts.specs.Reading.{Reading}
-use Rattle.theorem_reader.specs.Parts.{Part}
+use Rattle.theorem_reader.specs.Parts.{LogPart}
 use Rattle.theorem_work.specs.Calls.{Call}
 use Rattle.theorem_sequences.specs.Sequences.{stateAfter}
 use Rattle.theorem_sequences.proofs.Demand3.{demand-3}
@@ -57,12 +57,12 @@ module _ {Rows : Type 0} (rows : ℕ → Sheet → Rows) (none : Rows) (log : Li
   asked-same =
       subst⁻¹ (λ (d : Desk). AskedAlike d (stateAfter rows none log cs .desk)) (ap (λ (r : Reading Desk). r .sheets) (gives-back rows none log cs)) desk-alike
 
-  pub asked-same-in-parts : (ps : List (List ℕ)) (p : List ℕ) (more : List Part) → AskedSameInParts rows none log cs ps p more
+  pub asked-same-in-parts : (ps : List (List ℕ)) (p : List ℕ) (more : List LogPart) → AskedSameInParts rows none log cs ps p more
   asked-same-in-parts ps p more e = subst⁻¹ (λ (d : Desk). AskedAlike d (stateAfter rows none log cs .desk)) (gives-back-in-parts rows none log cs ps p more e .desk) desk-alike
 
 -- the desk itself
 pub desk-asked-same : (log : List ℕ) (cs : List Call) → AskedSame rowsOf noRows log cs
 desk-asked-same = asked-same rowsOf noRows
 
-pub desk-asked-same-in-parts : (log : List ℕ) (cs : List Call) (ps : List (List ℕ)) (p : List ℕ) (more : List Part) → AskedSameInParts rowsOf noRows log cs ps p more
+pub desk-asked-same-in-parts : (log : List ℕ) (cs : List Call) (ps : List (List ℕ)) (p : List ℕ) (more : List LogPart) → AskedSameInParts rowsOf noRows log cs ps p more
 desk-asked-same-in-parts = asked-same-in-parts rowsOf noRows

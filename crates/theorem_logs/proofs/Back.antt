@@ -40,7 +40,7 @@ use Rattle.theorem_sequences.proofs.Sheets.{sheetsOf, sheets-more}
 use Rattle.theorem_sequences.proofs.DeskFollows.{Good, item-sound, desk-follows}
 use Rattle.theorem_sequences.proofs.Demand3.{follows, demand-3}
 use Rattle.theorem_logs.specs.GivesBack.{onlySheets, GivesBack}
-use Rattle.theorem_logs.specs.History.{note, inOrder}
+use Rattle.theorem_logs.specs.History.{note, oldestFirst}
 
 -- ---- records in order
 
@@ -49,10 +49,10 @@ records-append [] fs = refl
 records-append (e ∷ es) fs = ap (λ (l : List ℕ). recordFor e ++ l) (records-append es fs) ∙ sym (append-assoc (recordFor e) (records es) (records fs))
 
 -- the work's records are those of the history
-pub records-in-order : (es : List Entry) → records (inOrder es) ≡ recordsOf es
+pub records-in-order : (es : List Entry) → records (oldestFirst es) ≡ recordsOf es
 records-in-order [] = refl
 records-in-order (e ∷ es) =
-    records-append (inOrder es) (note e ∷ []) ∙ ap (λ (l : List ℕ). l ++ records (note e ∷ [])) (records-in-order es)
+    records-append (oldestFirst es) (note e ∷ []) ∙ ap (λ (l : List ℕ). l ++ records (note e ∷ [])) (records-in-order es)
     ∙ ap (λ (l : List ℕ). recordsOf es ++ l) (append-nil (recordOf (e .bench) (e .item) (e .value)))
 
 -- one entry more at the end of a history
@@ -123,18 +123,18 @@ module _ (log : List ℕ) (w : Work) (g : Good log w) (e : Entry) (m : Made (len
 
 -- the history leads from a fresh desk to the work's sheets
 abbrev pub Back : Work → Type 0
-Back w = Grown refusalOf storeOf freshDesk 0 (inOrder (w .entries)) (onlySheets (sheetsOf (w .entries)))
+Back w = Grown refusalOf storeOf freshDesk 0 (oldestFirst (w .entries)) (onlySheets (sheetsOf (w .entries)))
 
 back-none : Back noWork
 back-none = still
 
 module _ (log : List ℕ) (w : Work) (g : Good log w) (h : Back w) where
   back-entry : (e : Entry) → Made (length log) (w .entries) (e .bench) (e .item) (e .value)
-      → Grown refusalOf storeOf freshDesk 0 (inOrder (e ∷ w .entries)) (onlySheets (sheetsOf (e ∷ w .entries)))
+      → Grown refusalOf storeOf freshDesk 0 (oldestFirst (e ∷ w .entries)) (onlySheets (sheetsOf (e ∷ w .entries)))
   back-entry e m =
       let f = fitting (e .item) (e .value) (m .fit) in
-      let at : 0 + length (records (inOrder (w .entries))) ≡ length (recordsOf (w .entries)) = omega (arith, ap length (records-in-order (w .entries))) in
-      grown-more (note e) h (f .long) (omega (arith, f .short)) (taken log w g e m (0 + length (records (inOrder (w .entries)))) at) (stored log w g e m)
+      let at : 0 + length (records (oldestFirst (w .entries))) ≡ length (recordsOf (w .entries)) = omega (arith, ap length (records-in-order (w .entries))) in
+      grown-more (note e) h (f .long) (omega (arith, f .short)) (taken log w g e m (0 + length (records (oldestFirst (w .entries)))) at) (stored log w g e m)
 
   back-key : (bench byte : ℕ) → Back (keyWork (keyAnswer (length log) w bench byte) bench byte w)
   back-key bench byte = go (accepts (keyAnswer (length log) w bench byte)) (eqb byte 10) refl refl
@@ -168,7 +168,7 @@ module _ {Rows : Type 0} (rowsOf : ℕ → Sheet → Rows) (noRows : Rows) (log 
       let es = workAfter rowsOf noRows log cs .entries in
       let end = follows rowsOf noRows log cs .end in
       let bytes = demand-3 rowsOf noRows log cs .used-log ∙ sym (records-in-order es) in
-      let used : stateAfter rowsOf noRows log cs .used ≡ 0 + length (records (inOrder es)) = ap (λ (s : State). s .used) end ∙ omega (arith, ap length (records-in-order es)) in
+      let used : stateAfter rowsOf noRows log cs .used ≡ 0 + length (records (oldestFirst es)) = ap (λ (s : State). s .used) end ∙ omega (arith, ap length (records-in-order es)) in
       ap (readOn true freshDesk 0) bytes ∙ read-back refusalOf storeOf (back-after cs)
-      ∙ ap (λ (ss : List Sheet). ended 0 (onlySheets ss) (0 + length (records (inOrder es)))) (sym (ap (λ (s : State). s .desk .sheets) end))
+      ∙ ap (λ (ss : List Sheet). ended 0 (onlySheets ss) (0 + length (records (oldestFirst es)))) (sym (ap (λ (s : State). s .desk .sheets) end))
       ∙ ap (λ (n : ℕ). ended 0 (onlySheets (stateAfter rowsOf noRows log cs .desk .sheets)) n) (sym used)

@@ -8,13 +8,13 @@ use Rattle.desk_state.specs.declared.desk.Desk.{Desk}
 use Rattle.rows.specs.Rows.{noRows}
 use Rattle.rows_sheet.specs.Sheet.{rowsOf}
 use Rattle.reader_cuts.specs.Reading.{Reading}
-use Rattle.theorem_reader.specs.Parts.{Between, Part, whole}
+use Rattle.theorem_reader.specs.Parts.{Between, LogPart, whole}
 use Rattle.theorem_reader.proofs.Agree.{parts-agree, parts-accepted}
 use Rattle.theorem_work.specs.Calls.{Call}
 use Rattle.theorem_logs.specs.GivesBack.{GivesBackInParts}
 use Rattle.theorem_logs.proofs.Back.{gives-back}
 
-pub gives-back-in-parts : {Rows : Type 0} (rows : ℕ → Sheet → Rows) (none : Rows) (log : List ℕ) (cs : List Call) (ps : List (List ℕ)) (p : List ℕ) (more : List Part)
+pub gives-back-in-parts : {Rows : Type 0} (rows : ℕ → Sheet → Rows) (none : Rows) (log : List ℕ) (cs : List Call) (ps : List (List ℕ)) (p : List ℕ) (more : List LogPart)
     → GivesBackInParts rows none log cs ps p more
 gives-back-in-parts rows none log cs ps p more e =
     let read = ap (λ (l : List ℕ). whole l) e ∙ gives-back rows none log cs in
@@ -24,5 +24,5 @@ gives-back-in-parts rows none log cs ps p more e =
     }
 
 -- the desk itself
-pub desk-gives-back-in-parts : (log : List ℕ) (cs : List Call) (ps : List (List ℕ)) (p : List ℕ) (more : List Part) → GivesBackInParts rowsOf noRows log cs ps p more
+pub desk-gives-back-in-parts : (log : List ℕ) (cs : List Call) (ps : List (List ℕ)) (p : List ℕ) (more : List LogPart) → GivesBackInParts rowsOf noRows log cs ps p more
 desk-gives-back-in-parts = gives-back-in-parts rowsOf noRows

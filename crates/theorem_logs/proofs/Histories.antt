@@ -14,13 +14,13 @@ use Rattle.theorem_history.proofs.Back.{history-told, notes-beside}
 use Rattle.theorem_work.specs.Calls.{Call}
 use Rattle.theorem_sequences.specs.Sequences.{workAfter}
 use Rattle.theorem_sequences.proofs.Demand3.{demand-3}
-use Rattle.theorem_logs.specs.GivesBack.{usedLog, GivesBack}
+use Rattle.theorem_logs.specs.GivesBack.{usedLogAfter, GivesBack}
 use Rattle.theorem_logs.specs.History.{historyAfter, OneHistory}
 use Rattle.theorem_logs.proofs.Back.{records-in-order, back-after, gives-back}
 
 module _ {Rows : Type 0} (rows : ℕ → Sheet → Rows) (none : Rows) where
   -- the used log is the records of the history
-  used-records : (log : List ℕ) (cs : List Call) → usedLog rows none log cs ≡ records (historyAfter rows none log cs)
+  used-records : (log : List ℕ) (cs : List Call) → usedLogAfter rows none log cs ≡ records (historyAfter rows none log cs)
   used-records log cs = demand-3 rows none log cs .used-log ∙ sym (records-in-order (workAfter rows none log cs .entries))
 
   history-fits : (log : List ℕ) (cs : List Call) → Fitting (historyAfter rows none log cs)
@@ -33,7 +33,7 @@ module _ {Rows : Type 0} (rows : ℕ → Sheet → Rows) (none : Rows) where
     beginning = λ rest e. beginning (historyAfter rows none log cs) (historyAfter rows none log′ cs′) rest (history-fits log cs) (history-fits log′ cs′)
         (ap (λ (l : List ℕ). l ++ rest) (sym (used-records log cs)) ∙ e ∙ used-records log′ cs′);
     told = ap (historyIn refusalOf storeOf freshDesk) (used-records log cs) ∙ history-told refusalOf storeOf (back-after rows none log cs);
-    beside = notes-beside refusalOf storeOf freshDesk (usedLog rows none log cs);
+    beside = notes-beside refusalOf storeOf freshDesk (usedLogAfter rows none log cs);
   }
 
 -- the desk itself

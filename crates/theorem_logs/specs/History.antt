@@ -19,27 +19,27 @@ use Rattle.theorem_history.specs.Histories.{Noted, Begins, historyIn, NotesBesi
 use Rattle.theorem_work.specs.Calls.{Call}
 use Rattle.theorem_work.specs.Work.{Entry}
 use Rattle.theorem_sequences.specs.Sequences.{workAfter}
-use Rattle.theorem_logs.specs.GivesBack.{usedLog}
+use Rattle.theorem_logs.specs.GivesBack.{usedLogAfter}
 
 -- "accepted entries (bench, item, value as typed)"
 abbrev pub note : Entry → Noted
 note e = record { bench = e .bench; item = e .item; value = e .value }
 
 -- entries in order, the oldest first; the work has the newest first
-abbrev pub inOrder : List Entry → List Noted
-inOrder [] = []
-inOrder (e ∷ es) = inOrder es ++ (note e ∷ [])
+abbrev pub oldestFirst : List Entry → List Noted
+oldestFirst [] = []
+oldestFirst (e ∷ es) = oldestFirst es ++ (note e ∷ [])
 
 module _ {Rows : Type 0} (rowsOf : ℕ → Sheet → Rows) (noRows : Rows) where
   -- the accepted entries of a sequence of calls
   abbrev pub historyAfter : List ℕ → List Call → List Noted
-  historyAfter log cs = inOrder (workAfter rowsOf noRows log cs .entries)
+  historyAfter log cs = oldestFirst (workAfter rowsOf noRows log cs .entries)
 
   pub record OneHistory (log : List ℕ) (cs : List Call) (log′ : List ℕ) (cs′ : List Call) : Type 0 where
     -- "two sequences of accepted entries .. that leave the same used log from fresh desks are the same sequence"
-    pub same : usedLog rowsOf noRows log cs ≡ usedLog rowsOf noRows log′ cs′ → historyAfter log cs ≡ historyAfter log′ cs′
+    pub same : usedLogAfter rowsOf noRows log cs ≡ usedLogAfter rowsOf noRows log′ cs′ → historyAfter log cs ≡ historyAfter log′ cs′
     -- "no used log of one is the beginning of another's unless that history is a beginning too"
-    pub beginning : (rest : List ℕ) → usedLog rowsOf noRows log cs ++ rest ≡ usedLog rowsOf noRows log′ cs′ → Begins (historyAfter log cs) (historyAfter log′ cs′)
+    pub beginning : (rest : List ℕ) → usedLogAfter rowsOf noRows log cs ++ rest ≡ usedLogAfter rowsOf noRows log′ cs′ → Begins (historyAfter log cs) (historyAfter log′ cs′)
     -- the reader gives the entries in order
-    pub told : historyIn refusalOf storeOf freshDesk (usedLog rowsOf noRows log cs) ≡ historyAfter log cs
-    pub beside : NotesBeside refusalOf storeOf freshDesk (usedLog rowsOf noRows log cs)
+    pub told : historyIn refusalOf storeOf freshDesk (usedLogAfter rowsOf noRows log cs) ≡ historyAfter log cs
+    pub beside : NotesBeside refusalOf storeOf freshDesk (usedLogAfter rowsOf noRows log cs)

@@ -20,7 +20,7 @@ use Rattle.theorem_work.specs.Calls.{Call, Reply, keyed, reported, told, answer
 use Rattle.theorem_work.specs.Work.{entriesOf}
 use Rattle.theorem_work.specs.Logged.{recordsNaming}
 use Rattle.theorem_work.specs.Owning.{OneOwner}
-use Rattle.theorem_sequences.specs.Calls.{State, stateOf, freshState, left, step}
+use Rattle.theorem_sequences.specs.Calls.{State, stateOf, freshState, leftByKey, step}
 use Rattle.theorem_sequences.specs.Sequences.{workAfter}
 use Rattle.theorem_sequences.proofs.Desk.{desk-sequences, desk-one-owner, report-is}
 use Rattle.theorem_memory.specs.Runs.{Memory, stateIn, freshMemory, Lends, a-key, a-report, a-who, Run, done, call, MemorySequence}
@@ -37,7 +37,7 @@ one : {c : Call} {m : Memory} {r : Reply Rows} {m′ : Memory} → IsDesk m → 
 unfolding whoLent reportLent
 one {m = m} {m′ = m′} d (a-key k) = record {
   kept = still-desk (m .texts) (m .numbers) (m′ .texts) (m′ .numbers) (k .same-length .0) (k .same-length .1) ∙ d;
-  is = sym (ap (λ (x : After). (keyed (x .answer), left x)) (k .desk d));
+  is = sym (ap (λ (x : After). (keyed (x .answer), leftByKey x)) (k .desk d));
 }
 one {m = m} d (a-report {sheet = sheet} {profile = profile} {r = r} e) =
     let q : r ≡ reportedOf (deskOf (m .texts) (m .numbers)) sheet profile = e ∙ simp d in

@@ -22,7 +22,7 @@ use Rattle.line_items.specs.Typed.{lineMost}
 use Rattle.line_items.specs.declared.Kind.{Kind}
 use Rattle.line_items.specs.declared.Kind.the-variants as kind
 use Rattle.line_kinds.specs.Wording.{Unassigned, NumberText, OfKind, Passes}
-use Rattle.desk_state.specs.Sheets.{noItem, valueIn, itemAt}
+use Rattle.desk_state.specs.Sheets.{noItem, valueIn, itemAt, valueAt}
 use Rattle.desk_state.specs.Desks.{sheetCount, sheetAt}
 use Rattle.desk_state.specs.declared.desk.Desk.{Desk}
 use Rattle.desk_state.specs.declared.sheet.Item.{Item}
@@ -42,7 +42,7 @@ use Rattle.rows_counts.proofs.Fires.{count-rows, row-left-out}
 use Rattle.rows_counts.proofs.Missing.{there-assigned}
 use Rattle.rows_moiety.specs.Wording.{Row25}
 use Rattle.rows_moiety.proofs.Words.{row-25-words}
-use Rattle.rows_sheet.specs.Sheet.{value, firstRows, rowsOf, rowAt}
+use Rattle.rows_sheet.specs.Sheet.{firstRows, rowsOf, rowAt}
 use Rattle.rows_sheet.proofs.Profiles.{powder-no-more}
 use Rattle.desk_questions.specs.Report.{Report, reportedOf, reportLent}
 use Rattle.theorem_profiles.specs.Profiles.{NoneMissing, reportedRow, Profiled, DeskProfiled, LentProfiled}
@@ -66,7 +66,7 @@ numbers = agree (λ (k : ℕ). itemRow (11 + k) .kind) (λ (k : ℕ). kind.Numbe
 -- the items whose numbers the rules compare hold numbers or are missing
 module _ (d : Desk) (sound : Sound d) (sheet : ℕ) (here : sheet < length (d .sheets)) where
   abbrev at : ℕ → List ℕ
-  at = value (sheetAt d sheet)
+  at = valueAt (sheetAt d sheet)
 
   held : (item : ℕ) → 11 ≤ item → item ≤ 18 → SoundItem sheet (sheetAt d sheet .count) item (itemAt (sheetAt d sheet) item) → (missing (at item) ≡ true) ⊎ There (at item)
   unfolding missing isUnassigned
@@ -127,10 +127,10 @@ said-as q j = record {
 }
 
 -- the row of a number from 13 to 24
-row-is : (profile : ℕ) (s : Sheet) (row : ℕ) → 13 ≤ row → row ≤ 24 → rowAt (rowsOf profile s) row ≡ countRow profile (value s) row
+row-is : (profile : ℕ) (s : Sheet) (row : ℕ) → 13 ≤ row → row ≤ 24 → rowAt (rowsOf profile s) row ≡ countRow profile (valueAt s) row
 row-is profile s row first last =
     let k : 13 + (row - 13) ≡ row = omega arith in
-    rw k at (agree (λ (k : ℕ). rowAt (rowsOf profile s) (13 + k)) (λ (k : ℕ). countRow profile (value s) (13 + k)) noAlert 12 refl (row - 13) (omega arith))
+    rw k at (agree (λ (k : ℕ). rowAt (rowsOf profile s) (13 + k)) (λ (k : ℕ). countRow profile (valueAt s) (13 + k)) noAlert 12 refl (row - 13) (omega arith))
 
 -- the rows of a report that is not refused
 report-rows : (d : Desk) (sheet profile : ℕ) → soundDesk d ≡ true → sheet < sheetCount → profile < profileCount → reportedOf d sheet profile .rows ≡ rowsOf profile (sheetAt d sheet)
@@ -143,27 +143,27 @@ rows-profiled : (d : Desk) → soundDesk d ≡ true → (sheet : ℕ) → sheet 
 rows-profiled d e sheet here of report = record { counted = counted; left-out = left-out; first = first; last = last; no-more = no-more }
   where
     counted : (profile row : ℕ) → profile < profileCount → 13 ≤ row → row ≤ 24 → keeps profile row ≡ true
-        → Judges (NoneMissing (value (sheetAt d sheet)) (compared (ruleOf row))) (Broken (value (sheetAt d sheet)) (ruleOf row)) (reasonOf row) (reportedRow (sheetAt d sheet) of profile row)
+        → Judges (NoneMissing (valueAt (sheetAt d sheet)) (compared (ruleOf row))) (Broken (valueAt (sheetAt d sheet)) (ruleOf row)) (reasonOf row) (reportedRow (sheetAt d sheet) of profile row)
     counted profile row p first last kept =
         let k : 13 + (row - 13) ≡ row = omega arith in
-        let q : rowAt (of profile .rows) row ≡ countRow profile (value (sheetAt d sheet)) row =
+        let q : rowAt (of profile .rows) row ≡ countRow profile (valueAt (sheetAt d sheet)) row =
         ap (λ (r : Rows). rowAt r row) (report profile p) ∙ row-is profile (sheetAt d sheet) row first last in
         let named : all (between 11 18) (compared (ruleOf row)) ≡ true = rw k at (in-table (row - 13) (omega arith)) in
-        subst⁻¹ (Judges (NoneMissing (value (sheetAt d sheet)) (compared (ruleOf row))) (Broken (value (sheetAt d sheet)) (ruleOf row)) (reasonOf row)) q
-        (said-as (none-missing d (sound-is d e) sheet here (compared (ruleOf row)) named) (count-rows profile (value (sheetAt d sheet)) row first last kept))
+        subst⁻¹ (Judges (NoneMissing (valueAt (sheetAt d sheet)) (compared (ruleOf row))) (Broken (valueAt (sheetAt d sheet)) (ruleOf row)) (reasonOf row)) q
+        (said-as (none-missing d (sound-is d e) sheet here (compared (ruleOf row)) named) (count-rows profile (valueAt (sheetAt d sheet)) row first last kept))
 
     left-out : (profile row : ℕ) → profile < profileCount → 13 ≤ row → row ≤ 24 → keeps profile row ≡ false → reportedRow (sheetAt d sheet) of profile row ≡ noAlert
     left-out profile row p first last left =
-        ap (λ (r : Rows). rowAt r row) (report profile p) ∙ row-is profile (sheetAt d sheet) row first last ∙ row-left-out profile (value (sheetAt d sheet)) row left
+        ap (λ (r : Rows). rowAt r row) (report profile p) ∙ row-is profile (sheetAt d sheet) row first last ∙ row-left-out profile (valueAt (sheetAt d sheet)) row left
 
     first : (profile : ℕ) → profile < profileCount → take 12 (of profile .rows .rows) ≡ firstRows (sheetAt d sheet)
     first profile p = ap (λ (r : Rows). take 12 (r .rows)) (report profile p)
 
-    last : (profile : ℕ) → profile < profileCount → Row25 (value (sheetAt d sheet) 1) (value (sheetAt d sheet) 19) (reportedRow (sheetAt d sheet) of profile 25)
+    last : (profile : ℕ) → profile < profileCount → Row25 (valueAt (sheetAt d sheet) 1) (valueAt (sheetAt d sheet) 19) (reportedRow (sheetAt d sheet) of profile 25)
     last profile p =
         let typed = short d (sound-is d e) sheet here in
-        subst⁻¹ (Row25 (value (sheetAt d sheet) 1) (value (sheetAt d sheet) 19)) (ap (λ (r : Rows). rowAt r 25) (report profile p))
-        (row-25-words (value (sheetAt d sheet) 1) (value (sheetAt d sheet) 19) (typed 1 (omega arith)) (typed 19 (omega arith)))
+        subst⁻¹ (Row25 (valueAt (sheetAt d sheet) 1) (valueAt (sheetAt d sheet) 19)) (ap (λ (r : Rows). rowAt r 25) (report profile p))
+        (row-25-words (valueAt (sheetAt d sheet) 1) (valueAt (sheetAt d sheet) 19) (typed 1 (omega arith)) (typed 19 (omega arith)))
 
     no-more : (row : ℕ) → (reportedRow (sheetAt d sheet) of powder row .level ≡ 0) ⊎ (reportedRow (sheetAt d sheet) of powder row .level ≡ reportedRow (sheetAt d sheet) of 0 row .level)
     no-more row =

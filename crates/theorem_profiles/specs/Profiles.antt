@@ -15,7 +15,8 @@ use Rattle.rows.specs.declared.Row.{Row}
 use Rattle.rows_counts.specs.Counts.{ruleOf, keeps}
 use Rattle.rows_counts.specs.Wording.{compared, Broken, reasonOf, Judges}
 use Rattle.rows_moiety.specs.Wording.{Row25}
-use Rattle.rows_sheet.specs.Sheet.{value, firstRows, rowAt}
+use Rattle.desk_state.specs.Sheets.{valueAt}
+use Rattle.rows_sheet.specs.Sheet.{firstRows, rowAt}
 use Rattle.desk_questions.specs.Report.{Report, reportedOf, reportLent}
 
 -- "with no compared item missing"
@@ -32,13 +33,13 @@ module _ (s : Sheet) (report : ℕ → Report) where
   pub record Profiled : Type 0 where
     -- "Shown once over rows 13 to 24: a row the profile keeps fires exactly when its rule, with no compared item missing, is broken."
     pub counted : (profile row : ℕ) → profile < profileCount → 13 ≤ row → row ≤ 24 → keeps profile row ≡ true
-        → Judges (NoneMissing (value s) (compared (ruleOf row))) (Broken (value s) (ruleOf row)) (reasonOf row) (reportedRow profile row)
+        → Judges (NoneMissing (valueAt s) (compared (ruleOf row))) (Broken (valueAt s) (ruleOf row)) (reasonOf row) (reportedRow profile row)
     -- "For powder rows 13 to 18, 20 and 21 are level 0, reason 0."
     pub left-out : (profile row : ℕ) → profile < profileCount → 13 ≤ row → row ≤ 24 → keeps profile row ≡ false → reportedRow profile row ≡ noAlert
     -- rows 1 to 12 are those of document 01 in both profiles
     pub first : (profile : ℕ) → profile < profileCount → take 12 (report profile .rows .rows) ≡ firstRows s
     -- document 02, No. 12: row 25 is what the request says of items 1 and 19, in both profiles
-    pub last : (profile : ℕ) → profile < profileCount → Row25 (value s 1) (value s 19) (reportedRow profile 25)
+    pub last : (profile : ℕ) → profile < profileCount → Row25 (valueAt s 1) (valueAt s 19) (reportedRow profile 25)
     -- "Powder gives no alert that the other profile lacks."
     pub no-more : (row : ℕ) → (reportedRow powder row .level ≡ 0) ⊎ (reportedRow powder row .level ≡ reportedRow 0 row .level)
 

@@ -19,14 +19,15 @@ use Rattle.desk_soundness.specs.SoundLog.{countsOf, soundLog}
 use Rattle.text.specs.Run as run
 use Rattle.text.proofs.Bools.{and-both}
 use Rattle.desk_entries.specs.Entry.{withEntry, openTo, ownItem}
-use Rattle.reader_cuts.specs.Reading.{lengthLeast, lengthMost, Reading, waiting, ended, placeFor, placeOf, feed}
-use Rattle.reader_cuts.specs.Called.{Called, told, joined, unmarked, call, after, answersSoFar}
+use Rattle.reader_cuts.specs.Reading.{lengthLeast, lengthMost, Reading, waiting, ended, placeFor, placeAnswered, feed}
+use Rattle.reader_cuts.specs.Called.{Called, calledWith, allBytes, callsOf, call, afterCalls, answersSoFar}
 use Rattle.reader_cuts.proofs.Laws.{undecided-few}
 use Rattle.reader_cuts.proofs.Cuts.{feed-over, next-part, whole-over}
 use Rattle.reader_cuts.proofs.Agreement.{agrees, Good, read-good, after-good, call-good}
 use Rattle.reader_cuts.proofs.Told.{Known, answers-known, before-refused, no-20-before}
 use Rattle.reader_memory.specs.Memory.{keptIn, standsAt, answerAt}
-use Rattle.reader_records.specs.Shape.{benchTold, itemTold, valueTold, shaped}
+use Rattle.desk_log.specs.Record.{benchTold, itemTold, valueTold}
+use Rattle.reader_records.specs.Shape.{shaped}
 use Rattle.reader_entries.specs.Judged.{refusalOf, storeOf, soundAt, readOn}
 use Rattle.desk_entries.proofs.Camps.{sheet-in}
 use Rattle.reader_records.proofs.Shapes.{shaped-parts}
@@ -34,7 +35,7 @@ use Rattle.reader_entries.proofs.Judged.{refusal-known, taken-shaped}
 use Rattle.reader_entries.proofs.Keeps.{Whole, keeps}
 use Rattle.reader_left.specs.Left.{Left, left, leftAs}
 use Rattle.reader_feed.specs.Feed.{soundReader, again, unsound, feedOf}
-use Rattle.theorem_reader.specs.Parts.{Between, between, fresh, Part, fed, afterParts, partAnswers, whole, soFar, partsOf, toldSoFar, PartsAgree, NeverUnsound, StoresBefore, RefusedBefore, ChangesNothing, AllThere, Ends, with-refusal, with-last, Repeats}
+use Rattle.theorem_reader.specs.Parts.{Between, leftFor, fresh, LogPart, fed, afterParts, partAnswers, whole, soFar, toldSoFar, PartsAgree, NeverUnsound, StoresBefore, RefusedBefore, ChangesNothing, SheetsThere, Ends, with-refusal, with-last, Repeats}
 use Rattle.theorem_reader.proofs.Follow.{view, leftCalled, follows, call-known, after-known, follows-after, follows-answers}
 
 -- ---- what a record that is taken keeps
@@ -89,16 +90,16 @@ start-known = record { going = λ e. refl; known = inl refl; waits = undecided-f
 
 so-far : (bs : List ℕ) (ps : List (List ℕ)) → answersSoFar refusalOf storeOf soundAt freshDesk bs ps ≡ toldSoFar bs ps
 so-far bs [] = refl
-so-far bs (p ∷ ps) = ap (λ (l : List (ℕ × ℕ)). (readOn false freshDesk 0 (bs ++ p) .answer, placeOf (readOn false freshDesk 0 (bs ++ p))) ∷ l) (so-far (bs ++ p) ps)
+so-far bs (p ∷ ps) = ap (λ (l : List (ℕ × ℕ)). (readOn false freshDesk 0 (bs ++ p) .answer, placeAnswered (readOn false freshDesk 0 (bs ++ p))) ∷ l) (so-far (bs ++ p) ps)
 
 -- "However it is cut, with parts of no bytes too, the sheets and the final answer agree with reading it whole"
-pub parts-agree : (ps : List (List ℕ)) (p : List ℕ) (more : List Part) → PartsAgree ps p more
+pub parts-agree : (ps : List (List ℕ)) (p : List ℕ) (more : List LogPart) → PartsAgree ps p more
 parts-agree ps p more =
     let a = agrees refusalOf storeOf soundAt Fine fine-sound fine-kept freshDesk fresh-fine p more ps in
-    let end : List (ℕ × ℕ) = (whole (joined ps ++ p) .answer, placeOf (whole (joined ps ++ p))) ∷ replicate (length more) (whole (joined ps ++ p) .answer, placeOf (whole (joined ps ++ p))) in
+    let end : List (ℕ × ℕ) = (whole (allBytes ps ++ p) .answer, placeAnswered (whole (allBytes ps ++ p))) ∷ replicate (length more) (whole (allBytes ps ++ p) .answer, placeAnswered (whole (allBytes ps ++ p))) in
     record {
-      left-so = follows-after start start-known (partsOf ps p more) ∙ ap (λ (r : Reading Desk). view r) (a .reading);
-      told-so = follows-answers start start-known (partsOf ps p more) ∙ a .told-so ∙ ap (λ (l : List (ℕ × ℕ)). l ++ end) (so-far [] ps);
+      left-so = follows-after start start-known (callsOf ps p more) ∙ ap (λ (r : Reading Desk). view r) (a .reading);
+      told-so = follows-answers start start-known (callsOf ps p more) ∙ a .told-so ∙ ap (λ (l : List (ℕ × ℕ)). l ++ end) (so-far [] ps);
     }
 
 -- ---- every part of a log that is read with 0
@@ -113,42 +114,42 @@ front-0 xs ys z = go (soFar xs .over) refl
         let same = sym (feed-over refusalOf storeOf (soFar xs) ys true p) ∙ next-part refusalOf storeOf true freshDesk 0 xs ys in
         ap (λ (r : Reading Desk). r .answer) same ∙ z
 
-zeros-so-far : (bs : List ℕ) (ps : List (List ℕ)) (p : List ℕ) → whole (bs ++ (joined ps ++ p)) .answer ≡ 0 → toldSoFar bs ps ≡ replicate (length ps) (0, 0)
+zeros-so-far : (bs : List ℕ) (ps : List (List ℕ)) (p : List ℕ) → whole (bs ++ (allBytes ps ++ p)) .answer ≡ 0 → toldSoFar bs ps ≡ replicate (length ps) (0, 0)
 zeros-so-far bs [] p z = refl
 zeros-so-far bs (q ∷ ps) p z =
-    let split : bs ++ ((q ++ joined ps) ++ p) ≡ (bs ++ q) ++ (joined ps ++ p) = simp append-assoc in
-    let z′ : whole ((bs ++ q) ++ (joined ps ++ p)) .answer ≡ 0 = ap (λ (l : List ℕ). whole l .answer) (sym split) ∙ z in
-    let first : soFar (bs ++ q) .answer ≡ 0 = front-0 (bs ++ q) (joined ps ++ p) z′ in
+    let split : bs ++ ((q ++ allBytes ps) ++ p) ≡ (bs ++ q) ++ (allBytes ps ++ p) = simp append-assoc in
+    let z′ : whole ((bs ++ q) ++ (allBytes ps ++ p)) .answer ≡ 0 = ap (λ (l : List ℕ). whole l .answer) (sym split) ∙ z in
+    let first : soFar (bs ++ q) .answer ≡ 0 = front-0 (bs ++ q) (allBytes ps ++ p) z′ in
     ap (λ (n : ℕ). (n, placeFor n (soFar (bs ++ q) .at)) ∷ toldSoFar (bs ++ q) ps) first
     ∙ ap (λ (l : List (ℕ × ℕ)). (0, 0) ∷ l) (zeros-so-far (bs ++ q) ps p z′)
 
 abbrev accepted : ℕ × ℕ
 accepted = (0, 0)
 
-all-accepted : (ps : List (List ℕ)) (p : List ℕ) (more : List Part)
-    → replicate (length ps) accepted ++ (accepted ∷ replicate (length more) accepted) ≡ replicate (length (partsOf ps p more)) accepted
+all-accepted : (ps : List (List ℕ)) (p : List ℕ) (more : List LogPart)
+    → replicate (length ps) accepted ++ (accepted ∷ replicate (length more) accepted) ≡ replicate (length (callsOf ps p more)) accepted
 all-accepted [] p more = refl
 all-accepted (q ∷ ps) p more = ap (λ (l : List (ℕ × ℕ)). accepted ∷ l) (all-accepted ps p more)
 
 -- each part of it, and each after the last, gets 0 with place 0
-pub parts-accepted : (ps : List (List ℕ)) (p : List ℕ) (more : List Part) → whole (joined ps ++ p) .answer ≡ 0
-    → partAnswers fresh (partsOf ps p more) ≡ replicate (length (partsOf ps p more)) (0, 0)
+pub parts-accepted : (ps : List (List ℕ)) (p : List ℕ) (more : List LogPart) → whole (allBytes ps ++ p) .answer ≡ 0
+    → partAnswers fresh (callsOf ps p more) ≡ replicate (length (callsOf ps p more)) (0, 0)
 parts-accepted ps p more z =
     let end : List (ℕ × ℕ) → (ℕ × ℕ) → List (ℕ × ℕ) = λ l x. l ++ (x ∷ replicate (length more) x) in
-    parts-agree ps p more .told-so ∙ ap (λ (n : ℕ). end (toldSoFar [] ps) (n, placeFor n (whole (joined ps ++ p) .at))) z
+    parts-agree ps p more .told-so ∙ ap (λ (n : ℕ). end (toldSoFar [] ps) (n, placeFor n (whole (allBytes ps ++ p) .at))) z
     ∙ ap (λ (l : List (ℕ × ℕ)). end l (0, 0)) (zeros-so-far [] ps p z) ∙ all-accepted ps p more
 
 -- ---- never 2
 
-abbrev grown : List Part → Reading Desk
-grown cs = after refusalOf storeOf soundAt start cs
+abbrev grown : List LogPart → Reading Desk
+grown cs = afterCalls refusalOf storeOf soundAt start cs
 
-grown-good : (cs : List Part) → Good refusalOf storeOf soundAt Fine fine-sound fine-kept (grown cs)
+grown-good : (cs : List LogPart) → Good refusalOf storeOf soundAt Fine fine-sound fine-kept (grown cs)
 grown-good cs =
     after-good refusalOf storeOf soundAt Fine fine-sound fine-kept start cs (record { fine = fresh-fine; waits = undecided-few [] (omega arith) })
 
 -- "kept sound": a reader that grew from a fresh one is never refused with 2
-pub never-unsound : (cs : List Part) (c : Part) → NeverUnsound cs c
+pub never-unsound : (cs : List LogPart) (c : LogPart) → NeverUnsound cs c
 never-unsound cs c e =
     let r = grown cs in
     let k = after-known start start-known cs in
@@ -175,7 +176,7 @@ never-20 start r d e = go (shaped start r) (openTo (ownItem d (benchTold r) (ite
 
 -- ---- what one part leaves
 
-module _ (b : Between) (c : Part) where
+module _ (b : Between) (c : LogPart) where
   abbrev bytes : List ℕ
   bytes = keptIn (b .kept) (b .state) ++ c .0
 
@@ -220,7 +221,7 @@ refused-before log =
 
 -- ---- after a refusal, and after the last part
 
-module _ (b : Between) (c : Part) where
+module _ (b : Between) (c : LogPart) where
   abbrev sound : Bool
   sound = soundReader (b .desk) (b .used) (b .kept) (b .state)
 
@@ -239,7 +240,7 @@ module _ (b : Between) (c : Part) where
   pub reading-known : Known refusalOf storeOf reading
   reading-known = answers-known refusalOf storeOf refusal-known (c .1) (b .desk) (b .used) (keptIn (b .kept) (b .state) ++ c .0)
 
-  module _ (there : AllThere (b .desk)) (e : sound ≡ true) (going : standsAt (b .state) ≡ 0) where
+  module _ (there : SheetsThere (b .desk)) (e : sound ≡ true) (going : standsAt (b .state) ≡ 0) where
     fine-here : Fine (b .desk) (b .used)
     unfolding soundReader
     fine-here = record {
@@ -261,21 +262,21 @@ module _ (b : Between) (c : Part) where
     over-repeats h next =
         let r : Reading Desk = reading in
         let good = read-good refusalOf storeOf soundAt Fine fine-sound fine-kept (c .1) (b .desk) (b .used) (keptIn (b .kept) (b .state) ++ c .0) fine-here in
-        let called : call refusalOf storeOf soundAt r (next .0) (next .1) ≡ told r
+        let called : call refusalOf storeOf soundAt r (next .0) (next .1) ≡ calledWith r
         = call-good refusalOf storeOf soundAt Fine fine-sound fine-kept r (next .0) (next .1) good
-        ∙ ap (λ (x : Reading Desk). told x) (feed-over refusalOf storeOf r (next .0) (next .1) (is-over h)) in
+        ∙ ap (λ (x : Reading Desk). calledWith x) (feed-over refusalOf storeOf r (next .0) (next .1) (is-over h)) in
         let same : fed (view r) next ≡ leftAs r = follows r reading-known (next .0) (next .1) ∙ ap (λ (k : Called Desk). leftCalled k) called in
         let first = reads b c e going in
-        ap (λ (l : Left). fed (between l) next) first ∙ same ∙ sym first
+        ap (λ (l : Left). fed (leftFor l) next) first ∙ same ∙ sym first
 
 -- "parts after it, or after the last part, change nothing and repeat its answer"
-pub repeats : (b : Between) (c : Part) → AllThere (b .desk) → Ends b c → Repeats b c
+pub repeats : (b : Between) (c : LogPart) → SheetsThere (b .desk) → Ends b c → Repeats b c
 repeats b c there h next = go (sound b c) (eqb (standsAt (b .state)) 0) refl refl
   where
-    go : (x y : Bool) → sound b c ≡ x → eqb (standsAt (b .state)) 0 ≡ y → fed (between (fed b c)) next ≡ fed b c
-    go false y p q = let first = unsound-is b c p in ap (λ (l : Left). fed (between l) next) first ∙ unsound-is b next p ∙ sym first
+    go : (x y : Bool) → sound b c ≡ x → eqb (standsAt (b .state)) 0 ≡ y → fed (leftFor (fed b c)) next ≡ fed b c
+    go false y p q = let first = unsound-is b c p in ap (λ (l : Left). fed (leftFor l) next) first ∙ unsound-is b next p ∙ sym first
     go true false p q =
         let ne = eqb-false (standsAt (b .state)) 0 q in
         let first = again-is b c p ne in
-        ap (λ (l : Left). fed (between l) next) first ∙ again-is b next p ne ∙ sym first
+        ap (λ (l : Left). fed (leftFor l) next) first ∙ again-is b next p ne ∙ sym first
     go true true p q = over-repeats b c there p (eqb-true (standsAt (b .state)) 0 q) h next

@@ -11,17 +11,17 @@ use lib.Dec.{ltb, eqb}
 use lib.ListN.{length, take, drop, take-append-drop, drop-of-length-le}
 use lib.Seq.{take-all, length-take-le}
 use Rattle.text.proofs.Bools.{or-either}
-use Rattle.desk_log.specs.Record.{headLength}
+use Rattle.desk_log.specs.Record.{headLength, lengthTold, benchTold, itemTold, valueTold}
 use Rattle.desk_state.specs.declared.sheet.Item.{Item}
 use Rattle.desk_state.specs.declared.desk.Desk.{Desk}
 use Rattle.desk_entries.specs.Entry.{withEntryOn, openTo, ownItem}
-use Rattle.reader_cuts.specs.Reading.{lengthLeast, lengthMost, lengthOf, badLength, undecided, Reading, ended, placeFor}
+use Rattle.reader_cuts.specs.Reading.{lengthLeast, lengthMost, badLength, undecided, Reading, ended, placeFor}
 use Rattle.reader_cuts.specs.Reading.{short as shortOf}
 use Rattle.reader_cuts.proofs.Laws.{good-length, length-good, length-front, read-bad, read-refused, front-taken, every-reading}
 use Rattle.reader_cuts.proofs.Firsts.{read-undecided}
 use Rattle.reader_cuts.proofs.Told.{answers-known}
 use Rattle.reader_memory.specs.Memory.{keptIn, standsAt}
-use Rattle.reader_records.specs.Shape.{benchTold, itemTold, valueTold, shaped}
+use Rattle.reader_records.specs.Shape.{shaped}
 use Rattle.reader_records.specs.Wording.{IsRecord}
 use Rattle.reader_records.proofs.Wording.{Tells, shape-is, shape-taken}
 use Rattle.reader_entries.specs.Judged.{refusalOf, storeOf, readOn}
@@ -31,7 +31,7 @@ use Rattle.reader_feed.specs.Feed.{soundReader}
 use Rattle.theorem_refusals.specs.Table.{Answers, _when_}
 use Rattle.theorem_refusals.specs.Key.{HeldByAnother}
 use Rattle.theorem_refusals.proofs.Firsts.{First, this, next, answers, fails}
-use Rattle.theorem_reader.specs.Parts.{Between, Part, fed}
+use Rattle.theorem_reader.specs.Parts.{Between, LogPart, fed}
 use Rattle.theorem_reader.specs.Table.{Comes, here, later, ComesTo, BadLength, short, long, WholeRecord, BadShape, bad-length, fault, ForeignOverwrite, EndInside, fewer-than-six, fewer-than-length, feedTable, At, Placed}
 use Rattle.theorem_reader.specs.Sound.{SoundReader}
 use Rattle.theorem_reader.proofs.Sounds.{reader-so}
@@ -79,19 +79,19 @@ module _ (last : Bool) (d : Desk) (at : ℕ) (r bs : List ℕ) (bench item : ℕ
   tells : Tells at r bench item v
   tells = shape-taken at r bench item v w
 
-  whole : take (lengthOf r) r ≡ r
-  whole = take-all (lengthOf r) r (omega (arith, tells .length-told))
+  whole : take (lengthTold r) r ≡ r
+  whole = take-all (lengthTold r) r (omega (arith, tells .length-told))
 
   pub record-taken : (HeldByAnother bench (ownItem d bench item) → ⊥) → readOn last d at (r ++ bs) ≡ readOn last (withEntryOn d bench item v) (at + length r) bs
   record-taken h =
       let k = tells in
       let q = word-open d r bench item (k .of-bench) (k .of-item) ∙ open-taken (ownItem d bench item) bench h in
       let z : refusalOf at r d ≡ 0 = sym (judged-taken at r d (k .shape) q) in
-      let z′ : eqb (refusalOf at (take (lengthOf r) r) d) 0 ≡ true = rw whole (eq-eqb (refusalOf at r d) 0 z) in
-      let none : drop (lengthOf r) r ≡ [] = drop-of-length-le r {i = lengthOf r} (omega (arith, k .length-told)) in
+      let z′ : eqb (refusalOf at (take (lengthTold r) r) d) 0 ≡ true = rw whole (eq-eqb (refusalOf at r d) 0 z) in
+      let none : drop (lengthTold r) r ≡ [] = drop-of-length-le r {i = lengthTold r} (omega (arith, k .length-told)) in
       front-taken refusalOf storeOf last d at r bs (omega (arith, w .least)) (ap badLength (k .length-told) ∙ k .good) (omega (arith, k .length-told)) z′
-      ∙ ap (λ (x : List ℕ). readOn last (storeOf x d) (at + lengthOf r) (drop (lengthOf r) r ++ bs)) whole
-      ∙ ap (λ (x : List ℕ). readOn last (storeOf r d) (at + lengthOf r) (x ++ bs)) none
+      ∙ ap (λ (x : List ℕ). readOn last (storeOf x d) (at + lengthTold r) (drop (lengthTold r) r ++ bs)) whole
+      ∙ ap (λ (x : List ℕ). readOn last (storeOf r d) (at + lengthTold r) (x ++ bs)) none
       ∙ ap (λ (n : ℕ). readOn last (storeOf r d) (at + n) bs) (k .length-told)
       ∙ ap (λ (e : Desk). readOn last e (at + length r) bs) (told-path d r bench item v (k .of-bench) (k .of-item) (k .of-value))
 
@@ -104,29 +104,29 @@ comes-reads last (later {d = d} {at = at} {r = r} {bs = bs} {bench = bench} {ite
 
 module _ (last : Bool) (d : Desk) (at : ℕ) (cs : List ℕ) where
   gives-bad : BadLength cs → readOn last d at cs .answer ≡ 18
-  gives-bad (short h l) = ap (λ (r : Reading Desk). r .answer) (read-bad refusalOf storeOf last d at cs h (simp (lt-ltb (lengthOf cs) lengthLeast l)))
+  gives-bad (short h l) = ap (λ (r : Reading Desk). r .answer) (read-bad refusalOf storeOf last d at cs h (simp (lt-ltb (lengthTold cs) lengthLeast l)))
   gives-bad (long h l) =
-      ap (λ (r : Reading Desk). r .answer) (read-bad refusalOf storeOf last d at cs h (simp (le-ltb (lengthOf cs) lengthLeast (omega (arith, l)), lt-ltb lengthMost (lengthOf cs) l)))
+      ap (λ (r : Reading Desk). r .answer) (read-bad refusalOf storeOf last d at cs h (simp (le-ltb (lengthTold cs) lengthLeast (omega (arith, l)), lt-ltb lengthMost (lengthTold cs) l)))
 
-  refused-so : (w : WholeRecord cs) → (a : ℕ) → (a ≡ 0 → ⊥) → refusalOf at (take (lengthOf cs) cs) d ≡ a → readOn last d at cs .answer ≡ a
+  refused-so : (w : WholeRecord cs) → (a : ℕ) → (a ≡ 0 → ⊥) → refusalOf at (take (lengthTold cs) cs) d ≡ a → readOn last d at cs .answer ≡ a
   refused-so w a ne e =
       ap (λ (r : Reading Desk). r .answer)
-      (read-refused refusalOf storeOf last d at cs (w .head) (length-good (lengthOf cs) (w .least) (w .most)) (w .bytes) (ne-eqb _ 0 (λ z. ne (sym e ∙ z)))) ∙ e
+      (read-refused refusalOf storeOf last d at cs (w .head) (length-good (lengthTold cs) (w .least) (w .most)) (w .bytes) (ne-eqb _ 0 (λ z. ne (sym e ∙ z)))) ∙ e
 
   -- a whole record's own length is what it tells
-  told-whole : WholeRecord cs → (lengthOf (take (lengthOf cs) cs) ≡ length (take (lengthOf cs) cs)) × (badLength (length (take (lengthOf cs) cs)) ≡ false)
+  told-whole : WholeRecord cs → (lengthTold (take (lengthTold cs) cs) ≡ length (take (lengthTold cs) cs)) × (badLength (length (take (lengthTold cs) cs)) ≡ false)
   told-whole w =
-      let n : ℕ = lengthOf cs in
+      let n : ℕ = lengthTold cs in
       let l : length (take n cs) ≡ n = length-take-le n cs (w .bytes) in
-      let q : lengthOf (take n cs) ≡ n = sym (length-front (take n cs) (drop n cs) (omega (arith, l, w .least))) ∙ ap lengthOf (take-append-drop n cs) in
+      let q : lengthTold (take n cs) ≡ n = sym (length-front (take n cs) (drop n cs) (omega (arith, l, w .least))) ∙ ap lengthTold (take-append-drop n cs) in
       (q ∙ sym l, ap badLength l ∙ length-good n (w .least) (w .most))
 
-  gives-fault : WholeRecord cs → ((bench item : ℕ) (value : List ℕ) → IsRecord at (take (lengthOf cs) cs) bench item value → ⊥) → readOn last d at cs .answer ≡ 18
-  gives-fault w none = refused-so w 18 (λ z. omega (arith, z)) (go (shaped at (take (lengthOf cs) cs)) refl)
+  gives-fault : WholeRecord cs → ((bench item : ℕ) (value : List ℕ) → IsRecord at (take (lengthTold cs) cs) bench item value → ⊥) → readOn last d at cs .answer ≡ 18
+  gives-fault w none = refused-so w 18 (λ z. omega (arith, z)) (go (shaped at (take (lengthTold cs) cs)) refl)
     where
-      go : (b : Bool) → shaped at (take (lengthOf cs) cs) ≡ b → refusalOf at (take (lengthOf cs) cs) d ≡ 18
-      go true e = let t = told-whole w in absurd (none _ _ _ (shape-is at (take (lengthOf cs) cs) (t .0) (t .1) e))
-      go false e = sym (judged-shapeless at (take (lengthOf cs) cs) d e)
+      go : (b : Bool) → shaped at (take (lengthTold cs) cs) ≡ b → refusalOf at (take (lengthTold cs) cs) d ≡ 18
+      go true e = let t = told-whole w in absurd (none _ _ _ (shape-is at (take (lengthTold cs) cs) (t .0) (t .1) e))
+      go false e = sym (judged-shapeless at (take (lengthTold cs) cs) d e)
 
   gives-18 : BadShape d at cs → readOn last d at cs .answer ≡ 18
   gives-18 (bad-length b) = gives-bad b
@@ -134,7 +134,7 @@ module _ (last : Bool) (d : Desk) (at : ℕ) (cs : List ℕ) where
 
   gives-19 : ForeignOverwrite d at cs → readOn last d at cs .answer ≡ 19
   gives-19 f =
-      let r : List ℕ = take (lengthOf cs) cs in
+      let r : List ℕ = take (lengthTold cs) cs in
       let k = shape-taken at r (f .bench) (f .item) (f .value) (f .is) in
       let closed : openTo (ownItem d (benchTold r) (itemTold r)) (benchTold r) ≡ false = word-open d r (f .bench) (f .item) (k .of-bench) (k .of-item) ∙ shut (openTo (ownItem d (f .bench) (f .item)) (f .bench)) refl in
       refused-so (f .all-there) 19 (λ z. omega (arith, z)) (sym (judged-foreign at r d (k .shape) closed))
@@ -147,7 +147,7 @@ inside-undecided : (d : Desk) (at : ℕ) (cs : List ℕ) → EndInside d at cs �
 unfolding undecided
 inside-undecided d at cs (fewer-than-six s h) = (rw (lt-ltb (length cs) headLength h), s)
 inside-undecided d at cs (fewer-than-length h lo hi l) =
-    (rw (le-ltb (length cs) headLength h, length-good (lengthOf cs) lo hi, lt-ltb (length cs) (lengthOf cs) l), omega (arith, h))
+    (rw (le-ltb (length cs) headLength h, length-good (lengthTold cs) lo hi, lt-ltb (length cs) (lengthTold cs) l), omega (arith, h))
 
 gives-20 : (d : Desk) (at : ℕ) (cs : List ℕ) → EndInside d at cs → readOn true d at cs .answer ≡ 20
 gives-20 d at cs e = let u = inside-undecided d at cs e in ap (λ (r : Reading Desk). r .answer) (read-undecided refusalOf storeOf true d at cs (u .0)) ∙ go cs (u .1)
@@ -160,22 +160,22 @@ gives-20 d at cs e = let u = inside-undecided d at cs e in ap (λ (r : Reading D
 
 undecided-inside : (d : Desk) (at : ℕ) (cs : List ℕ) → 1 ≤ length cs → undecided cs ≡ true → EndInside d at cs
 unfolding undecided
-undecided-inside d at cs some e = go (ltb (length cs) headLength) (badLength (lengthOf cs)) (ltb (length cs) (lengthOf cs)) refl refl refl
+undecided-inside d at cs some e = go (ltb (length cs) headLength) (badLength (lengthTold cs)) (ltb (length cs) (lengthTold cs)) refl refl refl
   where
-    go : (a b c : Bool) → ltb (length cs) headLength ≡ a → badLength (lengthOf cs) ≡ b → ltb (length cs) (lengthOf cs) ≡ c → EndInside d at cs
+    go : (a b c : Bool) → ltb (length cs) headLength ≡ a → badLength (lengthTold cs) ≡ b → ltb (length cs) (lengthTold cs) ≡ c → EndInside d at cs
     go true b c p q r = fewer-than-six some (ltb-true (length cs) headLength p)
     go false false true p q r =
-        let k = good-length (lengthOf cs) q in
-        fewer-than-length (ltb-false (length cs) headLength p) (k .0) (k .1) (ltb-true (length cs) (lengthOf cs) r)
+        let k = good-length (lengthTold cs) q in
+        fewer-than-length (ltb-false (length cs) headLength p) (k .0) (k .1) (ltb-true (length cs) (lengthTold cs) r)
     go false true c p q r = let z = simp (p, q) at e in absurd (false≢true z)
     go false false false p q r = let z = simp (p, q, r) at e in absurd (false≢true z)
 
-bad-so : (cs : List ℕ) → headLength ≤ length cs → badLength (lengthOf cs) ≡ true → BadLength cs
-bad-so cs h e = go (or-either (ltb (lengthOf cs) lengthLeast) (ltb lengthMost (lengthOf cs)) e)
+bad-so : (cs : List ℕ) → headLength ≤ length cs → badLength (lengthTold cs) ≡ true → BadLength cs
+bad-so cs h e = go (or-either (ltb (lengthTold cs) lengthLeast) (ltb lengthMost (lengthTold cs)) e)
   where
-    go : (ltb (lengthOf cs) lengthLeast ≡ true) ⊎ (ltb lengthMost (lengthOf cs) ≡ true) → BadLength cs
-    go (inl p) = short h (ltb-true (lengthOf cs) lengthLeast p)
-    go (inr p) = long h (ltb-true lengthMost (lengthOf cs) p)
+    go : (ltb (lengthTold cs) lengthLeast ≡ true) ⊎ (ltb lengthMost (lengthTold cs) ≡ true) → BadLength cs
+    go (inl p) = short h (ltb-true (lengthTold cs) lengthLeast p)
+    go (inr p) = long h (ltb-true lengthMost (lengthTold cs) p)
 
 -- what the answer of a reading says of the bytes, and of where they start
 pub record Found (last : Bool) (d : Desk) (at : ℕ) (bs : List ℕ) (r : Reading Desk) : Type 0 where
@@ -201,74 +201,74 @@ found-short true d at (b ∷ bs) u = record {
 }
 
 module _ (last : Bool) (d : Desk) (at : ℕ) (bs : List ℕ) (six : headLength ≤ length bs) where
-  found-bad : badLength (lengthOf bs) ≡ true → Found last d at bs (ended 18 d at)
+  found-bad : badLength (lengthTold bs) ≡ true → Found last d at bs (ended 18 d at)
   found-bad e = record {
     of-18 = λ z. at-once d at bs (bad-length (bad-so bs six e));
     of-19 = λ z. absurd (omega (arith, z));
     of-20 = λ z. absurd (omega (arith, z));
   }
 
-  module _ (good : badLength (lengthOf bs) ≡ false) (bytes : lengthOf bs ≤ length bs) where
+  module _ (good : badLength (lengthTold bs) ≡ false) (bytes : lengthTold bs ≤ length bs) where
     there : WholeRecord bs
-    there = let k = good-length (lengthOf bs) good in record { head = six; least = k .0; most = k .1; bytes = bytes }
+    there = let k = good-length (lengthTold bs) good in record { head = six; least = k .0; most = k .1; bytes = bytes }
 
-    is-record : shaped at (take (lengthOf bs) bs) ≡ true
-        → IsRecord at (take (lengthOf bs) bs) (benchTold (take (lengthOf bs) bs)) (itemTold (take (lengthOf bs) bs)) (valueTold (take (lengthOf bs) bs))
-    is-record e = let t = told-whole last d at bs there in shape-is at (take (lengthOf bs) bs) (t .0) (t .1) e
+    is-record : shaped at (take (lengthTold bs) bs) ≡ true
+        → IsRecord at (take (lengthTold bs) bs) (benchTold (take (lengthTold bs) bs)) (itemTold (take (lengthTold bs) bs)) (valueTold (take (lengthTold bs) bs))
+    is-record e = let t = told-whole last d at bs there in shape-is at (take (lengthTold bs) bs) (t .0) (t .1) e
 
-    found-refused : Found last d at bs (ended (refusalOf at (take (lengthOf bs) bs) d) d at)
-    found-refused = record { of-18 = at-18; of-19 = at-19; of-20 = λ z. absurd (never-20 at (take (lengthOf bs) bs) d z) }
+    found-refused : Found last d at bs (ended (refusalOf at (take (lengthTold bs) bs) d) d at)
+    found-refused = record { of-18 = at-18; of-19 = at-19; of-20 = λ z. absurd (never-20 at (take (lengthTold bs) bs) d z) }
       where
-        at-18 : refusalOf at (take (lengthOf bs) bs) d ≡ 18 → ComesTo d at bs (At at BadShape)
+        at-18 : refusalOf at (take (lengthTold bs) bs) d ≡ 18 → ComesTo d at bs (At at BadShape)
         at-18 z = at-once d at bs (fault there none)
           where
-            none : (bench item : ℕ) (value : List ℕ) → IsRecord at (take (lengthOf bs) bs) bench item value → ⊥
-            none bench item value w = pick (openTo (ownItem d (benchTold (take (lengthOf bs) bs)) (itemTold (take (lengthOf bs) bs))) (benchTold (take (lengthOf bs) bs))) refl
+            none : (bench item : ℕ) (value : List ℕ) → IsRecord at (take (lengthTold bs) bs) bench item value → ⊥
+            none bench item value w = pick (openTo (ownItem d (benchTold (take (lengthTold bs) bs)) (itemTold (take (lengthTold bs) bs))) (benchTold (take (lengthTold bs) bs))) refl
               where
-                s : shaped at (take (lengthOf bs) bs) ≡ true
-                s = shape-taken at (take (lengthOf bs) bs) bench item value w .shape
+                s : shaped at (take (lengthTold bs) bs) ≡ true
+                s = shape-taken at (take (lengthTold bs) bs) bench item value w .shape
 
-                pick : (b : Bool) → openTo (ownItem d (benchTold (take (lengthOf bs) bs)) (itemTold (take (lengthOf bs) bs))) (benchTold (take (lengthOf bs) bs)) ≡ b → ⊥
-                pick true q = omega (arith, judged-taken at (take (lengthOf bs) bs) d s q, z)
-                pick false q = omega (arith, judged-foreign at (take (lengthOf bs) bs) d s q, z)
+                pick : (b : Bool) → openTo (ownItem d (benchTold (take (lengthTold bs) bs)) (itemTold (take (lengthTold bs) bs))) (benchTold (take (lengthTold bs) bs)) ≡ b → ⊥
+                pick true q = omega (arith, judged-taken at (take (lengthTold bs) bs) d s q, z)
+                pick false q = omega (arith, judged-foreign at (take (lengthTold bs) bs) d s q, z)
 
-        at-19 : refusalOf at (take (lengthOf bs) bs) d ≡ 19 → ComesTo d at bs (At at ForeignOverwrite)
-        at-19 z = go (shaped at (take (lengthOf bs) bs)) (openTo (ownItem d (benchTold (take (lengthOf bs) bs)) (itemTold (take (lengthOf bs) bs))) (benchTold (take (lengthOf bs) bs))) refl refl
+        at-19 : refusalOf at (take (lengthTold bs) bs) d ≡ 19 → ComesTo d at bs (At at ForeignOverwrite)
+        at-19 z = go (shaped at (take (lengthTold bs) bs)) (openTo (ownItem d (benchTold (take (lengthTold bs) bs)) (itemTold (take (lengthTold bs) bs))) (benchTold (take (lengthTold bs) bs))) refl refl
           where
-            go : (a b : Bool) → shaped at (take (lengthOf bs) bs) ≡ a
-                → openTo (ownItem d (benchTold (take (lengthOf bs) bs)) (itemTold (take (lengthOf bs) bs))) (benchTold (take (lengthOf bs) bs)) ≡ b → ComesTo d at bs (At at ForeignOverwrite)
-            go false b p q = absurd (omega (arith, judged-shapeless at (take (lengthOf bs) bs) d p, z))
-            go true true p q = absurd (omega (arith, judged-taken at (take (lengthOf bs) bs) d p q, z))
+            go : (a b : Bool) → shaped at (take (lengthTold bs) bs) ≡ a
+                → openTo (ownItem d (benchTold (take (lengthTold bs) bs)) (itemTold (take (lengthTold bs) bs))) (benchTold (take (lengthTold bs) bs)) ≡ b → ComesTo d at bs (At at ForeignOverwrite)
+            go false b p q = absurd (omega (arith, judged-shapeless at (take (lengthTold bs) bs) d p, z))
+            go true true p q = absurd (omega (arith, judged-taken at (take (lengthTold bs) bs) d p q, z))
             go true false p q = at-once d at bs (record {
               all-there = there;
-              bench = benchTold (take (lengthOf bs) bs);
-              item = itemTold (take (lengthOf bs) bs);
-              value = valueTold (take (lengthOf bs) bs);
+              bench = benchTold (take (lengthTold bs) bs);
+              item = itemTold (take (lengthTold bs) bs);
+              value = valueTold (take (lengthTold bs) bs);
               is = is-record p;
-              held = closed-so (ownItem d (benchTold (take (lengthOf bs) bs)) (itemTold (take (lengthOf bs) bs))) (benchTold (take (lengthOf bs) bs)) q;
+              held = closed-so (ownItem d (benchTold (take (lengthTold bs) bs)) (itemTold (take (lengthTold bs) bs))) (benchTold (take (lengthTold bs) bs)) q;
             })
 
     -- what is so behind a record that is taken
-    behind : {P : Desk → ℕ → List ℕ → Type 0} → refusalOf at (take (lengthOf bs) bs) d ≡ 0
-        → ComesTo (storeOf (take (lengthOf bs) bs) d) (at + lengthOf bs) (drop (lengthOf bs) bs) P → ComesTo d at bs P
+    behind : {P : Desk → ℕ → List ℕ → Type 0} → refusalOf at (take (lengthTold bs) bs) d ≡ 0
+        → ComesTo (storeOf (take (lengthTold bs) bs) d) (at + lengthTold bs) (drop (lengthTold bs) bs) P → ComesTo d at bs P
     unfolding storeOf
     behind z c =
-        let r : List ℕ = take (lengthOf bs) bs in
-        let l : length r ≡ lengthOf bs = length-take-le (lengthOf bs) bs bytes in
-        let far : Comes (withEntryOn d (benchTold r) (itemTold r) (valueTold r)) (at + length r) (drop (lengthOf bs) bs) (c .desk) (c .place) (c .rest)
-        = subst (λ (n : ℕ). Comes (withEntryOn d (benchTold r) (itemTold r) (valueTold r)) (at + n) (drop (lengthOf bs) bs) (c .desk) (c .place) (c .rest)) (sym l) (c .comes) in
-        let all : Comes d at (r ++ drop (lengthOf bs) bs) (c .desk) (c .place) (c .rest)
+        let r : List ℕ = take (lengthTold bs) bs in
+        let l : length r ≡ lengthTold bs = length-take-le (lengthTold bs) bs bytes in
+        let far : Comes (withEntryOn d (benchTold r) (itemTold r) (valueTold r)) (at + length r) (drop (lengthTold bs) bs) (c .desk) (c .place) (c .rest)
+        = subst (λ (n : ℕ). Comes (withEntryOn d (benchTold r) (itemTold r) (valueTold r)) (at + n) (drop (lengthTold bs) bs) (c .desk) (c .place) (c .rest)) (sym l) (c .comes) in
+        let all : Comes d at (r ++ drop (lengthTold bs) bs) (c .desk) (c .place) (c .rest)
         = later (is-record (taken-shaped at r d z)) (open-so (ownItem d (benchTold r) (itemTold r)) (benchTold r) (taken-open at r d z)) far in
         record {
           desk = c .desk;
           place = c .place;
           rest = c .rest;
-          comes = subst (λ (x : List ℕ). Comes d at x (c .desk) (c .place) (c .rest)) (take-append-drop (lengthOf bs) bs) all;
+          comes = subst (λ (x : List ℕ). Comes d at x (c .desk) (c .place) (c .rest)) (take-append-drop (lengthTold bs) bs) all;
           so = c .so;
         }
 
-    found-taken : (r : Reading Desk) → refusalOf at (take (lengthOf bs) bs) d ≡ 0
-        → Found last (storeOf (take (lengthOf bs) bs) d) (at + lengthOf bs) (drop (lengthOf bs) bs) r → Found last d at bs r
+    found-taken : (r : Reading Desk) → refusalOf at (take (lengthTold bs) bs) d ≡ 0
+        → Found last (storeOf (take (lengthTold bs) bs) d) (at + lengthTold bs) (drop (lengthTold bs) bs) r → Found last d at bs r
     found-taken r z f = record {
       of-18 = λ e. behind z (f .of-18 e);
       of-19 = λ e. behind z (f .of-19 e);
@@ -343,7 +343,7 @@ module _ (last : Bool) (d : Desk) (at : ℕ) (bs : List ℕ) where
       none x y z (inl e) = ap (λ (m : ℕ). placeFor m place) e
       none x y z (inr h) = absurd (omega (arith, x, y, z, h .0, h .1))
 
-module _ (b : Between) (c : Part) (going : standsAt (b .state) ≡ 0) where
+module _ (b : Between) (c : LogPart) (going : standsAt (b .state) ≡ 0) where
   abbrev bytes : List ℕ
   bytes = keptIn (b .kept) (b .state) ++ c .0
 

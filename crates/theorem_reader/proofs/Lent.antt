@@ -18,7 +18,7 @@ use Rattle.reader_left.specs.Left.{Left, left}
 use Rattle.reader_feed.specs.Feed.{soundReader}
 use Rattle.theorem_refusals.specs.Table.{Answers}
 use Rattle.theorem_refusals.proofs.Firsts.{this, answers, fails}
-use Rattle.theorem_reader.specs.Parts.{Between, between, Part, fed, ChangesNothing, AllThere, Ends}
+use Rattle.theorem_reader.specs.Parts.{Between, leftFor, LogPart, fed, ChangesNothing, SheetsThere, Ends}
 use Rattle.theorem_reader.specs.Parts as parts
 use Rattle.theorem_reader.specs.Runs.{Memory, betweenIn, FedIn, SoundIn, lentFeedTable, LentPlaced, Idle, unsound, over, IdleSame, EndsIn, with-refusal, with-last, Repeated}
 use Rattle.theorem_reader.proofs.Sounds.{reader-so}
@@ -26,13 +26,13 @@ use Rattle.theorem_reader.proofs.Agree.{unsound-changes-nothing, over-c
 use Rattle.theorem_reader.proofs.Answers.{feed-answers, feed-places}
 
 -- every desk in lent memory has its sheets and items
-lent-there : (m : Memory) → AllThere (betweenIn m .desk)
+lent-there : (m : Memory) → SheetsThere (betweenIn m .desk)
 lent-there m = let w = desk-whole (m .texts) (m .numbers) in record { sheets = w .sheets; items = w .items }
 
 memory-path : (m m′ : Memory) → m′ .texts ≡ m .texts → m′ .numbers ≡ m .numbers → m′ .kept ≡ m .kept → m′ .state ≡ m .state → m′ ≡ m
 memory-path m m′ p q r s = λ i. record { texts = p i; numbers = q i; kept = r i; state = s i }
 
-module _ (m : Memory) (c : Part) (a place : ℕ) (m′ : Memory) (h : FedIn m c a place m′) where
+module _ (m : Memory) (c : LogPart) (a place : ℕ) (m′ : Memory) (h : FedIn m c a place m′) where
   abbrev b : Between
   b = betweenIn m
 
@@ -43,7 +43,7 @@ module _ (m : Memory) (c : Part) (a place : ℕ) (m′ : Memory) (h : FedIn m c 
     -- memory that holds what it held is the same memory
     held-same : ChangesNothing b c → m′ ≡ m
     held-same e =
-        let all : betweenIn m′ ≡ b = ap (λ (l : Left). between l) fed-is ∙ e in
+        let all : betweenIn m′ ≡ b = ap (λ (l : Left). leftFor l) fed-is ∙ e in
         let z = desk-sized (m .texts) (m .numbers) d in
         let l = h .same-length in
         let z′ : Sized (m′ .texts) (m′ .numbers) = record { texts = l .0 ∙ z .texts; numbers = l .1 ∙ z .numbers } in
@@ -107,11 +107,11 @@ module _ (m : Memory) (c : Part) (a place : ℕ) (m′ : Memory) (h : FedIn m c 
             }
 
 -- no byte of texts, numbers and the reader's memory changes
-pub idle-same : (m : Memory) (c : Part) (a place : ℕ) (m′ : Memory) → IdleSame m c a place m′
+pub idle-same : (m : Memory) (c : LogPart) (a place : ℕ) (m′ : Memory) → IdleSame m c a place m′
 idle-same m c a place m′ h i = is-idle m c a place m′ h i
 
 -- "parts after it, or after the last part, change nothing and repeat its answer"
-pub lent-repeats : {m m′ m″ : Memory} {c e : Part} {a place a′ place′ : ℕ} → FedIn m c a place m′ → EndsIn c a → FedIn m′ e a′ place′ m″ → Repeated a place m′ a′ place′ m″
+pub lent-repeats : {m m′ m″ : Memory} {c e : LogPart} {a place a′ place′ : ℕ} → FedIn m c a place m′ → EndsIn c a → FedIn m′ e a′ place′ m″ → Repeated a place m′ a′ place′ m″
 lent-repeats {m} {m′} {m″} {c} {e} {a} {place} {a′} {place′} h ends k = go (isDesk (m .texts) (m .numbers)) refl
   where
     still : isDesk (m′ .texts) (m′ .numbers) ≡ isDesk (m .texts) (m .numbers)
@@ -122,13 +122,13 @@ lent-repeats {m} {m′} {m″} {c} {e} {a} {place} {a′} {place′} h ends k = 
         let first = fed-is m c a place m′ h d in
         let ended : Ends (betweenIn m) c = ends-so ends (ap (λ (l : Left). l .answer) first) in
         let again : fed (betweenIn m′) e ≡ fed (betweenIn m) c
-        = ap (λ (l : Left). fed (between l) e) first ∙ repeats (betweenIn m) c (lent-there m) ended e in
+        = ap (λ (l : Left). fed (leftFor l) e) first ∙ repeats (betweenIn m) c (lent-there m) ended e in
         let d′ = still ∙ d in
         let second = fed-is m′ e a′ place′ m″ k d′ ∙ again ∙ sym first in
         record {
           answer = ap (λ (l : Left). l .answer) second;
           place-too = ap (λ (l : Left). l .place) second;
-          memory = held-same m′ e a′ place′ m″ k d′ (ap (λ (l : Left). between l) (again ∙ sym first));
+          memory = held-same m′ e a′ place′ m″ k d′ (ap (λ (l : Left). leftFor l) (again ∙ sym first));
         }
       where
         ends-so : EndsIn c a → a ≡ fed (betweenIn m) c .answer → Ends (betweenIn m) c

@@ -11,13 +11,13 @@ use lib.Dec.{ltb, leb, eqb}
 use lib.ListN.{length}
 use Rattle.text.specs.Run.{between}
 use Rattle.text.proofs.Bools.{and-both, or-either}
-use Rattle.desk_log.specs.Record.{headLength}
+use Rattle.desk_log.specs.Record.{headLength, lengthTold}
 use Rattle.desk_state.specs.declared.desk.Desk.{Desk}
 use Rattle.desk_soundness.specs.Sound.{soundDesk}
 use Rattle.desk_soundness.specs.SoundLog.{logMost, soundLog}
 use Rattle.desk_soundness.proofs.Wording.{sound-is, sound-taken}
 use Rattle.desk_soundness.proofs.LogWording.{log-is, log-taken}
-use Rattle.reader_cuts.specs.Reading.{lengthOf, badLength, undecided}
+use Rattle.reader_cuts.specs.Reading.{badLength, undecided}
 use Rattle.reader_cuts.proofs.Laws.{good-length, length-good}
 use Rattle.reader_memory.specs.Memory.{readerKept, readerState, keptIn, standsAt, isStanding, isReader}
 use Rattle.reader_entries.specs.Judged.{soundAt}
@@ -26,11 +26,11 @@ use Rattle.theorem_reader.specs.Sound.{Undecided, few, part, Stands, goe
 
 undecided-is : (cs : List ℕ) → undecided cs ≡ true → Undecided cs
 unfolding undecided
-undecided-is cs e = go (ltb (length cs) headLength) (badLength (lengthOf cs)) (ltb (length cs) (lengthOf cs)) refl refl refl
+undecided-is cs e = go (ltb (length cs) headLength) (badLength (lengthTold cs)) (ltb (length cs) (lengthTold cs)) refl refl refl
   where
-    go : (a b c : Bool) → ltb (length cs) headLength ≡ a → badLength (lengthOf cs) ≡ b → ltb (length cs) (lengthOf cs) ≡ c → Undecided cs
+    go : (a b c : Bool) → ltb (length cs) headLength ≡ a → badLength (lengthTold cs) ≡ b → ltb (length cs) (lengthTold cs) ≡ c → Undecided cs
     go true b c p q r = few (ltb-true (length cs) headLength p)
-    go false false true p q r = let k = good-length (lengthOf cs) q in part (k .0) (k .1) (ltb-true (length cs) (lengthOf cs) r)
+    go false false true p q r = let k = good-length (lengthTold cs) q in part (k .0) (k .1) (ltb-true (length cs) (lengthTold cs) r)
     go false true c p q r = let z = simp (p, q) at e in absurd (false≢true z)
     go false false false p q r = let z = simp (p, q, r) at e in absurd (false≢true z)
 
@@ -39,9 +39,9 @@ unfolding undecided
 undecided-taken cs (few h) = rw (lt-ltb (length cs) headLength h)
 undecided-taken cs (part lo hi l) = go (ltb (length cs) headLength) refl
   where
-    go : (a : Bool) → ltb (length cs) headLength ≡ a → (ltb (length cs) headLength || (not (badLength (lengthOf cs)) && ltb (length cs) (lengthOf cs))) ≡ true
+    go : (a : Bool) → ltb (length cs) headLength ≡ a → (ltb (length cs) headLength || (not (badLength (lengthTold cs)) && ltb (length cs) (lengthTold cs))) ≡ true
     go true p = rw p
-    go false p = rw (p, length-good (lengthOf cs) lo hi, lt-ltb (length cs) (lengthOf cs) l)
+    go false p = rw (p, length-good (lengthTold cs) lo hi, lt-ltb (length cs) (lengthTold cs) l)
 
 stands-is : (e : ℕ) → isStanding e ≡ true → Stands e
 unfolding isStanding between

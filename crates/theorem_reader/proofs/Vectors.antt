@@ -11,7 +11,8 @@ use Rattle.line_items.specs.Items.{items}
 use Rattle.line_kinds.specs.Kinds.{passes, fits}
 use Rattle.desk_state.specs.Desks.{sheetOfBench}
 use Rattle.desk_entries.specs.Entry.{openTo}
-use Rattle.reader_cuts.specs.Reading.{lengthOf, placeOf, readFrom, readAll}
+use Rattle.desk_log.specs.Record.{lengthTold}
+use Rattle.reader_cuts.specs.Reading.{placeAnswered, readFrom, readAll}
 use Rattle.reader_records.specs.Shape.{shaped}
 use Rattle.reader_entries.specs.Judged.{refusalOf, storeOf}
 use Rattle.theorem_reader.specs.Parts.{whole}
@@ -48,6 +49,6 @@ cases =
     ∷ record { log = first ++ (7 ∷ 0 ∷ 1 ∷ 0 ∷ 0 ∷ 10 ∷ 63 ∷ []); answer = 0; place = 0 }
     ∷ []
 
-pub cases-hold : map {B = ℕ × ℕ} (λ (c : Case). (whole (c .log) .answer, placeOf (whole (c .log)))) cases ≡ map {B = ℕ × ℕ} (λ (c : Case). (c .answer, c .place)) cases
-unfolding cases first readAll readFrom lengthOf refusalOf shaped storeOf openTo sheetOfBench fits passes items isValue isBare isQuoted isQuotedBy isReserved mayBegin isUnassigned beginsFolded sameBy lower all between other
+pub cases-hold : map {B = ℕ × ℕ} (λ (c : Case). (whole (c .log) .answer, placeAnswered (whole (c .log)))) cases ≡ map {B = ℕ × ℕ} (λ (c : Case). (c .answer, c .place)) cases
+unfolding cases first readAll readFrom lengthTold refusalOf shaped storeOf openTo sheetOfBench fits passes items isValue isBare isQuoted isQuotedBy isReserved mayBegin isUnassigned beginsFolded sameBy lower all between other
 cases-hold = refl

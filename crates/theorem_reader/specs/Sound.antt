@@ -4,17 +4,17 @@ use Prim.Native.Nat.{ℕ, _≤_, _<_}
 use mathlib.Core.Path.{_≡_}
 use mathlib.Core.List.{List}
 use lib.ListN.{length}
-use Rattle.desk_log.specs.Record.{headLength}
+use Rattle.desk_log.specs.Record.{headLength, lengthTold}
 use Rattle.desk_state.specs.declared.desk.Desk.{Desk}
 use Rattle.desk_soundness.specs.SoundLog.{logMost}
 use Rattle.desk_soundness.specs.Wording.{Sound, SoundWith}
-use Rattle.reader_cuts.specs.Reading.{lengthLeast, lengthMost, lengthOf}
+use Rattle.reader_cuts.specs.Reading.{lengthLeast, lengthMost}
 use Rattle.reader_memory.specs.Memory.{readerKept, readerState, keptIn, standsAt}
 
 -- bytes that do not "already decide a record": fewer than six, or fewer than the good length that they tell
 pub data Undecided (cs : List ℕ) : Type 0 where
   few : length cs < headLength → Undecided cs
-  part : lengthLeast ≤ lengthOf cs → lengthOf cs ≤ lengthMost → length cs < lengthOf cs → Undecided cs
+  part : lengthLeast ≤ lengthTold cs → lengthTold cs ≤ lengthMost → length cs < lengthTold cs → Undecided cs
 
 -- how a reading can stand: it goes on, it ended with 0, or it was refused with 18, 19 or 20
 pub data Stands (e : ℕ) : Type 0 where

@@ -7,10 +7,10 @@ use mathlib.Core.Path.{_≡_}
 use mathlib.Core.Bool.{Bool, true}
 use mathlib.Core.List.{List, [], _∷_, _++_}
 use lib.ListN.{length, take}
-use Rattle.desk_log.specs.Record.{headLength}
+use Rattle.desk_log.specs.Record.{headLength, lengthTold}
 use Rattle.desk_state.specs.declared.desk.Desk.{Desk}
 use Rattle.desk_entries.specs.Entry.{withEntryOn, ownItem}
-use Rattle.reader_cuts.specs.Reading.{lengthLeast, lengthMost, lengthOf}
+use Rattle.reader_cuts.specs.Reading.{lengthLeast, lengthMost}
 use Rattle.reader_records.specs.Wording.{IsRecord}
 use Rattle.theorem_refusals.specs.Table.{Refusal, _when_}
 use Rattle.theorem_refusals.specs.Key.{HeldByAnother}
@@ -32,20 +32,20 @@ pub record ComesTo (d : Desk) (at : ℕ) (bs : List ℕ) (P : Desk → ℕ → L
 
 -- of the record that starts with cs: "a bad length, 18", known from six bytes on
 pub data BadLength (cs : List ℕ) : Type 0 where
-  short : headLength ≤ length cs → lengthOf cs < lengthLeast → BadLength cs
-  long : headLength ≤ length cs → lengthMost < lengthOf cs → BadLength cs
+  short : headLength ≤ length cs → lengthTold cs < lengthLeast → BadLength cs
+  long : headLength ≤ length cs → lengthMost < lengthTold cs → BadLength cs
 
 -- all bytes of a record of good length are there
 pub record WholeRecord (cs : List ℕ) : Type 0 where
   pub head : headLength ≤ length cs
-  pub least : lengthLeast ≤ lengthOf cs
-  pub most : lengthOf cs ≤ lengthMost
-  pub bytes : lengthOf cs ≤ length cs
+  pub least : lengthLeast ≤ lengthTold cs
+  pub most : lengthTold cs ≤ lengthMost
+  pub bytes : lengthTold cs ≤ length cs
 
 -- "a bad length, 18; .. any other shape fault, 18"
 pub data BadShape (d : Desk) (at : ℕ) (cs : List ℕ) : Type 0 where
   bad-length : BadLength cs → BadShape d at cs
-  fault : WholeRecord cs → ((bench item : ℕ) (value : List ℕ) → IsRecord at (take (lengthOf cs) cs) bench item value → ⊥) → BadShape d at cs
+  fault : WholeRecord cs → ((bench item : ℕ) (value : List ℕ) → IsRecord at (take (lengthTold cs) cs) bench item value → ⊥) → BadShape d at cs
 
 -- "then 19": the item is owned by another bench of the record's sheet
 pub record ForeignOverwrite (d : Desk) (at : ℕ) (cs : List ℕ) : Type 0 where
@@ -53,13 +53,13 @@ pub record ForeignOverwrite (d : Desk) (at : ℕ) (cs : List ℕ) : Type 0 where
   pub bench : ℕ
   pub item : ℕ
   pub value : List ℕ
-  pub is : IsRecord at (take (lengthOf cs) cs) bench item value
+  pub is : IsRecord at (take (lengthTold cs) cs) bench item value
   pub held : HeldByAnother bench (ownItem d bench item)
 
 -- "fewer than six bytes left, 20; .. fewer bytes left than the length, 20", where some are left
 pub data EndInside (d : Desk) (at : ℕ) (cs : List ℕ) : Type 0 where
   fewer-than-six : 1 ≤ length cs → length cs < headLength → EndInside d at cs
-  fewer-than-length : headLength ≤ length cs → lengthLeast ≤ lengthOf cs → lengthOf cs ≤ lengthMost → length cs < lengthOf cs → EndInside d at cs
+  fewer-than-length : headLength ≤ length cs → lengthLeast ≤ lengthTold cs → lengthTold cs ≤ lengthMost → length cs < lengthTold cs → EndInside d at cs
 
 -- "Refusals: 2 first ..; then 18 record shape, 19 foreign overwrite, 20 end inside a record", which is "given only there", in the last part. `Sound` says that desk and
 -- reader are sound; bs are the bytes kept and then the part's.

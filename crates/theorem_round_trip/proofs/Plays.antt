@@ -32,7 +32,7 @@ use Rattle.theorem_work.specs.Work.{Entry, Work, typedBy, recordsOf, tableAnswe
 use Rattle.theorem_work.proofs.Choices.{and-true-true}
 use Rattle.theorem_work.proofs.OwnerLaws.{OneBench, one-bench-may, one-bench-sheet}
 use Rattle.theorem_work.proofs.Gathering.{answered-append, final-append}
-use Rattle.file_cif.specs.File.{ended, itemText}
+use Rattle.file_cif.specs.File.{endedLine, itemText}
 use Rattle.theorem_round_trip.proofs.Fitting.{fitting}
 
 pub map-append : {A B : Type 0} (f : A → B) (xs ys : List A) → map f (xs ++ ys) ≡ map f xs ++ map f ys
@@ -134,7 +134,7 @@ module _ (len : ℕ) where
     -- a line that is an entry, and its Enter
     typed-plays : (p v : List ℕ) (k s : ℕ) (es : List Entry) → OneBench bench es → all isTyped p ≡ true → length p ≤ lineMost → classOf p ≡ class.Entry k s → drop s p ≡ v
         → length (recordsOf es) + recordLength v ≤ len
-        → Plays (workOf bench [] es) (typing bench (ended p)) (workOf bench [] (record { bench = bench; item = k; value = v; line = p } ∷ es))
+        → Plays (workOf bench [] es) (typing bench (endedLine p)) (workOf bench [] (record { bench = bench; item = k; value = v; line = p } ∷ es))
     typed-plays p v k s es alone h short c e room =
         let enter = rw e at (enter-plays p k s es alone c (rw e room)) in
         rw (map-append (key bench) p (10 ∷ []))
@@ -143,7 +143,7 @@ module _ (len : ℕ) where
 
     -- the line of an item whose value fits
     pub line-plays : (k : ℕ) (v : List ℕ) (es : List Entry) → OneBench bench es → 1 ≤ k → k ≤ itemCount → fits k v ≡ true → length (recordsOf es) + recordLength v ≤ len
-        → Plays (workOf bench [] es) (typing bench (ended (itemText k v))) (workOf bench [] (entryOf bench k v ∷ es))
+        → Plays (workOf bench [] es) (typing bench (endedLine (itemText k v))) (workOf bench [] (entryOf bench k v ∷ es))
     unfolding all between
     line-plays k v es alone some known f room =
         let name = itemRow k .name in

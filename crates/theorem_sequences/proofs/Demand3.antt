@@ -22,7 +22,7 @@ use Rattle.theorem_work.specs.Calls.{Call, key, ask, report, who, keyed, report
 use Rattle.theorem_work.specs.Gather.{own, gather, gatherAnswered}
 use Rattle.theorem_work.specs.Work.{Work, Entry, noWork, recordsOf, entriesOf, timesOf, lastOf, sheetOf, keyAnswer, reportOn, workStep}
 use Rattle.theorem_work.specs.Logged.{recordsNaming}
-use Rattle.theorem_work.specs.Entered.{Entered, enteredFirst, enteredBy, textOf}
+use Rattle.theorem_work.specs.Entered.{Entered, enteredFirst, enteredBy, textAfterCalls}
 use Rattle.theorem_work.proofs.Choices.{cond-true, cond-false}
 use Rattle.theorem_work.proofs.GatherChecks.{gather-regroups}
 use Rattle.theorem_work.proofs.OneRegrouping.{one-regrouping}
@@ -115,7 +115,7 @@ module _ {Rows : Type 0} (rowsOf : ℕ → Sheet → Rows) (noRows : Rows) (log 
         answers = follows cs .answers;
         lines = ap (λ (s : State). s .desk .lines) end;
         own-keys = λ before after bench e.
-            own-keys rowsOf noRows (length log) bench before ∙ ap (λ ps. textOf [] (own (λ p. p .0) bench ps)) (sym (follows before .answers));
+            own-keys rowsOf noRows (length log) bench before ∙ ap (λ ps. textAfterCalls [] (own (λ p. p .0) bench ps)) (sym (follows before .answers));
         entry = λ before after bench e h. next-entry before bench h;
         no-entry = λ before after c e h. next-no-entry before c h;
         entries = entered-benches rowsOf noRows (length log) cs noWork ∙ ap (enteredBy []) (sym (follows cs .answers));

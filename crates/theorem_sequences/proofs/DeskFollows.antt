@@ -35,7 +35,7 @@ use Rattle.desk_entries.specs.Entry.{openTo, ownItem}
 use Rattle.desk_keys.specs.Key.{After, refused, edited, entered, stored, storedIfOpen, enteredAs, keyStep, keyOf}
 use Rattle.desk_questions.specs.Who.{Who, nobody, toldOf, whoOf}
 use Rattle.theorem_work.specs.Calls.{Call, key, ask, report, who, Reply, keyed, reported, told}
-use Rattle.theorem_sequences.specs.Calls.{State, left, reportOf, step}
+use Rattle.theorem_sequences.specs.Calls.{State, leftByKey, reportOf, step}
 use Rattle.theorem_refusals.specs.KeyNumber.{enterNumber, byteNumber}
 use Rattle.theorem_work.specs.Work.{Entry, Work, typedBy, recordsOf, entriesOf, timesOf, lastOf, sheetOf, mayWrite, tableAnswer, accepts, editedText, keyAnswer, keyWork, lastTold, whoLast, whoOn, reportOn, workStep}
 use Rattle.theorem_sequences.specs.Shaped.{Shaped}
@@ -328,6 +328,6 @@ module _ {Rows : Type 0} (rowsOf : ℕ → Sheet → Rows) (noRows : Rows) (log 
       answers (ask (who sheet item)) w g = ap told (who-follows log w g sheet item)
 
       states : (c : Call) (w : Work) → Good log w → step rowsOf noRows c (workState log w) .1 ≡ workState log (workStep rowsOf noRows (length log) c w .1)
-      states (key bench byte) w g = ap left (key-follows log w bench byte g)
+      states (key bench byte) w g = ap leftByKey (key-follows log w bench byte g)
       states (ask (report sheet profile)) w g = refl
       states (ask (who sheet item)) w g = refl

@@ -3,6 +3,7 @@
 use Prim.Native.Nat.{ℕ}
 use mathlib.Core.Bool.{cond}
 use mathlib.Core.List.{List}
+use lib.ListN.{take}
 use Rattle.desk_state.specs.Desks.{freshDesk, isSheet, sheetAt}
 use Rattle.desk_soundness.specs.Sound.{soundDesk}
 use Rattle.rows.specs.Rows.{isProfile}
@@ -22,13 +23,17 @@ pub record State : Type 0 where
 abbrev pub stateOf : Desk → ℕ → List ℕ → State
 stateOf d used log = record { desk = d; used = used; log = log }
 
+-- the used log
+abbrev pub usedLog : State → List ℕ
+usedLog s = take (s .used) (s .log)
+
 -- "It starts from a fresh desk and a log of any length and content, none used"
 abbrev pub freshState : List ℕ → State
 freshState log = stateOf freshDesk 0 log
 
 -- what a key call leaves to the next call
-abbrev pub left : After → State
-left a = stateOf (a .desk) (a .used) (a .log)
+abbrev pub leftByKey : After → State
+leftByKey a = stateOf (a .desk) (a .used) (a .log)
 
 -- the rows of a sheet, and the rows that go with a refusal, are defined with Report: here they may be any
 module _ {Rows : Type 0} (rowsOf : ℕ → Sheet → Rows) (noRows : Rows) where
@@ -40,6 +45,6 @@ module _ {Rows : Type 0} (rowsOf : ℕ → Sheet → Rows) (noRows : Rows) where
 
   -- a call: its answer, and what it leaves; questions leave everything as it is
   abbrev pub step : Call → State → Reply Rows × State
-  step (key bench byte) s = let a = keyOf (s .desk) (s .used) (s .log) bench byte in (keyed (a .answer), left a)
+  step (key bench byte) s = let a = keyOf (s .desk) (s .used) (s .log) bench byte in (keyed (a .answer), leftByKey a)
   step (ask (report sheet profile)) s = (reportOf (s .desk) sheet profile, s)
   step (ask (who sheet item)) s = (told (whoOf (s .desk) sheet item), s)

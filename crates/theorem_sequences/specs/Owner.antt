@@ -4,7 +4,6 @@
 use Prim.Native.Nat.{ℕ}
 use mathlib.Core.Path.{_≡_}
 use mathlib.Core.List.{List, [], _∷_, _++_}
-use lib.ListN.{take}
 use Rattle.line_items.specs.Items.{IsName}
 use Rattle.line_reader.specs.Wording.{IsLine}
 use Rattle.desk_log.specs.Record.{recordOf}
@@ -13,23 +12,20 @@ use Rattle.desk_state.specs.declared.sheet.Sheet.{Sheet}
 use Rattle.theorem_work.specs.Calls.{Call, key, ask, who, told}
 use Rattle.theorem_work.specs.Gather.{own}
 use Rattle.theorem_work.specs.Logged.{recordsNaming}
-use Rattle.theorem_work.specs.Entered.{textOf}
-use Rattle.theorem_sequences.specs.Calls.{State}
+use Rattle.theorem_work.specs.Entered.{textAfterCalls}
+use Rattle.theorem_sequences.specs.Calls.{usedLog}
 use Rattle.theorem_sequences.specs.Sequences.{deskAnswers, stateAfter, answerAfter}
 
 -- the calls before, and the bench's Enter
 abbrev pub entering : List Call → ℕ → List Call
 entering before bench = before ++ (key bench 10 ∷ [])
 
-abbrev pub usedLog : State → List ℕ
-usedLog s = take (s .used) (s .log)
-
 pub record Owned {Rows : Type 0} (rowsOf : ℕ → Sheet → Rows) (noRows : Rows) (log : List ℕ) (before : List Call) (bench : ℕ) : Type 0 where
   pub name : List ℕ
   pub value : List ℕ
   pub item : ℕ
   -- its line is what the bench's own keys, by their answers, have left
-  pub line : IsLine (textOf [] (own (λ p. p .0) bench (deskAnswers rowsOf noRows log before))) name value
+  pub line : IsLine (textAfterCalls [] (own (λ p. p .0) bench (deskAnswers rowsOf noRows log before))) name value
   pub named : IsName name item
   -- its record is the next of the used log and names the bench
   pub logged : usedLog (stateAfter rowsOf noRows log (entering before bench)) ≡ usedLog (stateAfter rowsOf noRows log before) ++ recordOf bench item value

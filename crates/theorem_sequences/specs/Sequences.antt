@@ -42,7 +42,7 @@ use Rattle.theorem_work.specs.Gather.{own, gather, gatherAnswered, Regrouped}
 use Rattle.theorem_work.specs.Work.{Entry, Work, noWork, typedBy, recordsOf, entriesOf, timesOf, lastOf, sheetOf, whoLast, workStep}
 use Rattle.theorem_work.specs.WorkTable.{workTable, FromTable}
 use Rattle.theorem_work.specs.Logged.{recordsNaming}
-use Rattle.theorem_work.specs.Entered.{Entered, enteredFirst, enteredBy, textOf}
+use Rattle.theorem_work.specs.Entered.{Entered, enteredFirst, enteredBy, textAfterCalls}
 use Rattle.theorem_sequences.specs.Calls.{State, freshState, step}
 
 module _ {Rows : Type 0} (rowsOf : ℕ → Sheet → Rows) (noRows : Rows) where
@@ -83,7 +83,7 @@ module _ {Rows : Type 0} (rowsOf : ℕ → Sheet → Rows) (noRows : Rows) where
     pub lines : stateAfter log cs .desk .lines ≡ map lineOf (workAfter log cs .typed)
     -- of its own keys and no others: wherever one looks, what a bench has typed comes of that bench's calls and their answers alone
     pub own-keys : (before after : List Call) (bench : ℕ) → cs ≡ before ++ after
-        → typedBy (workAfter log before) bench ≡ textOf [] (own (λ p. p .0) bench (deskAnswers log before))
+        → typedBy (workAfter log before) bench ≡ textAfterCalls [] (own (λ p. p .0) bench (deskAnswers log before))
     -- "An Enter with answer 0 is an accepted entry .. Its line, name and value, is what its bench had typed", wherever it stands in the sequence
     pub entry : (before after : List Call) (bench : ℕ) → cs ≡ before ++ (key bench 10 ∷ after) → answerAfter log before (key bench 10) ≡ keyed 0
         → Entered bench (workAfter log before) (workAfter log (before ++ (key bench 10 ∷ [])))

@@ -8,7 +8,7 @@ use lib.IntN.{ℤ}
 use Rattle.text.specs.Run.{all}
 use Rattle.symmetry_operators.specs.Operator.{Row, identity, same, turns}
 use Rattle.symmetry_operators.specs.Lists.{has, distinct}
-use Rattle.symmetry_operators.specs.Check.{rowsOf, closes, pairs, closing, judged, shaped, checked, Outcome}
+use Rattle.symmetry_operators.specs.Check.{operatorRows, closes, pairs, closing, judged, listShaped, checked, Outcome}
 use Rattle.symmetry_operators.proofs.Words.{shaped-is, not-shaped, list-or-not, no-unit, units-or-not, has-row, row-has, equal-rows, distinct-is, products-or-not}
 use Rattle.symmetry_operators.proofs.Position.{product-missing}
 use Rattle.theorem_refusals.specs.Table.{Answers}
@@ -17,13 +17,13 @@ use Rattle.theorem_symmetry.specs.Table.{listTable}
 
 module _ (n : List ℤ) where
   abbrev l : List (Row ℤ)
-  l = rowsOf n
+  l = operatorRows n
 
   -- the number by tests
   abbrev number : Bool → Bool → Bool → Bool → Bool → ℕ
   number a b c d e = cond a (cond b (cond c (cond d (cond e 0 17) 16) 15) 14) 13
 
-  by-tests : (a b c d e : Bool) → shaped n ≡ a → all turns l ≡ b → has same l identity ≡ c → distinct same l ≡ d → all (closes l) (pairs l) ≡ e
+  by-tests : (a b c d e : Bool) → listShaped n ≡ a → all turns l ≡ b → has same l identity ≡ c → distinct same l ≡ d → all (closes l) (pairs l) ≡ e
       → First (listTable n) (number a b c d e)
   by-tests false b c d e p q r s t = this (not-shaped n p) refl
   by-tests true false c d e p q r s t = next (list-or-not n (shaped-is n p)) (this (no-unit l q) refl)
@@ -42,7 +42,7 @@ module _ (n : List ℤ) where
   cond-answer true x y = refl
   cond-answer false x y = refl
 
-  number-is : checked n .answer ≡ number (shaped n) (all turns l) (has same l identity) (distinct same l) (all (closes l) (pairs l))
+  number-is : checked n .answer ≡ number (listShaped n) (all turns l) (has same l identity) (distinct same l) (all (closes l) (pairs l))
   unfolding checked judged closing
   number-is = simp cond-answer
 
@@ -51,4 +51,4 @@ module _ (n : List ℤ) where
   list-table =
       subst⁻¹ (Answers (listTable n)) number-is
       (answers (listTable n) _ refl
-      (by-tests (shaped n) (all turns l) (has same l identity) (distinct same l) (all (closes l) (pairs l)) refl refl refl refl refl))
+      (by-tests (listShaped n) (all turns l) (has same l identity) (distinct same l) (all (closes l) (pairs l)) refl refl refl refl refl))

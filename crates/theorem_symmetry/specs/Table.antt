@@ -2,7 +2,7 @@
 -- Assumes nothing.
 use mathlib.Core.List.{List, [], _∷_}
 use lib.IntN.{ℤ}
-use Rattle.symmetry_operators.specs.Check.{rowsOf}
+use Rattle.symmetry_operators.specs.Check.{operatorRows}
 use Rattle.symmetry_operators.specs.Wording.{NoList, NoUnit, NoIdentity, EqualRows, ProductMissing}
 use Rattle.theorem_refusals.specs.Table.{Refusal, _when_}
 
@@ -11,7 +11,7 @@ use Rattle.theorem_refusals.specs.Table.{Refusal, _when_}
 abbrev pub listTable : List ℤ → List Refusal
 listTable n =
     13 when NoList n ∷
-    14 when NoUnit (rowsOf n) ∷
-    15 when NoIdentity (rowsOf n) ∷
-    16 when EqualRows (rowsOf n) ∷
-    17 when ProductMissing (rowsOf n) ∷ []
+    14 when NoUnit (operatorRows n) ∷
+    15 when NoIdentity (operatorRows n) ∷
+    16 when EqualRows (operatorRows n) ∷
+    17 when ProductMissing (operatorRows n) ∷ []

@@ -14,7 +14,7 @@ use Rattle.desk_state.specs.declared.sheet.Sheet.{Sheet}
 use Rattle.theorem_work.specs.Calls.{Call, key, ask, report, who, Reply, keyed, answered, final}
 use Rattle.theorem_work.specs.Gather.{own, consIf}
 use Rattle.theorem_work.specs.Work.{Entry, Work, noWork, typedBy, tableAnswer, textAfter, keyAnswer, keyWork, workStep}
-use Rattle.theorem_work.specs.Entered.{textOf}
+use Rattle.theorem_work.specs.Entered.{textAfterCalls}
 
 -- at the start no bench has typed anything
 pub none-typed : (n b : ℕ) → getD (replicate {A = List ℕ} n []) b [] ≡ []
@@ -47,7 +47,7 @@ module _ {Rows : Type 0} (rowsOf : ℕ → Sheet → Rows) (noRows : Rows) (len 
   ownFrom w cs = own (λ p. p .0) b (answered (workStep rowsOf noRows len) w cs)
 
   own-keys-from : (cs : List Call) (w : Work) → length (w .typed) ≡ benchCount
-      → typedBy (final (workStep rowsOf noRows len) w cs) b ≡ textOf (typedBy w b) (ownFrom w cs)
+      → typedBy (final (workStep rowsOf noRows len) w cs) b ≡ textAfterCalls (typedBy w b) (ownFrom w cs)
   own-keys-from [] w n = refl
   own-keys-from (ask (report s p) ∷ cs) w n = own-keys-from cs w n
   own-keys-from (ask (who s i) ∷ cs) w n = own-keys-from cs w n
@@ -59,10 +59,10 @@ module _ {Rows : Type 0} (rowsOf : ℕ → Sheet → Rows) (noRows : Rows) (len 
       v : Work
       v = keyWork x a j w
 
-      go : (t : Bool) → eqb a b ≡ t → typedBy (final (workStep rowsOf noRows len) v cs) b ≡ textOf (typedBy v b) (ownFrom v cs)
-          → typedBy (final (workStep rowsOf noRows len) v cs) b ≡ textOf (typedBy w b) (consIf (λ p. p .0) (eqb a b) (key a j, keyed x) (ownFrom v cs))
-      go false e ih = rw e (ih ∙ ap (λ (t : List ℕ). textOf t (ownFrom v cs)) (other-text a j x b w (eqb-false a b e)))
-      go true e ih = rw e (ih ∙ ap (λ (t : List ℕ). textOf t (ownFrom v cs)) (rw (sym (eqb-true a b e)) (own-text len w a j n)))
+      go : (t : Bool) → eqb a b ≡ t → typedBy (final (workStep rowsOf noRows len) v cs) b ≡ textAfterCalls (typedBy v b) (ownFrom v cs)
+          → typedBy (final (workStep rowsOf noRows len) v cs) b ≡ textAfterCalls (typedBy w b) (consIf (λ p. p .0) (eqb a b) (key a j, keyed x) (ownFrom v cs))
+      go false e ih = rw e (ih ∙ ap (λ (t : List ℕ). textAfterCalls t (ownFrom v cs)) (other-text a j x b w (eqb-false a b e)))
+      go true e ih = rw e (ih ∙ ap (λ (t : List ℕ). textAfterCalls t (ownFrom v cs)) (rw (sym (eqb-true a b e)) (own-text len w a j n)))
 
-  pub own-keys : (cs : List Call) → typedBy (final (workStep rowsOf noRows len) noWork cs) b ≡ textOf [] (ownFrom noWork cs)
-  own-keys cs = own-keys-from cs noWork refl ∙ ap (λ (t : List ℕ). textOf t (ownFrom noWork cs)) (none-typed benchCount b)
+  pub own-keys : (cs : List Call) → typedBy (final (workStep rowsOf noRows len) noWork cs) b ≡ textAfterCalls [] (ownFrom noWork cs)
+  own-keys cs = own-keys-from cs noWork refl ∙ ap (λ (t : List ℕ). textAfterCalls t (ownFrom noWork cs)) (none-typed benchCount b)

@@ -9,12 +9,12 @@ use native.Mathlib.Omega.{arith}
 use lib.Dec.{eqb}
 use lib.ListN.{length, drop, length-append}
 use lib.Seq.{drop-at}
-use Rattle.desk_log.specs.Record.{recordLength, recordMost, recordOf}
+use Rattle.desk_log.specs.Record.{recordLength, recordMost, recordOf, lengthTold}
 use Rattle.desk_log.proofs.Records.{record-length}
 use Rattle.desk_state.specs.Desks.{benchCount, sheetCount, sheetOfBench}
 use Rattle.desk_entries.proofs.Camps.{sheet-in}
 use Rattle.theorem_work.specs.Work.{Entry, recordsOf, onSheet, entriesOf, timesOf, lastOf}
-use Rattle.theorem_work.specs.Logged.{lengthTold, namingFirst, recordsNaming}
+use Rattle.theorem_work.specs.Logged.{namingFirst, recordsNaming}
 
 -- the number that an item holds
 pub held-times : (es : List Entry) (item : ℕ) → lastOf es item .times ≡ timesOf es item
@@ -39,6 +39,7 @@ Fitting (e ∷ es) = (recordLength (e .value) ≤ recordMost) × Fitting es
 one-record : (n sheet item bench k : ℕ) (v xs : List ℕ) → recordLength v ≤ recordMost
     → namingFirst (suc n) sheet item (recordOf bench k v ++ xs)
     ≡ cond (onSheet sheet bench && eqb item k) (suc (namingFirst n sheet item xs)) (namingFirst n sheet item xs)
+unfolding lengthTold
 one-record n sheet item bench k v xs h =
     let r = recordOf bench k v in
     let told : lengthTold (r ++ xs) ≡ recordLength v = omega arith in
@@ -89,7 +90,7 @@ three-records =
 -- bench 2 is of the other sheet: the two records of item 4 are of two sheets
 pub named-in-three : (recordsNaming 0 4 three-records ≡ 1) × (recordsNaming 0 6 three-records ≡ 1) × (recordsNaming 0 1 three-records ≡ 0)
     × (recordsNaming 1 4 three-records ≡ 1) × (recordsNaming 1 6 three-records ≡ 0)
-unfolding sheetOfBench
+unfolding sheetOfBench lengthTold
 named-in-three = (refl, refl, refl, refl, refl)
 
 -- ---- "the sum of both counts"

@@ -43,6 +43,6 @@ textOne (key bench byte) (told x) t = t
 textOne (ask q) r t = t
 
 -- the text t after calls with their answers
-abbrev pub textOf : {Rows : Type 0} → List ℕ → List (Call × Reply Rows) → List ℕ
-textOf t [] = t
-textOf t (p ∷ ps) = textOf (textOne (p .0) (p .1) t) ps
+abbrev pub textAfterCalls : {Rows : Type 0} → List ℕ → List (Call × Reply Rows) → List ℕ
+textAfterCalls t [] = t
+textAfterCalls t (p ∷ ps) = textAfterCalls (textOne (p .0) (p .1) t) ps

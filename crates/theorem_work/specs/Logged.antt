@@ -1,24 +1,15 @@
 -- The records of a log that name an item, read off its bytes (document 01, "The log"; document 02, No. 7: "its records in the used log"; No. 9: "The record's
 -- bench tells the sheet, and No. 7 counts its own sheet's records").
 -- Assumes nothing.
-use Prim.Native.Nat.{ℕ, zero, suc, _+_, _*_}
+use Prim.Native.Nat.{ℕ, zero, suc}
 use mathlib.Core.Bool.{Bool, cond, _&&_}
 use mathlib.Core.List.{List, [], _∷_}
 use lib.Dec.{eqb}
-use lib.ListN.{length, getD, drop}
+use lib.ListN.{length, drop}
+use Rattle.desk_log.specs.Record.{lengthTold, benchTold, itemTold}
 use Rattle.theorem_work.specs.Work.{onSheet}
 
--- of bytes that begin with a record: "length of the whole record (two bytes)", "little-endian", and, after "kind 1 (two bytes)", "bench, item"
-abbrev pub lengthTold : List ℕ → ℕ
-lengthTold bs = getD bs 0 0 + 256 * getD bs 1 0
-
-abbrev pub benchTold : List ℕ → ℕ
-benchTold bs = getD bs 4 0
-
-abbrev pub itemTold : List ℕ → ℕ
-itemTold bs = getD bs 5 0
-
--- the record names that item of that sheet
+-- the record that the bytes begin with names that item of that sheet
 abbrev pub namesIn : ℕ → ℕ → List ℕ → Bool
 namesIn sheet item bs = onSheet sheet (benchTold bs) && eqb item (itemTold bs)
 

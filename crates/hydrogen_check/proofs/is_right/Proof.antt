@@ -9,7 +9,7 @@ use lib.ListN.{length, take}
 use lib.Seq.{length-take-le}
 use borrow.Author.Needs.{needs}
 use Rattle.line_quotes.specs.Quoted.{textOf}
-use Rattle.hydrogen_right.specs.Stages.{passes, isRight}
+use Rattle.hydrogen_right.specs.Stages.{rowsPass, isRight}
 use Rattle.hydrogen_writer.specs.Typed.{typedWith}
 use Rattle.hydrogen_check.proofs.Written.{empty-long, some-short}
 use Rattle.hydrogen_check.proofs.is_right.Statement.{statement}
@@ -44,9 +44,9 @@ returns-3 c =
     let same : r .length - 0 ≡ r .length = omega arith in
     let h = some-short (a .n) (textOf (a .formula .now)) (take (r .length) (r .bytes)) (wrote k)
     (λ q. d .if2 .left (sym (length-take-le (r .length) (r .bytes) (k .typed-with .ensures .1)) ∙ q)) in
-    c .passes .ensures
-    ∙ ap (λ (i : ℕ). passes (take i (r .bytes)) (a .weight .now)) same
-    ∙ ap (λ (v : List ℕ). passes v (a .weight .now)) (h .1)
+    c .rows-pass .ensures
+    ∙ ap (λ (i : ℕ). rowsPass (take i (r .bytes)) (a .weight .now)) same
+    ∙ ap (λ (v : List ℕ). rowsPass v (a .weight .now)) (h .1)
     ∙ simp (le-leb _ _ (e .if1 .left), h .0)
 
 pub is-right-spec : {M : Type 1} → statement M

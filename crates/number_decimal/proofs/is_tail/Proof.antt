@@ -3,7 +3,7 @@
 use mathlib.Core.Path.{_∙_, ap}
 use borrow.Author.Tests.{eq-eqb, ne-eqb}
 use Rattle.text.proofs.Parts.{rest-part}
-use Rattle.number_decimal.specs.Reading.{closes, isTail}
+use Rattle.number_decimal.specs.Reading.{closesBracket, isTail}
 use borrow.Author.Needs.{needs}
 use Rattle.number_decimal.proofs.is_tail.Statement.{statement}
 use Rattle.number_decimal.proofs.is_tail.Tie as tie
@@ -21,7 +21,7 @@ unfolding isTail
 returns-3 c =
     let s = c .before .before .before .before .before .before .args .s .now in
     simp (ne-eqb _ _ (c .before .before .before .before .if1 .left), eq-eqb _ _ (c .before .before .if2 .left))
-    (c .closes-bracket .ensures ∙ ap closes (rest-part s 1))
+    (c .closes-bracket .ensures ∙ ap closesBracket (rest-part s 1))
 
 pub is-tail-spec : {M : Type 1} → statement M
 is-tail-spec =

@@ -11,9 +11,9 @@ use Rattle.text.proofs.Parts.{rest-part}
 use Rattle.desk_memory.specs.Memory.{itemNumbers, isDesk, slot, itemFrom, numbersOf, deskOf, usedOf}
 use Rattle.desk_memory.proofs.Desks.{desk-sized}
 use Rattle.desk_state.specs.Desks.{sheetOfBench}
-use Rattle.desk_log.specs.Record.{headLength}
+use Rattle.desk_log.specs.Record.{headLength, benchTold, itemTold}
 use Rattle.desk_entries.specs.Entry.{openTo, ownItem}
-use Rattle.reader_records.specs.Shape.{benchTold, itemTold, shaped}
+use Rattle.reader_records.specs.Shape.{shaped}
 use Rattle.reader_records.proofs.Shapes.{shaped-parts, shaped-long, shaped-item}
 use Rattle.reader_entries.proofs.Judged.{taken-none, taken-shapeless, open-asked, taken-foreign, taken-stored, entry-told}
 use borrow.Author.Needs.{needs}

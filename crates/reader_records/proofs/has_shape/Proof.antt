@@ -9,10 +9,10 @@ use lib.ListN.{length, take, drop}
 use borrow.Author.Tests.{lt-ltb, le-ltb, lt-leb, eq-eqb, ne-eqb, not-true, not-false}
 use Rattle.text.proofs.Parts.{rest-part}
 use Rattle.line_kinds.specs.Kinds.{fits}
-use Rattle.desk_log.specs.Record.{headLength}
+use Rattle.desk_log.specs.Record.{headLength, itemTold, valueTold}
 use Rattle.desk_state.specs.Desks.{benchCount}
 use Rattle.desk_soundness.specs.SoundLog.{logMost}
-use Rattle.reader_records.specs.Shape.{itemTold, valueTold, shaped}
+use Rattle.reader_records.specs.Shape.{shaped}
 use Rattle.reader_records.proofs.Shapes.{short-shapeless, ends-within}
 use borrow.Author.Needs.{needs}
 use Rattle.reader_records.proofs.has_shape.Statement.{statement}

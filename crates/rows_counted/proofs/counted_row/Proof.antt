@@ -5,7 +5,8 @@ use denote.Ref.{now}
 use borrow.Author.Tests.{not-true, not-false}
 use Rattle.desk_memory.specs.Memory.{sheetFrom}
 use Rattle.rows_counts.specs.Counts.{ruleRow, countRow}
-use Rattle.rows_counted.specs.Items.{valueOf, ofItems}
+use Rattle.desk_state.specs.Sheets.{valueAt}
+use Rattle.rows_counted.specs.Items.{ofItems}
 use Rattle.rows_counted.proofs.Values.{rule-items}
 use borrow.Author.Needs.{needs}
 use Rattle.rows_counted.proofs.counted_row.Statement.{statement}
@@ -23,7 +24,7 @@ unfolding countRow
 returns-2 c =
     let a = c .before .before .before .before .before .before .args in
     c .ruled-row .ensures
-    ∙ ap (ruleRow (valueOf (sheetFrom (now (a .texts)) (now (a .numbers))))) (c .before .rule-of .ensures)
+    ∙ ap (ruleRow (valueAt (sheetFrom (now (a .texts)) (now (a .numbers))))) (c .before .rule-of .ensures)
     ∙ simp (sym (c .before .before .before .is-kept .ensures) ∙ not-false _ (c .before .before .if1 .left))
 
 pub counted-row-spec : {M : Type 1} → statement M

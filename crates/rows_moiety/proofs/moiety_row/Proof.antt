@@ -8,7 +8,7 @@ use denote.Ref.{now}
 use Rattle.line_quotes.specs.Quoted.{textOf}
 use Rattle.rows.specs.Rows.{missing}
 use Rattle.formula_totals.specs.Compare.{comparedOf}
-use Rattle.rows_moiety.specs.MoietyRow.{comparedRow}
+use Rattle.rows_moiety.specs.MoietyRow.{totalsRow}
 use Rattle.rows_moiety.proofs.RowCases.{no-formula, no-moiety, compared}
 use borrow.Author.Needs.{needs}
 use Rattle.rows_moiety.proofs.moiety_row.Statement.{statement}
@@ -37,8 +37,8 @@ returns-3 c =
     let t = u .before in
     let i = t .before in
     let a = c .before .before .before .before .before .before .before .before .before .before .args in
-    c .compared-row .ensures
-    ∙ ap comparedRow
+    c .totals-row .ensures
+    ∙ ap totalsRow
     (k .compare .ensures
     ∙ ap (λ (m : List ℕ). comparedOf m (now (u .text-of2 .result))) (t .text-of .ensures)
     ∙ ap (comparedOf (textOf (now (a .moiety)))) (u .text-of2 .ensures))

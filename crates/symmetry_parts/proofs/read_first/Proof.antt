@@ -7,20 +7,20 @@ use denote.Ref.{now}
 use borrow.Author.Tests.{eq-eqb, ne-eqb, le-leb, lt-leb, not-true, not-false}
 use lib.ListN.{getD}
 use Rattle.text.proofs.Parts.{rest-part}
-use Rattle.symmetry_parts.specs.Reading.{sum, isFree, firstOf}
+use Rattle.symmetry_parts.specs.Reading.{sum, isFree, afterFirstSign}
 use Rattle.symmetry_parts.proofs.Turns.{free-within}
 use borrow.Author.Needs.{needs}
 use Rattle.symmetry_parts.proofs.read_first.Statement.{statement}
 use Rattle.symmetry_parts.proofs.read_first.Tie as tie
 
 returns : tie.Need-returns
-unfolding firstOf
+unfolding afterFirstSign
 returns c =
     let k = c .before in
     simp (← k .before .read-fraction .ensures, ne-eqb _ _ (k .if1 .taken), le-leb _ _ (c .if2 .taken))
 
 returns-2 : tie.Need-returns-2
-unfolding firstOf
+unfolding afterFirstSign
 returns-2 c =
     let e = c .before .before .before in
     let k = e .before in
@@ -32,7 +32,7 @@ letter : (c : tie.Else3) → isFree (sum 0 0 0 0) (getD (now (c .before .before 
 letter c = let f = c .before in ap (isFree (sum 0 0 0 0)) (sym (f .before .byte-at .ensures)) ∙ sym (f .is-free .ensures) ∙ not-false _ (c .if3 .left)
 
 returns-3 : tie.Need-returns-3
-unfolding firstOf
+unfolding afterFirstSign
 returns-3 c =
     let f = c .before in
     let k = f .before .before in
@@ -46,7 +46,7 @@ part-read-more-start-2 : tie.Need-part-read-more-start-2
 part-read-more-start-2 c = omega (arith, free-within (sum 0 0 0 0) (now (c .before .before .before .before .before .before .before .before .args .s)) 0 (letter (c .before .before)))
 
 returns-4 : tie.Need-returns-4
-unfolding firstOf
+unfolding afterFirstSign
 returns-4 c =
     let w = c .before .before in
     let e = w .before .before in

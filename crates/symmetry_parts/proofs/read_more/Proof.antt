@@ -9,7 +9,7 @@ use denote.Ref.{now}
 use lib.ListN.{length, getD, drop}
 use Rattle.symmetry_fractions.specs.Reading.{isSign}
 use Rattle.text.proofs.Parts.{rest-part}
-use Rattle.symmetry_parts.specs.Reading.{isFree, moreOf, lastOf}
+use Rattle.symmetry_parts.specs.Reading.{isFree, moreOf, lastFraction}
 use Rattle.symmetry_parts.proofs.Turns.{free-within, turn-ends, turn-unsigned, turn-last, turn-letter}
 use Rattle.symmetry_parts.proofs.read_more.Statement.{statement}
 use Rattle.symmetry_parts.proofs.read_more.Tie as tie
@@ -39,7 +39,7 @@ returns-2 c =
     let sum = l .loop .sum in
     let taken = ap (isFree sum) (sym (f .before .byte-at .ensures)) ∙ sym (f .is-free .ensures) ∙ not-true _ (d .if2 .taken) in
     c .read-last .ensures
-    ∙ ap (lastOf sum _) (rest-part (now (l .before .before .args .s)) (l .loop .i + 1))
+    ∙ ap (lastFraction sum _) (rest-part (now (l .before .before .args .s)) (l .loop .i + 1))
     ∙ sym (l .loop .inv .1 ∙ turn-last sum _ _ (n .before .before .loop-test .taken) (signed-here f) taken)
 
 loop-again : tie.Need-loop-again Inv-loop μ-loop

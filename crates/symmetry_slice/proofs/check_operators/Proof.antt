@@ -49,7 +49,7 @@ use denote.Triple.Walked.{says, Stays, stay-none-slice, walkOf, goes-none-slice,
 use denote.Exit.{yes}
 use Rattle.symmetry_named.specs.declared.Operator.{Operator}
 use Rattle.symmetry_named.specs.declared.Flat.{Flat}
-use Rattle.symmetry_named.specs.Named.{noOperator, noRows, withRow, filledTo, flatChecked, checkedNamed}
+use Rattle.symmetry_named.specs.Named.{noOperator, flatOfZeros, withRow, filledTo, flatChecked, checkedNamed}
 use Rattle.symmetry_named.proofs.Filling.{first-rows, named-law}
 use Rattle.symmetry_judged.specs.declared.Checked.{Checked}
 use Rattle.symmetry_judged.specs.Answer.{outcomeOf}
@@ -155,8 +155,8 @@ module _ {M : Type 1} (𝓤 : URA M) (H : Heap 𝓤) (A : Atoms 𝓤) (W : Given
   ask-rows : ent 𝓤 (sem 𝓤 H A ftrue) (NoRows 𝓤 H A mem run .pre to-rows)
   ask-rows = qed W (‵ ftrue ∷ []) ∵ nothing ! $ join ! $ frame ! $ done !
 
-  said-rows : (g : Flat) → ent 𝓤 (ensured 𝓤 H A nr.ended (nr.clauses 𝓤 H A mem run) tt tt tt g) (fact 𝓤 (g ≡ noRows))
-  said-rows g = exE 𝓤 _ (λ ws. snd∗ 𝓤 (sem 𝓤 H A (lasts nr.ended tt tt ws)) (fact 𝓤 (g ≡ noRows)))
+  said-rows : (g : Flat) → ent 𝓤 (ensured 𝓤 H A nr.ended (nr.clauses 𝓤 H A mem run) tt tt tt g) (fact 𝓤 (g ≡ flatOfZeros))
+  said-rows g = exE 𝓤 _ (λ ws. snd∗ 𝓤 (sem 𝓤 H A (lasts nr.ended tt tt ws)) (fact 𝓤 (g ≡ flatOfZeros)))
 
   abbrev to-at : ℕ → OperatorAt 𝓤 H A mem run .Ghost
   to-at i = (((κ, tt), (q, tt), tt, (x, (i, tt)), (sliceVal (b, o) n ∷ [], (vint w64 i ∷ [], tt))), tt)
@@ -313,7 +313,7 @@ module _ {M : Type 1} (𝓤 : URA M) (H : Heap 𝓤) (A : Atoms 𝓤) (W : Given
         nothing ! $ use1 W (raw (NoRows 𝓤 H A mem run .pre to-rows)) ask-rows $
         calls-at ! fm (NoRows 𝓤 H A mem run) (known .rows) to-rows (no-more !) (λ v.
         use1 W (later (some (λ (g : Flat). (‵ ftrue ⊛ ‵ (F.the-row .own g (v ∷ []))) ⊛ raw (ensured 𝓤 H A nr.ended (nr.clauses 𝓤 H A mem run) tt tt tt g)))) (id⊢ 𝓤 _) $ await ! tt $ pick ! (λ g.
-        split ! $ move ! (1 ∷ []) $ use1 W (raw (fact 𝓤 (g ≡ noRows))) (said-rows g) $ heard ! (g ≡ noRows) (λ e. split ! $ drop ! $
+        split ! $ move ! (1 ∷ []) $ use1 W (raw (fact 𝓤 (g ≡ flatOfZeros))) (said-rows g) $ heard ! (g ≡ flatOfZeros) (λ e. split ! $ drop ! $
         peeks ! F.the-row (Is F.the-row) (shows 𝓤 H A F.the-row) g (v ∷ []) (λ is. land ! (from ! (stop !)) (init ! 9 refl (LL.lawful F.the-type F′.the-laws 𝓤 H A W .typed g _ is .0)) $
         assigns ! (of-opd ! (lit ! tt)) (from ! (stop !)) (init ! 7 refl (tt, record { fits = lit< tt })) $
         rewrite ! 0 (λ (h : Flat). ‵ (F.the-row .own h (v ∷ []))) (e ∙ first-rows ys) refl $

@@ -1,4 +1,4 @@
--- `symmetry_text::read_parts` meets its contract: each part's reading decides its case of `rowOf`.
+-- `symmetry_text::read_parts` meets its contract: each part's reading decides its case of `rowOfParts`.
 -- Assumes nothing.
 use Rattle.symmetry_text.specs.Reading.{partsOf}
 use borrow.Author.Needs.{needs}

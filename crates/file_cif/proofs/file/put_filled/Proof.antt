@@ -8,12 +8,12 @@ use denote.Ref.{now}
 use lib.ListN.{length}
 use Rattle.text_copies.specs.Copy.{copied}
 use Rattle.line_items.specs.Items.{nameOf}
-use Rattle.file_cif.specs.File.{ended, itemText}
+use Rattle.file_cif.specs.File.{endedLine, itemText}
 use Rattle.file_cif.proofs.Files.{ended-length, line-copied}
 use Rattle.file_cif.proofs.file.put_filled.Statement.{statement}
 use Rattle.file_cif.proofs.file.put_filled.Tie as tie
 
-size : (s : tie.Start) → length (ended (itemText (s .args .k + 1) (now (s .args .value)))) ≡ length (nameOf (s .args .k + 1)) + 1 + length (now (s .args .value)) + 1
+size : (s : tie.Start) → length (endedLine (itemText (s .args .k + 1) (now (s .args .value)))) ≡ length (nameOf (s .args .k + 1)) + 1 + length (now (s .args .value)) + 1
 size s = ended-length (s .args .k + 1) (now (s .args .value))
 
 add-space : tie.Need-add-space
@@ -40,7 +40,7 @@ returns c =
     let s = n .before .before .before in
     let a = s .args in
     let name = n .name-length .ensures in
-    let wrote : p₄ .copy-in3 .last .0 ≡ copied (now (a .out)) (a .at) (ended (itemText (a .k + 1) (now (a .value))))
+    let wrote : p₄ .copy-in3 .last .0 ≡ copied (now (a .out)) (a .at) (endedLine (itemText (a .k + 1) (now (a .value))))
     = line-copied (now (a .out)) (a .at) (a .k + 1) (now (a .value)) _ _ _ (p₁ .copy-name .ensures) (p₂ .copy-in .ensures) (p₃ .copy-in2 .ensures) (p₄ .copy-in3 .ensures) (omega (arith, name)) refl refl (s .pre .0) in
     (wrote, omega (arith, size s, name))
 

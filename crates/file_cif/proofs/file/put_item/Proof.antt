@@ -11,7 +11,7 @@ use lib.ListN.{length}
 use Rattle.text_copies.specs.Copy.{copied}
 use Rattle.text_copies.proofs.Copies.{copied-none}
 use Rattle.desk_memory.specs.Memory.{itemIn}
-use Rattle.file_cif.specs.File.{ended, itemText, itemLine}
+use Rattle.file_cif.specs.File.{endedLine, itemText, itemLine}
 use Rattle.file_cif.proofs.Files.{empty-line, filled-line}
 use Rattle.file_cif.proofs.file.put_item.Statement.{statement}
 use Rattle.file_cif.proofs.file.put_item.Tie as tie
@@ -26,11 +26,11 @@ returns c =
 -- the line of a filled item, with the value that was found
 line : (v : tie.After-value-at)
     → let a = v .before .before .before .before .before .before .before .args in
-    ended (itemText (a .k + 1) (now (v .value-at .result))) ≡ itemLine (a .k + 1) (itemIn (now (a .texts)) (now (a .numbers)) (a .k))
+    endedLine (itemText (a .k + 1) (now (v .value-at .result))) ≡ itemLine (a .k + 1) (itemIn (now (a .texts)) (now (a .numbers)) (a .k))
 line v =
     let b = v .before .before in
     let a = b .before .before .before .before .before .args in
-    ap (λ (t : List ℕ). ended (itemText (a .k + 1) t)) (v .value-at .ensures)
+    ap (λ (t : List ℕ). endedLine (itemText (a .k + 1) t)) (v .value-at .ensures)
     ∙ sym (filled-line (a .k + 1) (itemIn (now (a .texts)) (now (a .numbers)) (a .k)) (λ z. b .if1 .left (b .before .number-at .ensures ∙ z)))
 
 put-filled-requires : tie.Need-put-filled-requires

@@ -9,7 +9,7 @@ use lib.ListN.{length}
 use Rattle.formula_terms.specs.Term.{mostCount}
 use Rattle.formula_terms.specs.Terms.{termsOf}
 use Rattle.formula_elements.specs.Elements.{heaviest}
-use Rattle.formula_sum.specs.Sum.{SmallWeight, plus, total, sumOf}
+use Rattle.formula_sum.specs.Sum.{SmallWeight, plus, totalWeight, sumOf}
 use Rattle.formula_elements.specs.declared.Weight.the-variants.{Thousandths}
 use Rattle.formula_terms.proofs.Steps.{termsFrom, Stepped, step-next, step-end, falls}
 use Rattle.formula_sum.proofs.Sums.{sum-start, step-small, sum-next, sum-none, sum-end}
@@ -17,7 +17,7 @@ use Rattle.formula_sum.proofs.sum.sum_of.Statement.{statement}
 use Rattle.formula_sum.proofs.sum.sum_of.Tie as tie
 
 abbrev Inv-loop : tie.InvT-loop
-Inv-loop s sum₀ from₀ sum from = (total (termsOf s) ≡ plus (Thousandths sum) (total (termsFrom s from))) × (sum ≤ from * (mostCount * heaviest)) × (from ≤ length s + 1)
+Inv-loop s sum₀ from₀ sum from = (totalWeight (termsOf s) ≡ plus (Thousandths sum) (totalWeight (termsFrom s from))) × (sum ≤ from * (mostCount * heaviest)) × (from ≤ length s + 1)
 
 abbrev μ-loop : tie.MeasureT-loop
 μ-loop s sum₀ from₀ sum from = length s + 1 - from
@@ -26,7 +26,7 @@ stepped : (c : tie.After-term Inv-loop μ-loop) → Stepped (c .before .before .
 stepped c = step-next _ _ _ _ (sym (c .before .before .step-at .ensures) ∙ c .term .given .1)
 
 -- a text that is not too long has the sum of its terms
-summed : (c : tie.At-loop Inv-loop μ-loop) → sumOf (c .before .before .before .args .s .now) ≡ total (termsOf (c .before .before .before .args .s .now))
+summed : (c : tie.At-loop Inv-loop μ-loop) → sumOf (c .before .before .before .args .s .now) ≡ totalWeight (termsOf (c .before .before .before .args .s .now))
 unfolding sumOf
 summed c = rw (le-leb _ _ (c .before .if1 .left))
 

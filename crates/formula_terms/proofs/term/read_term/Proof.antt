@@ -8,7 +8,7 @@ use borrow.Author.Tests.{not-true, not-false}
 use lib.ListN.{length, getD}
 use Rattle.text.specs.Run.{isCapital, isSmall, kindAt}
 use Rattle.text.proofs.Parts.{rest-part}
-use Rattle.formula_terms.specs.Term.{countOf, counted}
+use Rattle.formula_terms.specs.Term.{countOf, withCount}
 use Rattle.formula_terms.proofs.TermCases.{kind-within, no-capital, two-letters, one-letter}
 use borrow.Author.Needs.{needs}
 use Rattle.formula_terms.proofs.term.read_term.Statement.{statement}
@@ -48,7 +48,7 @@ returns-2 c =
     let k = c .before .before .before .before .before in
     let s = k .before .before .before .before .before .args .s .now in
     c .with-count .ensures
-    ∙ ap (counted (getD s 0 0) (getD s 1 0)) (c .before .read-count .ensures ∙ ap countOf (rest-part s 2))
+    ∙ ap (withCount (getD s 0 0) (getD s 1 0)) (c .before .read-count .ensures ∙ ap countOf (rest-part s 2))
     ∙ sym (two-letters s (capital (k .before .before)) (small k))
 
 shared-slice-read-with-count-3 : tie.Need-shared-slice-read-with-count-3
@@ -65,7 +65,7 @@ returns-3 c =
     let k = c .before .before .before .before in
     let s = k .before .before .before .before .before .args .s .now in
     c .with-count2 .ensures
-    ∙ ap (counted (getD s 0 0) 32) (c .before .read-count2 .ensures ∙ ap countOf (rest-part s 1))
+    ∙ ap (withCount (getD s 0 0) 32) (c .before .read-count2 .ensures ∙ ap countOf (rest-part s 1))
     ∙ sym (one-letter s (capital (k .before .before)) (sym (k .before .between-at2 .ensures) ∙ k .if2 .left))
 
 pub read-term-spec : {M : Type 1} → statement M

@@ -12,7 +12,7 @@ use borrow.Author.Needs.{needs}
 use Rattle.formula_terms.specs.Terms.{cut}
 use Rattle.hydrogen_text.specs.Hydrogens.{isHydrogen}
 use Rattle.hydrogen_text.specs.NewText.{comesHere, spread}
-use Rattle.hydrogen_writer.specs.Typed.{typedMost, part, toCome, Puts}
+use Rattle.hydrogen_writer.specs.Typed.{typedMost, spaced, toCome, Puts}
 use Rattle.hydrogen_writer.proofs.Shown.{Going, going-end}
 use Rattle.hydrogen_writer.proofs.Steps.{wordsFrom, words-start, WordStep, word-next, word-end}
 use Rattle.hydrogen_writer.proofs.Coming.{coming-end, turn}
@@ -48,7 +48,7 @@ returns c =
     let a = l .before .before .before .before .args in
     let none = word-end _ _ (sym (f .step-at .ensures) ∙ e .enum-told .given .1) in
     let g = subst (λ (r : List ℕ). Going (l .loop .out) (l .loop .at) r (39 ∷ spread (toCome (a .carbon) (a .hydrogens .now) (a .asked) (cut (a .s .now))))) (coming-end (a .carbon) (a .hydrogens .now) (l .loop .wanted) _ none) (l .loop .inv .0) in
-    going-end (part (l .loop .wanted) (a .hydrogens .now)) g (p .put-if .ensures)
+    going-end (spaced (l .loop .wanted) (a .hydrogens .now)) g (p .put-if .ensures)
 
 put-if-requires-3 : tie.Need-put-if-requires-3 Inv-loop μ-loop
 put-if-requires-3 c κs =
@@ -73,8 +73,8 @@ loop-again c =
     let step = stepped k in
     let t = k .term .given .0 .0 in
     let w : List ℕ = take (k .term .given .0 .1 .0 - 1 - l .loop .from) (drop (l .loop .from) (a .s .now)) in
-    let first = subst (λ (x : Bool). Puts (l .loop .out) (l .loop .at) (part x (a .hydrogens .now)) (p .put-if2 .last .0) (p .put-if2 .result)) (b .comes-here .ensures) (p .put-if2 .ensures) in
-    let second = subst (λ (x : Bool). Puts (p .put-if2 .last .0) (p .put-if2 .result) (part (not x) w) (q .put-if3 .last .0) (q .put-if3 .result)) (h .is-hydrogen .ensures) (q .put-if3 .ensures) in
+    let first = subst (λ (x : Bool). Puts (l .loop .out) (l .loop .at) (spaced x (a .hydrogens .now)) (p .put-if2 .last .0) (p .put-if2 .result)) (b .comes-here .ensures) (p .put-if2 .ensures) in
+    let second = subst (λ (x : Bool). Puts (p .put-if2 .last .0) (p .put-if2 .result) (spaced (not x) w) (q .put-if3 .last .0) (q .put-if3 .result)) (h .is-hydrogen .ensures) (q .put-if3 .ensures) in
     let rest = still j ∙ ap (λ (x : Bool). cond x false (l .loop .wanted)) (b .comes-here .ensures) in
     (turn (a .carbon) (a .hydrogens .now) step (l .loop .wanted) _ (l .loop .inv .0) first second rest, q .put-if3 .kept .0 ∙ (p .put-if2 .kept .0 ∙ l .loop .inv .1))
 

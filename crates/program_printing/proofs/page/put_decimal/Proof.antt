@@ -7,7 +7,8 @@ use Prim.Native.Nat.{ℕ, suc, _≤_, _<_, _-_, _%_}
 use lib.ListN.{length, take, drop, set, length-set, length-drop, length-take}
 use lib.Seq.{take-all}
 use Rattle.program_printing.specs.Page.{decimalMost}
-use Rattle.program_printing.specs.Print.{digit, lastDigits, decimalText}
+use Rattle.number_decimal.specs.Digits.{digit, lastDigits}
+use Rattle.program_printing.specs.Print.{decimalText}
 use Rattle.program_printing.proofs.Pages.{adds-as}
 use Rattle.program_printing.proofs.Digits.{first-digit, later-digit}
 use Rattle.program_printing.proofs.page.put_decimal.Statement.{statement}
