@@ -1,4 +1,5 @@
 pub mod Counts
 pub mod TermCases
+pub mod Words
 pub mod Steps
 pub mod Wording

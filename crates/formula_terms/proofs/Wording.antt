@@ -4,6 +4,7 @@ use mathlib.Core.Path.{_≡_, refl, sym, ap, subst, _∙_}
 use mathlib.Core.Bool.{Bool, true, false, cond, _&&_, not, and-false}
 use mathlib.Core.List.{List, [], _∷_, _++_}
 use Prim.Native.Nat.{ℕ, suc, _+_, _≤_, _<_}
+use native.Mathlib.Nat.{suc-ne-zero}
 use native.Mathlib.Omega.{arith}
 use borrow.Author.Tests.{leb-true, eqb-true, eqb-false, le-leb, lt-leb, lt-ltb, ne-eqb, not-true}
 use lib.Dec.{leb, ltb, eqb}
@@ -20,17 +21,14 @@ use Rattle.formula_terms.specs.declared.term.Count.{Count}
 use Rattle.formula_terms.specs.declared.term.Count.the-variants.{Times, NoCount}
 use Rattle.formula_terms.specs.declared.term.Term.the-variants.{Well, Ill}
 use Rattle.formula_terms.proofs.TermCases.{kind-within, kind-byte, no-capital, two-letters, one-letter}
-use Rattle.formula_terms.proofs.Steps.{cut-last}
+use Rattle.formula_terms.proofs.Words.{cut-last}
 
 -- a text that is a count is read as that count
-long : (n : ℕ) → suc n ≡ 0 → ⊥
-long n e = omega arith
-
 written-of : (ds : List ℕ) → all isDigit ds ≡ true → (getD ds 0 0 ≡ 48 → ⊥) → 1 ≤ valueOf ds → valueOf ds ≤ mostCount → countOf ds ≡ Times (valueOf ds)
 unfolding countOf isCount valueFrom
 written-of [] a z l m = absurd (omega arith)
 written-of (d ∷ ds) a z l m =
-    simp (ne-eqb (suc (length ds)) 0 (long (length ds)), a, ne-eqb d 48 z, le-leb 1 (valueOf (d ∷ ds)) l, le-leb (valueOf (d ∷ ds)) mostCount m)
+    simp (ne-eqb (suc (length ds)) 0 (suc-ne-zero (length ds)), a, ne-eqb d 48 z, le-leb 1 (valueOf (d ∷ ds)) l, le-leb (valueOf (d ∷ ds)) mostCount m)
 
 pub count-of : {ds : List ℕ} {n : ℕ} → CountText ds n → countOf ds ≡ Times n
 unfolding countOf
@@ -87,7 +85,7 @@ pub count-is : (ds : List ℕ) (n : ℕ) → countOf ds ≡ Times n → CountTex
 unfolding countOf
 count-is [] n e = let worth : 1 ≡ n = cc in subst (CountText []) worth none
 count-is (d ∷ ds) n e =
-    let some : eqb (suc (length ds)) 0 ≡ false = ne-eqb (suc (length ds)) 0 (long (length ds)) in
+    let some : eqb (suc (length ds)) 0 ≡ false = ne-eqb (suc (length ds)) 0 (suc-ne-zero (length ds)) in
     count-by (d ∷ ds) n (isCount (d ∷ ds)) refl (rw some at e)
 
 -- a symbol and a count that were put together are those of the term

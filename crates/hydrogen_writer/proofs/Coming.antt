@@ -11,7 +11,7 @@ use Rattle.hydrogen_text.specs.Hydrogens.{isHydrogen, otherWords}
 use Rattle.hydrogen_text.specs.NewText.{isLater, comesHere, placed, spread}
 use Rattle.hydrogen_writer.specs.Typed.{spaced, toCome, Puts}
 use Rattle.hydrogen_writer.proofs.Shown.{Going, going-on}
-use Rattle.hydrogen_writer.proofs.Steps.{wordsFrom, WordStep}
+use Rattle.formula_terms.proofs.Words.{wordsFrom, WordStep}
 
 module _ (c : Bool) (h : List ℕ) where
   -- at the end the hydrogens, if they are still to come

@@ -1,4 +1,3 @@
 pub mod Shown
-pub mod Steps
 pub mod Coming
 pub mod Closing

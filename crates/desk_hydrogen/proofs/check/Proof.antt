@@ -1,17 +1,13 @@
 -- `desk_hydrogen::check` meets its contract: no such sheet, unsound, or the check of the sheet's formula and weight.
 -- Assumes nothing.
 use native.Mathlib.Omega.{arith}
-use mathlib.Core.Path.{_≡_, sym, _∙_, ap, ap₂}
-use mathlib.Core.Bool.{true}
-use mathlib.Core.List.{List}
-use Prim.Native.Nat.{ℕ, _<_}
-use borrow.Author.Tests.{lt-ltb, le-ltb, not-true, not-false}
+use mathlib.Core.Path.{sym, _∙_}
+use Prim.Native.Nat.{_<_}
+use borrow.Author.Tests.{not-true, not-false}
 use denote.Ref.{now}
-use Rattle.desk_state.specs.Desks.{sheetCount, isSheet}
+use Rattle.desk_state.specs.Desks.{sheetCount}
 use Rattle.hydrogen_check.specs.Check.{checkOf}
-use Rattle.hydrogen_answers.specs.declared.Proposed.{Proposed}
-use Rattle.desk_hydrogen.specs.Hydrogens.{proposalIn}
-use Rattle.desk_hydrogen.proofs.Asked.{check-by, value-lent}
+use Rattle.desk_hydrogen.proofs.Asked.{check-by, no-sheet, unsound, answered}
 use borrow.Author.Needs.{needs}
 use Rattle.desk_hydrogen.proofs.check.Statement.{statement}
 use Rattle.desk_hydrogen.proofs.check.Tie as tie
@@ -20,19 +16,14 @@ use Rattle.desk_hydrogen.proofs.check.Tie as tie
 here : (c : tie.Else1) → c .before .before .before .args .sheet < sheetCount
 here c = omega (arith, c .if1 .left)
 
-is-sheet : (c : tie.Else1) → isSheet (c .before .before .before .args .sheet) ≡ true
-is-sheet c = lt-ltb _ sheetCount (here c)
-
 returns : tie.Need-returns
-returns c =
-    let a = c .before .before .before .args in
-    sym (check-by (now (a .texts)) (now (a .numbers)) (a .sheet) (a .count) ∙ simp (le-ltb (a .sheet) sheetCount (c .if1 .taken)))
+returns c = let a = c .before .before .before .args in no-sheet _ _ _ _ (c .if1 .taken) ∙ sym (check-by (now (a .texts)) (now (a .numbers)) (a .sheet) (a .count))
 
 returns-2 : tie.Need-returns-2
 returns-2 c =
     let e = c .before .before in
     let a = e .before .before .before .args in
-    sym (check-by (now (a .texts)) (now (a .numbers)) (a .sheet) (a .count) ∙ simp (is-sheet e, sym (c .before .is-sound .ensures) ∙ not-true _ (c .if2 .taken)))
+    unsound _ _ _ _ (here e) (sym (c .before .is-sound .ensures) ∙ not-true _ (c .if2 .taken)) ∙ sym (check-by (now (a .texts)) (now (a .numbers)) (a .sheet) (a .count))
 
 returns-3 : tie.Need-returns-3
 returns-3 c =
@@ -44,12 +35,9 @@ returns-3 c =
     let a = e .before .before .before .args in
     let t = now (a .texts) in
     let n = now (a .numbers) in
-    let x = b .before .sheet-texts .ensures in
-    let y = b .sheet-numbers .ensures in
-    let formula = value-lent t n (a .sheet) (here e) x y 0 (omega arith) (v .value-at .ensures) in
-    let weight = value-lent t n (a .sheet) (here e) x y 1 (omega arith) (w .value-at2 .ensures) in
-    ap proposalIn (c .check .ensures ∙ ap₂ (λ (p q : List ℕ). checkOf p q (a .count)) formula weight)
-    ∙ sym (check-by t n (a .sheet) (a .count) ∙ simp (is-sheet e, sym (f .before .is-sound .ensures) ∙ not-false _ (f .if2 .left)))
+    let s = sym (f .before .is-sound .ensures) ∙ not-false _ (f .if2 .left) in
+    answered t n (a .sheet) (here e) (b .before .sheet-texts .ensures) (b .sheet-numbers .ensures) (λ v w. checkOf v w (a .count)) s (v .value-at .ensures) (w .value-at2 .ensures) (c .check .ensures)
+    ∙ sym (check-by t n (a .sheet) (a .count))
 
 pub check-spec : {M : Type 1} → statement M
 check-spec =

@@ -14,7 +14,7 @@ use Rattle.hydrogen_text.specs.Hydrogens.{isHydrogen}
 use Rattle.hydrogen_text.specs.NewText.{comesHere, spread}
 use Rattle.hydrogen_writer.specs.Typed.{typedMost, spaced, toCome, Puts}
 use Rattle.hydrogen_writer.proofs.Shown.{Going, going-end}
-use Rattle.hydrogen_writer.proofs.Steps.{wordsFrom, words-start, WordStep, word-next, word-end}
+use Rattle.formula_terms.proofs.Words.{wordsFrom, words-start, WordStep, word-next, word-end}
 use Rattle.hydrogen_writer.proofs.Coming.{coming-end, turn}
 use Rattle.hydrogen_writer.proofs.put.put_terms.Statement.{statement}
 use Rattle.hydrogen_writer.proofs.put.put_terms.Tie as tie

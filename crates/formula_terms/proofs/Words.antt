@@ -1,22 +1,48 @@
--- The terms of a text from a place on, as they are written, and what one step over them leaves.
+-- The terms of a text from a place on, as they are written, and what one step over them leaves. `Steps` has the same of the terms that are read.
 -- Assumes nothing.
 use Prim.Native.Nat.{ℕ, suc, _+_, _-_, _≤_, _<_}
 use mathlib.Core.Path.{_≡_, refl, sym, ap, _∙_}
-use mathlib.Core.Bool.{Bool, true, false, cond}
+use mathlib.Core.Bool.{Bool, true, false, cond, not}
 use mathlib.Core.List.{List, [], _∷_}
 use native.Mathlib.Omega.{arith}
 use borrow.Author.Tests.{leb-true, le-leb, lt-leb, ltb-true, ltb-false}
-use lib.Dec.{leb, ltb, leb·zero}
+use lib.Dec.{leb, ltb, leb·zero, eqb}
 use lib.ListN.{length, take, drop, length-drop}
 use lib.Seq.{take-all, drop-drop}
-use Rattle.text.specs.Run.{other}
+use Rattle.text.specs.Run.{runOf, other}
 use Rattle.text.proofs.Bools.{cond-first}
 use Rattle.text.proofs.Runs.{run-short}
 use Rattle.formula_terms.specs.Term.{termOf}
-use Rattle.formula_terms.specs.Terms.{cut, stepOf}
+use Rattle.formula_terms.specs.Terms.{attach, cut, stepOf}
 use Rattle.formula_terms.specs.declared.term.Term.{Term}
 use Rattle.formula_terms.specs.declared.Step.the-variants.{Next, End}
-use Rattle.formula_terms.proofs.Steps.{width, cut-last, cut-more}
+
+-- how long the first term of a text is
+abbrev pub width : List ℕ → ℕ
+width s = runOf (other 32) s
+
+-- a text with no space is one term
+last-by : (b : ℕ) (bs : List ℕ) (t : Bool) → eqb b 32 ≡ t → (width bs ≡ length bs → cut bs ≡ bs ∷ [])
+    → cond (not t) (suc (width bs)) 0 ≡ suc (length bs) → cond t ([] ∷ cut bs) (attach b (cut bs)) ≡ (b ∷ bs) ∷ []
+last-by b bs true e ih h = absurd (omega arith)
+last-by b bs false e ih h = let k : width bs ≡ length bs = omega arith in ap (attach b) (ih k)
+
+pub cut-last : (s : List ℕ) → width s ≡ length s → cut s ≡ s ∷ []
+unfolding cut runOf other
+cut-last [] h = refl
+cut-last (b ∷ bs) h = last-by b bs (eqb b 32) refl (cut-last bs) h
+
+-- a text with a space is the term before the first one and the terms after it
+more-by : (b : ℕ) (bs : List ℕ) (t : Bool) → eqb b 32 ≡ t → (width bs < length bs → cut bs ≡ take (width bs) bs ∷ cut (drop (suc (width bs)) bs))
+    → cond (not t) (suc (width bs)) 0 < suc (length bs)
+    → cond t ([] ∷ cut bs) (attach b (cut bs)) ≡ take (cond (not t) (suc (width bs)) 0) (b ∷ bs) ∷ cut (drop (suc (cond (not t) (suc (width bs)) 0)) (b ∷ bs))
+more-by b bs true e ih h = refl
+more-by b bs false e ih h = let k : width bs < length bs = omega arith in ap (attach b) (ih k)
+
+cut-more : (s : List ℕ) → width s < length s → cut s ≡ take (width s) s ∷ cut (drop (suc (width s)) s)
+unfolding cut runOf other
+cut-more [] h = absurd (omega arith)
+cut-more (b ∷ bs) h = more-by b bs (eqb b 32) refl (cut-more bs) h
 
 -- the terms that begin at a place or after it
 unfoldable pub wordsFrom : List ℕ → ℕ → List (List ℕ)
