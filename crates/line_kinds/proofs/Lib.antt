@@ -1,3 +1,4 @@
 pub mod KindTable
 pub mod Passes
+pub mod Fitting
 pub mod Wording
