@@ -2,59 +2,24 @@
 -- Assumes nothing.
 use mathlib.Core.Path.{_≡_, refl, ap, _∙_}
 use mathlib.Core.Bool.{Bool, true, false, cond, _&&_, false≢true}
-use mathlib.Core.Logic.{⊎-elim}
 use mathlib.Core.List.{List}
 use Prim.Native.Nat.{ℕ, _+_, _-_, _≤_, _<_}
 use native.Mathlib.Omega.{arith}
-use borrow.Author.Tests.{leb-true, le-leb, lt-ltb, eq-eqb, ne-eqb}
+use borrow.Author.Tests.{le-leb, lt-ltb, eq-eqb, ne-eqb}
 use lib.Dec.{ltb, leb, eqb}
 use lib.ListN.{length, drop, replicate}
 use lib.Seq.{take-at, drop-at}
-use Rattle.text.specs.Run.{all, between}
-use Rattle.text.proofs.Bools.{and-both, or-either}
+use Rattle.text.specs.Run.{between}
 use Rattle.text.proofs.Runs.{all-replicate}
-use Rattle.line_quotes.specs.Quoted.{isQuotedBy, isQuoted}
-use Rattle.line_values.specs.Value.{isBare, isValue}
-use Rattle.line_items.specs.Items.{itemCount, itemRow}
-use Rattle.line_items.specs.Typed.{lineMost, isTyped}
-use Rattle.line_kinds.specs.Kinds.{passes, fits}
-use Rattle.line_kinds.proofs.Passes.{passes-known}
+use Rattle.line_items.specs.Typed.{lineMost}
+use Rattle.line_kinds.specs.Kinds.{fits}
+use Rattle.line_kinds.proofs.Fitting.{fitting}
 use Rattle.desk_state.specs.Lines.{padded}
 use Rattle.desk_state.specs.Sheets.{filled, valueIn}
 use Rattle.desk_state.specs.Desks.{benchCount, sheetOfBench}
 use Rattle.desk_state.specs.declared.sheet.Item.{Item}
 use Rattle.desk_soundness.specs.Sound.{zeros, soundEmpty, counted, soundFilled, soundItem}
 use Rattle.desk_items.proofs.Wording.{counted-is, counted-taken}
-
--- a value has at least one byte
-pub value-some : (v : List ℕ) → isValue v ≡ true → 1 ≤ length v
-unfolding isValue isBare isQuoted isQuotedBy
-value-some v h =
-    let two : (q : ℕ) → isQuotedBy q v ≡ true → 1 ≤ length v = λ q e. let k = leb-true 2 (length v) (and-both (leb 2 (length v)) _ e .0) in omega arith in
-    ⊎-elim (λ (e : isBare v ≡ true). leb-true 1 (length v) (and-both (leb 1 (length v)) _ e .0))
-    (λ (e : isQuoted v ≡ true). ⊎-elim (two 39) (two 34) (or-either (isQuotedBy 39 v) (isQuotedBy 34 v) e))
-    (or-either (isBare v) (isQuoted v) h)
-
--- an item and a value that it can hold
-pub record Fitting (item : ℕ) (v : List ℕ) : Type 0 where
-  pub some : 1 ≤ item
-  pub known : item ≤ itemCount
-  pub long : 1 ≤ length v
-  pub short : length v ≤ lineMost
-
-pub fitting : (item : ℕ) (v : List ℕ) → fits item v ≡ true → Fitting item v
-unfolding fits
-fitting item v h =
-    let kind = and-both (passes item v) _ h in
-    let form = and-both (isValue v) _ (kind .1) in
-    let bytes = and-both (all isTyped v) _ (form .1) in
-    let known = passes-known item v (kind .0) in
-    record {
-      some = known .0;
-      known = known .1;
-      long = value-some v (form .0);
-      short = omega (arith, leb-true (length (itemRow item .name) + 1 + length v) lineMost (bytes .1));
-    }
 
 -- weaker tests under a conjunction, and under a choice
 and-map : (a b c d : Bool) → (a ≡ true → b ≡ true) → (c ≡ true → d ≡ true) → (a && c) ≡ true → (b && d) ≡ true

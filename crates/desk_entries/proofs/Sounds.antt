@@ -12,6 +12,7 @@ use Rattle.text.proofs.Bools.{and-both}
 use Rattle.line_items.specs.Items.{itemCount}
 use Rattle.line_items.specs.Typed.{lineMost}
 use Rattle.line_kinds.specs.Kinds.{fits}
+use Rattle.line_kinds.proofs.Fitting.{fitting}
 use Rattle.desk_state.specs.Sheets.{filled, noItem, itemAt}
 use Rattle.desk_state.specs.Desks.{benchCount, sheetOfBench, noSheet, sheetAt}
 use Rattle.desk_state.specs.declared.sheet.Sheet.{Sheet}
@@ -27,7 +28,7 @@ use Rattle.desk_soundness.proofs.LogWording.{log-is, log-taken}
 use Rattle.desk_entries.specs.Entry.{withEntry, withEntryOn, ownItem}
 use Rattle.desk_entries.specs.Lent.{takes}
 use Rattle.desk_entries.proofs.Camps.{sheet-in, own-sheet}
-use Rattle.desk_entries.proofs.Items.{fitting, item-more, filled-sound}
+use Rattle.desk_entries.proofs.Items.{item-more, filled-sound}
 
 -- the sum of the counts, where one is one more
 counts-more : (ss : List Sheet) (s : ℕ) (x : Sheet) → s < length ss → x .count ≡ getD ss s noSheet .count + 1 → countsOf (set ss s x) ≡ countsOf ss + 1

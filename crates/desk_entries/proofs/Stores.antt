@@ -33,8 +33,8 @@ use Rattle.desk_entries.proofs.Camps.{sheet-in, own-sheet, own-count, o
 abbrev withItem : Sheet → ℕ → Item → ℕ → Sheet
 withItem s k i count = record { items = set (s .items) k i; count = count }
 
-padded-long : (v : List ℕ) → length v ≤ lineMost → length (padded v) ≡ lineMost
-padded-long v h = length-append v (replicate (lineMost - length v) 0) ∙ ap (λ (x : ℕ). length v + x) (length-replicate (lineMost - length v) 0) ∙ omega arith
+pub padded-length : (v : List ℕ) → length v ≤ lineMost → length (padded v) ≡ lineMost
+padded-length v h = length-append v (replicate (lineMost - length v) 0) ∙ ap (λ (x : ℕ). length v + x) (length-replicate (lineMost - length v) 0) ∙ omega arith
 
 -- a text copied in and zeros after it are the padded text
 pub padded-in : (t : List ℕ) (to : ℕ) (v : List ℕ) → length v ≤ lineMost → to + lineMost ≤ length t
@@ -146,7 +146,7 @@ module _ (t n : List ℕ) (bench item : ℕ) (v m : List ℕ) (h : Taken t n ben
         ∙ block-lent sheetNumbers n j benchCount from (from + sheetNumbers) refl refl
 
   long : length (padded v) ≡ lineMost
-  long = padded-long v (h .short)
+  long = padded-length v (h .short)
 
   room : place * lineMost + lineMost ≤ length t
   room = omega (arith, in-sheets, h .known, h .some, h .sized .texts)

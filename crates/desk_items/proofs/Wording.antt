@@ -11,13 +11,12 @@ use lib.ListN.{length, drop}
 use Rattle.text.specs.Run.{all, between}
 use Rattle.text.proofs.Bools.{and-both}
 use Rattle.text.proofs.Runs.{all-replicate, all-same}
-use Rattle.line_values.specs.Value.{isValue}
 use Rattle.line_values.proofs.Values.{value-is, value-taken}
 use Rattle.line_items.specs.Items.{itemRow}
 use Rattle.line_items.specs.Typed.{lineMost, isTyped}
 use Rattle.line_kinds.specs.Kinds.{passes, fits}
-use Rattle.line_kinds.proofs.Passes.{passes-known}
 use Rattle.line_kinds.proofs.Wording.{passes-is, passes-taken}
+use Rattle.line_kinds.proofs.Fitting.{fitting}
 use Rattle.desk_state.specs.Sheets.{valueIn}
 use Rattle.desk_state.specs.Desks.{benchCount, sheetOfBench}
 use Rattle.desk_state.specs.declared.sheet.Item.{Item}
@@ -56,7 +55,7 @@ counted-taken count n f l = simp (le-leb 1 n f, le-leb n count l)
 
 module _ (sheet count k : ℕ) (i : Item) where
   filled-is : (i .len ≡ 0 → ⊥) → soundFilled sheet count k i ≡ true → FilledItem sheet count k i
-  unfolding soundFilled fits
+  unfolding soundFilled
   filled-is some e =
       let v = valueIn i in
       let bench = and-both (ltb (i .bench) benchCount) _ e in
@@ -65,11 +64,9 @@ module _ (sheet count k : ℕ) (i : Item) where
       let times = and-both (counted count (i .times)) _ (entry .1) in
       let most = and-both (leb (i .len) lineMost) _ (times .1) in
       let fit = and-both (fits k v) _ (most .1) in
-      let kind = and-both (passes k v) _ (fit .0) in
-      let form = and-both (isValue v) _ (kind .1) in
-      let bytes = and-both (all isTyped v) _ (form .1) in
+      let f = fitting k v (fit .0) in
       record {
-        known = passes-known k v (kind .0) .1;
+        known = f .known;
         some = omega (arith, some);
         most = leb-true (i .len) lineMost (most .0);
         bench = ltb-true (i .bench) benchCount (bench .0);
@@ -78,10 +75,10 @@ module _ (sheet count k : ℕ) (i : Item) where
         last = counted-is count (i .entry) (entry .0) .1;
         once = counted-is count (i .times) (times .0) .0;
         often = counted-is count (i .times) (times .0) .1;
-        form = value-is v (form .0);
-        bytes = bytes .0;
-        kind = passes-is k v (kind .0);
-        line = leb-true (length (itemRow k .name) + 1 + length v) lineMost (bytes .1);
+        form = value-is v (f .value);
+        bytes = f .typed;
+        kind = passes-is k v (f .passes);
+        line = f .line;
         unused = all-same 0 (drop (i .len) (i .value)) (fit .1);
       }
 

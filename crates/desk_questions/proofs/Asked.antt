@@ -1,6 +1,6 @@
 -- What the questions say of lent memory, by the test of its soundness; the item that is asked for, and what soundness says of its bench.
 -- Assumes nothing.
-use mathlib.Core.Path.{_≡_, refl, sym, ap, _∙_}
+use mathlib.Core.Path.{_≡_, sym, ap, _∙_}
 use mathlib.Core.Bool.{Bool, true, false, cond}
 use mathlib.Core.List.{List}
 use Prim.Native.Nat.{ℕ, _+_, _-_, _<_}
@@ -9,7 +9,7 @@ use native.Mathlib.Omega.{arith}
 use borrow.Author.Tests.{ne-eqb, ltb-true}
 use lib.Dec.{ltb}
 use lib.ListN.{getD}
-use Rattle.text.proofs.Bools.{and-both}
+use Rattle.text.proofs.Bools.{and-both, cond-same}
 use Rattle.line_items.specs.Items.{itemCount, isItem}
 use Rattle.desk_state.specs.Sheets.{noItem, itemAt}
 use Rattle.desk_state.specs.Desks.{benchCount, sheetCount, isSheet, sheetAt}
@@ -38,16 +38,12 @@ filled-bench sheet t n k h s f =
     let bench = getD (slot itemNumbers n k) 2 0 in
     ltb-true bench benchCount (and-both (ltb bench benchCount) _ g .0)
 
-either : {A : Type 0} (b : Bool) (x : A) → cond b x x ≡ x
-either true x = refl
-either false x = refl
-
 -- what is asked before soundness: the sheet, then the profile
 by-profile : {A : Type 0} (t n : List ℕ) (sheet profile : Bool) (x y z w : A)
     → cond (isDesk t n) (cond sheet (cond profile (cond (soundDesk (deskOf t n)) x y) z) w) (cond sheet (cond profile y z) w)
     ≡ cond sheet (cond profile (cond (soundMemory t n) x y) z) w
 by-profile t n true profile x y z w = by-sheet t n profile x y z
-by-profile t n false profile x y z w = either (isDesk t n) w
+by-profile t n false profile x y z w = cond-same (isDesk t n) w
 
 module _ (t n : List ℕ) (sheet : ℕ) where
   pub report-by : (profile : ℕ) → reportLent t n sheet profile

@@ -1,28 +1,18 @@
 -- What the tests of a desk in lent memory say of its soundness.
 -- Assumes nothing.
-use mathlib.Core.Path.{_≡_, refl, sym, ap, _∙_}
-use mathlib.Core.Bool.{Bool, true, false, cond, _&&_}
+use mathlib.Core.Path.{_≡_, sym, ap, _∙_}
+use mathlib.Core.Bool.{Bool, true, false, cond}
 use mathlib.Core.List.{List}
 use Prim.Native.Nat.{ℕ, _+_, _<_}
 use native.Mathlib.Nat.{zero-add}
 use native.Mathlib.Omega.{arith}
-use Rattle.text.proofs.Bools.{and-both}
+use Rattle.text.proofs.Bools.{and-both, cond-and, cond-between}
 use Rattle.desk_state.specs.Desks.{sheetCount, noSheet, sheetAt}
 use Rattle.desk_memory.specs.Memory.{Sized, isDesk, sheetFrom, textsOf, numbersOf, sheetIn, deskOf}
 use Rattle.desk_memory.proofs.Desks.{desk-sized, sheets-long, sheet-at}
 use Rattle.desk_soundness.specs.Sound.{soundLines, soundSheet, soundSheets, soundDesk}
 use Rattle.desk_soundness.specs.SoundMemory.{soundMemory}
 use Rattle.desk_soundness.proofs.Everys.{every-each}
-
--- a test in a test with the same other side
-cond-and : {A : Type 0} (a b : Bool) (x y : A) → cond a (cond b x y) y ≡ cond (a && b) x y
-cond-and true b x y = refl
-cond-and false b x y = refl
-
--- the same inside of a test that stands first
-cond-between : {A : Type 0} (a b c : Bool) (x y z : A) → cond a (cond c (cond b x y) z) (cond c y z) ≡ cond c (cond (a && b) x y) z
-cond-between true b c x y z = refl
-cond-between false b c x y z = refl
 
 module _ (t n : List ℕ) where
   -- memory that is no desk and a desk that is not sound are answered alike

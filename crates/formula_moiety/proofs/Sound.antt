@@ -10,17 +10,13 @@ use lib.Dec.{eqb, eqb·suc-zero}
 use lib.ListN.{length, drop, take-append-drop}
 use lib.Seq.{drop-cons}
 use Rattle.text.specs.Run.{runOf, hasAt}
-use Rattle.text.proofs.Runs.{has-within, has-byte}
+use Rattle.text.proofs.Runs.{has-within, has-byte, has-first}
 use Rattle.formula_terms.specs.Term.{termOf}
 use Rattle.formula_sum.specs.Recognised.{isRecognised}
 use Rattle.formula_moiety.specs.Grammar.{Part, Moiety, term, group, one, shownPart, shown, shownAll, mostDeep, IsPart, IsMoiety, is-term, is-group, is-one, is-more, AreMoieties, none, next}
 use Rattle.formula_moiety.specs.Reading.{Got, got, isTimes, inWord, word, past, wordPart, closed, inBrackets, withPart, goesOn, partOf, moietyOf, Whole, whole, unread, listed, further, enough, wholeTextOf, moietiesOf}
 use Rattle.formula_moiety.specs.Reading as R
 use Rattle.formula_moiety.proofs.Leaves.{is-leaf, is-times}
-
--- a byte that stands at the front of a text
-pub front : (t : List ℕ) (b : ℕ) → hasAt t 0 b ≡ true → t ≡ b ∷ drop 1 t
-front t b h = drop-cons t 0 0 (has-within t 0 b h) ∙ ap (λ (x : ℕ). x ∷ drop 1 t) (has-byte t 0 b h)
 
 -- what is said of what was read
 abbrev pub Sound : {A : Type 0} → (A → Type 0) → (A → List ℕ) → List ℕ → Got A → Type 0
@@ -43,7 +39,7 @@ closed-sound d t m r is e = go (hasAt r 0 41) (isTimes (word (drop 1 r))) refl r
         → Sound (IsPart (suc d)) shownPart (40 ∷ t) (cond a (cond b (got (group m (word (drop 1 r))) (past (drop 1 r))) R.none) R.none)
     go true true h c =
         let back : drop 1 r ≡ word (drop 1 r) ++ past (drop 1 r) = sym (take-append-drop (runOf inWord (drop 1 r)) (drop 1 r)) in
-        let end : r ≡ (41 ∷ word (drop 1 r)) ++ past (drop 1 r) = front r 41 h ∙ ap (λ (x : List ℕ). 41 ∷ x) back in
+        let end : r ≡ (41 ∷ word (drop 1 r)) ++ past (drop 1 r) = has-first r 41 h ∙ ap (λ (x : List ℕ). 41 ∷ x) back in
         (is-group is (is-times (word (drop 1 r)) c), ap (λ (x : List ℕ). 40 ∷ x) (e ∙ ap (λ (x : List ℕ). shown m ++ x) end ∙ sym (append-assoc (shown m) (41 ∷ word (drop 1 r)) (past (drop 1 r)))))
     go true false h c = tt
     go false b h c = tt
@@ -64,7 +60,7 @@ unfolding shown
 goes-sound d t (got p r) k s h = go (hasAt r 0 32) refl
   where
     go : (b : Bool) → hasAt r 0 32 ≡ b → Sound (IsMoiety d) shown t (cond b (withPart p (k (drop 1 r))) (got (one p) r))
-    go true e = joined-sound d t (drop 1 r) p (k (drop 1 r)) (s .0) (s .1 ∙ ap (λ (x : List ℕ). shownPart p ++ x) (front r 32 e)) (h (drop 1 r))
+    go true e = joined-sound d t (drop 1 r) p (k (drop 1 r)) (s .0) (s .1 ∙ ap (λ (x : List ℕ). shownPart p ++ x) (has-first r 32 e)) (h (drop 1 r))
     go false e = (is-one (s .0), s .1)
 goes-sound d t R.none k s h = tt
 
@@ -74,7 +70,7 @@ deep (suc d) t g h = rw (eqb·suc-zero d, sub-one (suc d)) (brackets-sound d t (
 
 part-by : (d : ℕ) (t : List ℕ) (g : ℕ → Got Moiety) → ((n : ℕ) → Sound (IsMoiety n) shown (drop 1 t) (g n)) → (b : Bool) → hasAt t 0 40 ≡ b
     → Sound (IsPart d) shownPart t (cond b (cond (eqb d 0) R.none (inBrackets (g (d - 1)))) (wordPart t))
-part-by d t g h true e = subst (λ (x : List ℕ). Sound (IsPart d) shownPart x (cond (eqb d 0) R.none (inBrackets (g (d - 1))))) (sym (front t 40 e)) (deep d (drop 1 t) g h)
+part-by d t g h true e = subst (λ (x : List ℕ). Sound (IsPart d) shownPart x (cond (eqb d 0) R.none (inBrackets (g (d - 1))))) (sym (has-first t 40 e)) (deep d (drop 1 t) g h)
 part-by d t g h false e = word-sound d t
 
 mutual
@@ -98,7 +94,7 @@ empty [] e = refl
 empty (b ∷ r) e = let z : suc (length r) ≡ 0 = eqb-true _ _ e in absurd (omega arith)
 
 second : (r : List ℕ) → hasAt r 0 44 ≡ true → hasAt r 1 32 ≡ true → r ≡ 44 ∷ (32 ∷ drop 2 r)
-second r h k = front r 44 h ∙ ap (λ (x : List ℕ). 44 ∷ x) (drop-cons r 1 0 (has-within r 1 32 k) ∙ ap (λ (x : ℕ). x ∷ drop 2 r) (has-byte r 1 32 k))
+second r h k = has-first r 44 h ∙ ap (λ (x : List ℕ). 44 ∷ x) (drop-cons r 1 0 (has-within r 1 32 k) ∙ ap (λ (x : ℕ). x ∷ drop 2 r) (has-byte r 1 32 k))
 
 listed-sound : (t r : List ℕ) (m : Moiety) (w : Whole) → IsMoiety mostDeep m → t ≡ shown m ++ (44 ∷ (32 ∷ r)) → WholeSound r w → WholeSound t (listed m w)
 unfolding shownAll

@@ -2,7 +2,7 @@
 -- them and without.
 -- Assumes nothing.
 use mathlib.Core.Path.{_≡_, refl, sym, ap, subst, _∙_}
-use mathlib.Core.Bool.{Bool, true, false, false≢true, _||_}
+use mathlib.Core.Bool.{Bool, true, false, false≢true}
 use mathlib.Core.Logic.{⊎-elim}
 use mathlib.Core.List.{List, [], _∷_, map, List·Memᴰ, List·Memᴰ·head, List·Memᴰ·tail, List·Memᴰ·not-nil, List·Memᴰ·cases-cons}
 use Prim.Native.Nat.{ℕ, _≤_, _<_}
@@ -10,7 +10,7 @@ use native.Mathlib.Omega.{arith}
 use borrow.Author.Tests.{ltb-true, ltb-false, lt-ltb, leb-true, eqb-true, eq-eqb}
 use lib.Dec.{ltb, leb, eqb}
 use Rattle.text.specs.Run.{between}
-use Rattle.text.proofs.Bools.{and-both, or-either, not-holds}
+use Rattle.text.proofs.Bools.{and-both, or-either, not-holds, or-right}
 use Rattle.formula_elements.specs.Elements.{sameSymbol}
 use Rattle.formula_terms.specs.Term.{termOf}
 use Rattle.formula_terms.specs.Terms.{cut, termsOf, some}
@@ -188,11 +188,7 @@ among-some [] m = absurd (List·Memᴰ·not-nil m)
 among-some (Ill ∷ ts) m = among-some ts m
 among-some (Well a b n ∷ ts) m =
     let x : Symbol = record { first = a; second = b } in
-    ⊎-elim (λ q. rw (is-same x carbon (sym q)) refl) (λ k. among-or (same x carbon) (among-some ts k)) (List·Memᴰ·cases-cons m)
-  where
-    among-or : (c : Bool) {d : Bool} → d ≡ true → (c || d) ≡ true
-    among-or true e = refl
-    among-or false e = e
+    ⊎-elim (λ q. rw (is-same x carbon (sym q)) refl) (λ k. or-right (same x carbon) _ (among-some ts k)) (List·Memᴰ·cases-cons m)
 
 -- the text has C exactly where C is among its symbols
 pub carbon-among : (s : List ℕ) → hasCarbon s ≡ true → List·Memᴰ carbon (symbolsOf (termsOf s))

@@ -1,6 +1,7 @@
 -- What rows 1 and 2 say of a text as it is typed, in quotes.
 -- Assumes nothing.
-use Prim.Native.Nat.{ℕ, suc, _+_, _-_, _≤_}
+use Prim.Native.Nat.{ℕ, _+_, _-_, _≤_}
+use native.Mathlib.Nat.{suc-ne-zero}
 use mathlib.Core.Path.{_≡_, refl, sym, ap, _∙_}
 use mathlib.Core.Bool.{Bool, true, false, cond, _&&_, _||_, not, false≢true, and-false}
 use mathlib.Core.Logic.{⊎-elim}
@@ -34,10 +35,6 @@ use Rattle.hydrogen_text.specs.Hydrogens.{inQuotes}
 -- a text without the mark
 abbrev pub Plain : List ℕ → Type 0
 Plain t = all (other 39) t ≡ true
-
--- a number that is 0 is not another one
-zero-not : (k : ℕ) → suc k ≡ 0 → ⊥
-zero-not k e = omega arith
 
 module _ (t : List ℕ) where
   -- a text in quotes is not missing
@@ -113,7 +110,7 @@ module _ (t : List ℕ) where
     where
       holds : (b : Bool) → _≡_ {A = ℕ} (cond b 0 4) 0 → b ≡ true
       holds true e = refl
-      holds false e = absurd (zero-not 3 e)
+      holds false e = absurd (suc-ne-zero 3 e)
 
       known : allRecognised (textOf (inQuotes t)) ≡ true
       known = holds (allRecognised (textOf (inQuotes t))) (sym level-1 ∙ e)
@@ -127,7 +124,7 @@ module _ (t : List ℕ) where
     where
       holds : (b : Bool) → _≡_ {A = ℕ} (cond b 0 3) 0 → b ≡ true
       holds true e = refl
-      holds false e = absurd (zero-not 2 e)
+      holds false e = absurd (suc-ne-zero 2 e)
 
   -- and the other way
   pub row-1-of : Plain t → allRecognised t ≡ true → row1 (inQuotes t) .level ≡ 0

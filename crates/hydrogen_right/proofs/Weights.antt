@@ -2,12 +2,13 @@
 -- Assumes nothing.
 use Prim.Native.Nat.{ℕ, suc, _+_, _*_, _≤_, _<_}
 use mathlib.Core.Path.{_≡_, refl, sym, ap, _∙_}
-use mathlib.Core.Bool.{Bool, true, false, cond, _||_, false≢true}
+use mathlib.Core.Bool.{Bool, true, false, cond}
 use mathlib.Core.List.{List}
 use native.Mathlib.Omega.{arith}
 use borrow.Author.Tests.{ltb-false, le-ltb}
 use lib.Dec.{ltb}
 use lib.IntN.{ℤ, pos, negsuc}
+use Rattle.text.proofs.Bools.{or-neither}
 use Rattle.number_decimal.specs.Reading.{readingOf}
 use Rattle.number_decimal.specs.declared.Reading.{Reading}
 use Rattle.number_decimal.specs.declared.Reading.the-variants.{Number, Nothing}
@@ -49,15 +50,11 @@ third false true c e = absurd (three e)
 third false false true e = absurd (two-not e)
 third false false false e = refl
 
-neither : (a b : Bool) → (a || b) ≡ false → (a ≡ false) × (b ≡ false)
-neither true b e = absurd (false≢true (sym e))
-neither false b e = (refl, e)
-
 -- the bounds of row 4 at level 0
 ratio-is : (g s : ℕ) → ratioLevel (pos g) s ≡ 0 → (99 * s ≤ g * 100) × (g * 100 ≤ 101 * s)
 unfolding ratioLevel bounds
 ratio-is g s e =
-    let k = neither (ltb (g * 100) (99 * s)) (ltb (101 * s) (g * 100)) (third (ratioOutside 90 110 (pos g) s) (ratioOutside 95 105 (pos g) s) (ratioOutside 99 101 (pos g) s) e) in
+    let k = or-neither (ltb (g * 100) (99 * s)) (ltb (101 * s) (g * 100)) (third (ratioOutside 90 110 (pos g) s) (ratioOutside 95 105 (pos g) s) (ratioOutside 99 101 (pos g) s) e) in
     (ltb-false (g * 100) (99 * s) (k .0), ltb-false (101 * s) (g * 100) (k .1))
 
 ratio-of : (g s : ℕ) → 99 * s ≤ g * 100 → g * 100 ≤ 101 * s → ratioLevel (pos g) s ≡ 0

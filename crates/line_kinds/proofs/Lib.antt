@@ -1,4 +1,5 @@
 pub mod KindTable
 pub mod Passes
 pub mod Fits
+pub mod Fitting
 pub mod Wording

@@ -45,10 +45,10 @@ pub record IsEntry (t : List ℕ) (k v : ℕ) : Type 0 where
 name-length : {s : List ℕ} {k : ℕ} → IsName s k → length s ≡ length (itemRow k .name)
 name-length {s} {k} h = sym (length-map s lower) ∙ ap length (h .same) ∙ length-map (itemRow k .name) lower
 
-no-bad-form : (k v : ℕ) → BadForm ≡ Entry k v → ⊥
+pub no-bad-form : (k v : ℕ) → BadForm ≡ Entry k v → ⊥
 no-bad-form k v e = let z : _≡_ {A = ℕ} 0 1 = cc in omega arith
 
-no-wrong-kind : (k v : ℕ) → WrongKind ≡ Entry k v → ⊥
+pub no-wrong-kind : (k v : ℕ) → WrongKind ≡ Entry k v → ⊥
 no-wrong-kind k v e = let z : _≡_ {A = ℕ} 0 1 = cc in omega arith
 
 module _ (t : List ℕ) (k v : ℕ) (short : length t ≤ lineMost) (typed : all isTyped t ≡ true) where

@@ -14,7 +14,7 @@ use lib.Seq.{drop-cons, split-at}
 use lib.IntN.{ℤ, pos, negℤ}
 use Rattle.text.specs.Run.{runOf, all, hasAt, isDigit}
 use Rattle.text.proofs.Bools.{and-both}
-use Rattle.text.proofs.Runs.{run-taken, run-length, run-after, has-within, has-byte}
+use Rattle.text.proofs.Runs.{run-taken, run-length, run-after, has-within, has-byte, has-first}
 use Rattle.number_decimal.specs.Digits.{mostDigits, mostPlaces, mostUncertain}
 use Rattle.number_decimal.specs.Reading.{closesBracket, isTail, sizeOf, partsSize, digitsOf, afterDigits, unsignedOf, signedOf, readingOf}
 use Rattle.number_decimal.specs.Grammar.{SignText, PointText, UncertaintyText, IsSize, IsNumber}
@@ -85,9 +85,6 @@ pointed-is [] fraction some = PointText.after-only fraction (omega arith)
 pointed-is (d ∷ ds) [] some = PointText.before-only (d ∷ ds) (omega arith)
 pointed-is (d ∷ ds) (f ∷ fs) some = PointText.each-side (d ∷ ds) (f ∷ fs) (omega arith) (omega arith)
 
-first-is : (t : List ℕ) (b : ℕ) → hasAt t 0 b ≡ true → t ≡ b ∷ drop 1 t
-first-is t b h = drop-cons t 0 0 (has-within t 0 b h) ∙ rw (has-byte t 0 b h)
-
 -- without a point no digit follows the first ones
 module _ (s : List ℕ) (m : ℕ) where
   size-by : (point : Bool) → hasAt s (runOf isDigit s) 46 ≡ point
@@ -115,8 +112,8 @@ module _ {t : List ℕ} {z : ℤ} where
       record { negative = negative; sign = sign; rest = rest; size = m; text = text; is-sign = s; is-size = size-is rest m u; worth = w }
 
   number-by : (minus plus : Bool) → hasAt t 0 45 ≡ minus → hasAt t 0 43 ≡ plus → signedOf minus (unsignedOf (drop (cond (minus || plus) 1 0) t)) ≡ Number z → IsNumber t z
-  number-by true plus h k e = signed-is (drop 1 t) (unsignedOf (drop 1 t)) (first-is t 45 h) SignText.minus refl e
-  number-by false true h k e = signed-is (drop 1 t) (unsignedOf (drop 1 t)) (first-is t 43 k) SignText.plus refl e
+  number-by true plus h k e = signed-is (drop 1 t) (unsignedOf (drop 1 t)) (has-first t 45 h) SignText.minus refl e
+  number-by false true h k e = signed-is (drop 1 t) (unsignedOf (drop 1 t)) (has-first t 43 k) SignText.plus refl e
   number-by false false h k e = signed-is t (unsignedOf t) refl SignText.unsigned refl e
 
 -- what is read as z the grammar takes for z

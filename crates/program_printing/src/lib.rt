@@ -110,12 +110,6 @@ fn letter_of(level: u8) -> u8
     NO_LETTER
 }
 
-fn wide(x: u8) -> usize
-    ensures { λ r. ⌜ r ≡ x ⌝ }
-{
-    x as usize
-}
-
 // The page with the line of row k + 1 more.
 fn put_row(p: Page, k: usize, row: Row) -> Page
     requires { ⌜ (p .len + rowLineMost ≤ pageMost) × (k < rowCount) ⌝ }
@@ -127,7 +121,7 @@ fn put_row(p: Page, k: usize, row: Row) -> Page
     let p4 = put(p3, b" ");
     let p5 = put_byte(p4, letter_of(row.level));
     let p6 = put(p5, b" ");
-    let p7 = put_decimal(p6, wide(row.reason));
+    let p7 = put_decimal(p6, text::wide(row.reason));
     put(p7, b"\n")
 }
 

@@ -1,7 +1,7 @@
 -- From sound sheets no call of a reading gets 2, and all calls together agree with reading the log whole.
 -- Assumes nothing.
 use mathlib.Core.Path.{_≡_, refl, sym, ap, subst, _∙_}
-use mathlib.Core.Bool.{Bool, true, false, cond, _&&_}
+use mathlib.Core.Bool.{Bool, true, false}
 use mathlib.Core.List.{List, [], _∷_, _++_, append-assoc}
 use Prim.Native.Nat.{ℕ, _+_, _≤_}
 use native.Mathlib.Omega.{arith}
@@ -9,14 +9,12 @@ use borrow.Author.Tests.{eqb-true}
 use lib.Dec.{eqb}
 use lib.ListN.{length, take, replicate}
 use lib.Seq.{length-take-le}
+use Rattle.text.proofs.Bools.{and-true-true, cond-keeps}
 use Rattle.desk_log.specs.Record.{lengthTold}
 use Rattle.reader_cuts.specs.Reading.{lengthLeast, lengthMost, badLength, undecided, Reading, waiting, ended, short, readAll, readWhole, feed}
 use Rattle.reader_cuts.specs.Called.{Called, calledWith, call, answers, afterCalls, answerAndPlace, answersSoFar, callsOf, Agrees, allBytes}
 use Rattle.reader_cuts.proofs.Laws.{good-length, read-few, undecided-few, every-reading}
 use Rattle.reader_cuts.proofs.Cuts.{feed-over, next-part, whole-over}
-
-both : (a b : Bool) → a ≡ true → b ≡ true → (a && b) ≡ true
-both a b p q = rw (p, q)
 
 -- `Fine s at` implies that the sheets are sound, and a record that is taken keeps it
 module _ {S : Type 0} (refusal : ℕ → List ℕ → S → ℕ) (store : List ℕ → S → S) (sound : S → ℕ → Bool) (Fine : S → ℕ → Type 0)
@@ -54,7 +52,7 @@ module _ {S : Type 0} (refusal : ℕ → List ℕ → S → ℕ) (store : List �
   -- a call on a good reading is not refused with 2
   pub call-good : (r : Reading S) (p : List ℕ) (last : Bool) → Good r → call refusal store sound r p last ≡ calledWith (feed refusal store r p last)
   unfolding call
-  call-good r p last g = rw (both (sound (r .sheets) (r .at)) (undecided (r .rest)) (fine-sound (r .sheets) (r .at) (g .fine)) (g .waits))
+  call-good r p last g = rw (and-true-true (sound (r .sheets) (r .at)) (undecided (r .rest)) (fine-sound (r .sheets) (r .at) (g .fine)) (g .waits))
 
   module _ (s : S) (fresh : Fine s 0) where
     abbrev soFar : List ℕ → Reading S
@@ -117,11 +115,7 @@ module _ {S : Type 0} (refusal : ℕ → List ℕ → S → ℕ) (store : List �
   -- after any calls, with any marks, a reading that began so is as good
   feed-good : (r : Reading S) (p : List ℕ) (last : Bool) → Good r → Good (feed refusal store r p last)
   unfolding feed
-  feed-good r p last g = go (r .over) refl
-    where
-      go : (o : Bool) → r .over ≡ o → Good (cond (r .over) r (readAll refusal store last (r .sheets) (r .at) (r .rest ++ p)))
-      go true e = subst (λ (o : Bool). Good (cond o r (readAll refusal store last (r .sheets) (r .at) (r .rest ++ p)))) (sym e) g
-      go false e = subst (λ (o : Bool). Good (cond o r (readAll refusal store last (r .sheets) (r .at) (r .rest ++ p)))) (sym e) (read-good last (r .sheets) (r .at) (r .rest ++ p) (g .fine))
+  feed-good r p last g = cond-keeps Good (r .over) _ _ (λ e. g) (λ e. read-good last (r .sheets) (r .at) (r .rest ++ p) (g .fine))
 
   pub after-good : (r : Reading S) (cs : List (List ℕ × Bool)) → Good r → Good (afterCalls refusal store sound r cs)
   after-good r [] g = g

@@ -111,37 +111,26 @@ first-goes {S = S} refusal store s at bs = go (look refusal s at bs)
           told = λ ne. refl;
         })
 
--- bytes that do not decide a record are read so
-pub read-undecided : {S : Type 0} (refusal : ℕ → List ℕ → S → ℕ) (store : List ℕ → S → S) (last : Bool) (s : S) (at : ℕ) (bs : List ℕ) → undecided bs ≡ true
-    → readAll refusal store last s at bs ≡ short last s at bs
+-- bytes that do not decide a record are fewer than six, or than the good length that they tell
+pub undecided-cases : {C : Type 0} (bs : List ℕ) → undecided bs ≡ true → (length bs < headLength → C)
+    → (headLength ≤ length bs → badLength (lengthTold bs) ≡ false → length bs < lengthTold bs → C) → C
 unfolding undecided
-read-undecided refusal store last s at bs e = go (ltb (length bs) headLength) (badLength (lengthTold bs)) (ltb (length bs) (lengthTold bs)) refl refl refl
+undecided-cases {C} bs e f g = go (ltb (length bs) headLength) (badLength (lengthTold bs)) (ltb (length bs) (lengthTold bs)) refl refl refl
   where
-    go : (a b c : Bool) → ltb (length bs) headLength ≡ a → badLength (lengthTold bs) ≡ b → ltb (length bs) (lengthTold bs) ≡ c → readAll refusal store last s at bs ≡ short last s at bs
-    go true b c p q r = read-few refusal store last s at bs (ltb-true (length bs) headLength p)
-    go false false true p q r = read-part refusal store last s at bs (ltb-false (length bs) headLength p) q (ltb-true (length bs) (lengthTold bs) r)
+    go : (a b c : Bool) → ltb (length bs) headLength ≡ a → badLength (lengthTold bs) ≡ b → ltb (length bs) (lengthTold bs) ≡ c → C
+    go true b c p q r = f (ltb-true (length bs) headLength p)
+    go false false true p q r = g (ltb-false (length bs) headLength p) q (ltb-true (length bs) (lengthTold bs) r)
     go false true c p q r = let z = simp (p, q) at e in absurd (false≢true z)
     go false false false p q r = let z = simp (p, q, r) at e in absurd (false≢true z)
+
+-- they are read so
+pub read-undecided : {S : Type 0} (refusal : ℕ → List ℕ → S → ℕ) (store : List ℕ → S → S) (last : Bool) (s : S) (at : ℕ) (bs : List ℕ) → undecided bs ≡ true
+    → readAll refusal store last s at bs ≡ short last s at bs
+read-undecided refusal store last s at bs e = undecided-cases bs e (read-few refusal store last s at bs) (read-part refusal store last s at bs)
 
 -- as many bytes as a longest record has decide one
 pub undecided-short : (bs : List ℕ) → undecided bs ≡ true → length bs < lengthMost
-unfolding undecided
-undecided-short bs e = go (ltb (length bs) headLength) (badLength (lengthTold bs)) (ltb (length bs) (lengthTold bs)) refl refl refl
-  where
-    go : (a b c : Bool) → ltb (length bs) headLength ≡ a → badLength (lengthTold bs) ≡ b → ltb (length bs) (lengthTold bs) ≡ c → length bs < lengthMost
-    go true b c p q r = omega (arith, ltb-true (length bs) headLength p)
-    go false false true p q r = let g = good-length (lengthTold bs) q in omega (arith, g .1, ltb-true (length bs) (lengthTold bs) r)
-    go false true c p q r = let z = simp (p, q) at e in absurd (false≢true z)
-    go false false false p q r = let z = simp (p, q, r) at e in absurd (false≢true z)
+undecided-short bs e = undecided-cases bs e (λ l. omega (arith, l)) (λ h q l. let g = good-length (lengthTold bs) q in omega (arith, g .1, l))
 
--- bytes that do not decide a record are fewer than six or than its length
 pub undecided-less : (bs : List ℕ) → undecided bs ≡ true → (length bs < headLength) ⊎ (length bs < lengthTold bs)
-unfolding undecided
-undecided-less bs e = go (ltb (length bs) headLength) (badLength (lengthTold bs)) (ltb (length bs) (lengthTold bs)) refl refl refl
-  where
-    go : (a b c : Bool) → ltb (length bs) headLength ≡ a → badLength (lengthTold bs) ≡ b → ltb (length bs) (lengthTold bs) ≡ c
-        → (length bs < headLength) ⊎ (length bs < lengthTold bs)
-    go true b c p q r = inl (ltb-true (length bs) headLength p)
-    go false b true p q r = inr (ltb-true (length bs) (lengthTold bs) r)
-    go false true false p q r = let z = simp (p, q, r) at e in absurd (false≢true z)
-    go false false false p q r = let z = simp (p, q, r) at e in absurd (false≢true z)
+undecided-less bs e = undecided-cases bs e (λ l. inl l) (λ h q l. inr l)

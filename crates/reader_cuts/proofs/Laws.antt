@@ -1,7 +1,7 @@
 -- Laws of `readAll`: one for each case of the first record.
 -- Assumes nothing.
 use mathlib.Core.Path.{_≡_, refl, sym, ap, _∙_}
-use mathlib.Core.Bool.{Bool, true, false, cond, _||_, false≢true}
+use mathlib.Core.Bool.{Bool, true, false, cond}
 use mathlib.Core.List.{List, _++_}
 use Prim.Native.Nat.{ℕ, zero, suc, _+_, _≤_, _<_}
 use native.Mathlib.Omega.{arith}
@@ -9,6 +9,7 @@ use borrow.Author.Tests.{ltb-true, ltb-false, lt-ltb, le-ltb}
 use lib.Dec.{ltb, eqb}
 use lib.ListN.{length, take, drop, length-drop, length-append, List·getD-append}
 use lib.Seq.{take-append-le, drop-append-le}
+use Rattle.text.proofs.Bools.{or-neither, or-right}
 use Rattle.desk_log.specs.Record.{headLength, lengthTold}
 use Rattle.reader_cuts.specs.Reading.{lengthLeast, lengthMost, badLength, undecided, Reading, ended, short, readFrom, readAll}
 
@@ -21,14 +22,10 @@ pub cond-else : {A : Type 0} (t : Bool) (x y y′ : A) → (t ≡ false → y �
 cond-else true x y y′ f = refl
 cond-else false x y y′ f = f refl
 
-or-none : (a b : Bool) → (a || b) ≡ false → (a ≡ false) × (b ≡ false)
-or-none true b e = absurd (false≢true (sym e))
-or-none false b e = (refl, e)
-
 -- a length that is not bad
 pub good-length : (n : ℕ) → badLength n ≡ false → (lengthLeast ≤ n) × (n ≤ lengthMost)
 good-length n e =
-    let p = or-none (ltb n lengthLeast) (ltb lengthMost n) e in
+    let p = or-neither (ltb n lengthLeast) (ltb lengthMost n) e in
     (ltb-false n lengthLeast (p .0), ltb-false lengthMost n (p .1))
 
 pub length-good : (n : ℕ) → lengthLeast ≤ n → n ≤ lengthMost → badLength n ≡ false
@@ -182,10 +179,6 @@ look refusal s at bs =
     go false false true d p q r e = part (ltb-false (length bs) headLength p) q (ltb-true (length bs) (lengthTold bs) r)
     go false false false false p q r e = refused (ltb-false (length bs) headLength p) q (ltb-false (length bs) (lengthTold bs) r) e
     go false false false true p q r e = taken (ltb-false (length bs) headLength p) q (ltb-false (length bs) (lengthTold bs) r) e
-
-or-right : (a b : Bool) → b ≡ true → (a || b) ≡ true
-or-right true b e = refl
-or-right false b e = e
 
 pub undecided-few : (bs : List ℕ) → length bs < headLength → undecided bs ≡ true
 unfolding undecided

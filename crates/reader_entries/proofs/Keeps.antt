@@ -18,7 +18,7 @@ use Rattle.desk_soundness.specs.SoundLog.{logMost}
 use Rattle.desk_soundness.specs.SoundMemory.{soundMemory, soundForKeys}
 use Rattle.desk_entries.specs.Lent.{takes}
 use Rattle.desk_entries.proofs.Camps.{sheet-in}
-use Rattle.desk_entries.proofs.Items.{fitting}
+use Rattle.line_kinds.proofs.Fitting.{fitting}
 use Rattle.desk_entries.proofs.Sounds as entries
 use Rattle.reader_cuts.specs.Reading.{lengthLeast}
 use Rattle.desk_log.specs.Record.{benchTold, itemTold, valueTold}

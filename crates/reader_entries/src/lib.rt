@@ -6,12 +6,6 @@ use desk_log::HEAD;
 use desk_memory::USED_AT;
 use reader_answers::FeedAnswer;
 
-fn wide(b: u8) -> usize
-    ensures { λ r. ⌜ r ≡ b ⌝ }
-{
-    b as usize
-}
-
 // Takes the record that starts at the used number, if it has a record's shape and its item is open to its bench: it is stored as Enter stores an entry, and the
 // used number is then its end. A refused record changes nothing; memory that is no desk takes none.
 pub fn take_record(texts: &mut [u8], numbers: &mut [usize], r: &[u8]) -> FeedAnswer
@@ -24,8 +18,8 @@ pub fn take_record(texts: &mut [u8], numbers: &mut [usize], r: &[u8]) -> FeedAns
     if !reader_records::has_shape(start, r) {
         return FeedAnswer::BadShape;
     }
-    let bench = wide(r[4]);
-    let item = wide(r[5]);
+    let bench = text::wide(r[4]);
+    let item = text::wide(r[5]);
     if !desk_entries::is_open(numbers, bench, item - 1) {
         return FeedAnswer::ForeignOverwrite;
     }

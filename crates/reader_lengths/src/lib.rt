@@ -10,12 +10,6 @@ const LENGTH_LEAST: usize = HEAD + 1;
 
 pub const LENGTH_MOST: usize = 206;
 
-fn wide(b: u8) -> usize
-    ensures { λ r. ⌜ r ≡ b ⌝ }
-{
-    b as usize
-}
-
 // What the first bytes of a record tell of its length.
 pub fn length_told(bs: &[u8]) -> usize
     ensures { λ r. ⌜ (r ≡ lengthTold (now (bs .entry))) × (r < 65536) ⌝ }
@@ -23,11 +17,11 @@ pub fn length_told(bs: &[u8]) -> usize
     if bs.len() < 1 {
         return 0;
     }
-    let low = wide(bs[0]);
+    let low = text::wide(bs[0]);
     if bs.len() < 2 {
         return low;
     }
-    low + 256 * wide(bs[1])
+    low + 256 * text::wide(bs[1])
 }
 
 // Whether a record has not that length.

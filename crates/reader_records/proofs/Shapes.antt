@@ -5,16 +5,17 @@ use mathlib.Core.Bool.{Bool, true, false, false≢true}
 use mathlib.Core.List.{List}
 use Prim.Native.Nat.{ℕ, _+_, _-_, _≤_, _<_}
 use native.Mathlib.Omega.{arith}
-use borrow.Author.Tests.{ltb-true, ltb-false, leb-true, leb-false, le-leb, lt-leb, eqb-true}
+use borrow.Author.Tests.{ltb-true, ltb-false, leb-true, eqb-true}
 use lib.Dec.{ltb, leb, eqb}
 use lib.ListN.{length, getD, List·getD-eq-default}
 use Rattle.text.proofs.Bools.{and-both, not-holds}
-use Rattle.line_kinds.specs.Kinds.{passes, fits}
-use Rattle.line_kinds.proofs.Passes.{passes-known}
+use Rattle.line_kinds.specs.Kinds.{fits}
+use Rattle.line_kinds.proofs.Fitting.{fitting}
 use Rattle.line_items.specs.Items.{itemCount}
 use Rattle.desk_log.specs.Record.{headLength, benchTold, itemTold, valueTold}
 use Rattle.desk_state.specs.Desks.{benchCount}
 use Rattle.desk_soundness.specs.SoundLog.{logMost}
+use Rattle.desk_soundness.proofs.Counts.{count-taken}
 use Rattle.reader_records.specs.Shape.{shaped}
 
 -- the tests of the shape, one by one
@@ -40,27 +41,18 @@ shaped-parts start r e =
       within = leb-true (start + length r) logMost (fit .1);
     }
 
--- the item of a value that fits is known
-pub fits-known : (item : ℕ) (v : List ℕ) → fits item v ≡ true → (1 ≤ item) × (item ≤ itemCount)
-unfolding fits
-fits-known item v e = passes-known item v (and-both (passes item v) _ e .0)
-
 -- without a whole head there is no item
 pub short-shapeless : (start : ℕ) (r : List ℕ) → length r < headLength → shaped start r ≡ false
 short-shapeless start r h =
     not-holds (shaped start r) (λ e.
     let p = shaped-parts start r e in
-    let k = fits-known (itemTold r) (valueTold r) (p .fit) in
+    let k = fitting (itemTold r) (valueTold r) (p .fit) in
     let z : itemTold r ≡ 0 = List·getD-eq-default r 0 (omega arith) in
-    omega (arith, k .0, z))
+    omega (arith, k .some, z))
 
 -- what is left of the log holds a record exactly when it ends within the log
 pub ends-within : (start n most : ℕ) → start ≤ most → leb n (most - start) ≡ leb (start + n) most
-ends-within start n most h = go (leb n (most - start)) refl
-  where
-    go : (b : Bool) → leb n (most - start) ≡ b → leb n (most - start) ≡ leb (start + n) most
-    go true e = let l = leb-true n (most - start) e in e ∙ sym (le-leb (start + n) most (omega arith))
-    go false e = let l = leb-false n (most - start) e in e ∙ sym (lt-leb (start + n) most (omega arith))
+ends-within start n most h = sym (count-taken start n most h)
 
 -- a record of that shape has a whole head, and its item is known
 pub shaped-long : (start : ℕ) (r : List ℕ) → shaped start r ≡ true → headLength ≤ length r
@@ -71,4 +63,4 @@ shaped-long start r e = go (ltb (length r) headLength) refl
     go false p = ltb-false (length r) headLength p
 
 pub shaped-item : (start : ℕ) (r : List ℕ) → shaped start r ≡ true → (1 ≤ itemTold r) × (itemTold r ≤ itemCount)
-shaped-item start r e = fits-known (itemTold r) (valueTold r) (shaped-parts start r e .fit)
+shaped-item start r e = let f = fitting (itemTold r) (valueTold r) (shaped-parts start r e .fit) in (f .some, f .known)

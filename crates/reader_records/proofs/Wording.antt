@@ -5,16 +5,14 @@ use mathlib.Core.Bool.{true, false}
 use mathlib.Core.List.{List, [], _∷_}
 use Prim.Native.Nat.{ℕ, _+_, _*_, _/_, _%_, _≤_, _<_}
 use native.Mathlib.Omega.{arith}
-use borrow.Author.Tests.{leb-true, le-leb, lt-ltb}
+use borrow.Author.Tests.{le-leb, lt-ltb}
 use lib.ListN.{length, getD, drop}
-use Rattle.text.specs.Run.{all}
-use Rattle.text.proofs.Bools.{and-both}
-use Rattle.line_values.specs.Value.{isValue}
 use Rattle.line_values.proofs.Values.{value-is, value-taken}
 use Rattle.line_items.specs.Items.{itemRow}
-use Rattle.line_items.specs.Typed.{lineMost, isTyped}
+use Rattle.line_items.specs.Typed.{lineMost}
 use Rattle.line_kinds.specs.Kinds.{passes, fits}
 use Rattle.line_kinds.proofs.Wording.{passes-is, passes-taken}
+use Rattle.line_kinds.proofs.Fitting.{fitting}
 use Rattle.desk_log.specs.Record.{headLength, recordLength, recordOf, lengthTold, benchTold, itemTold, valueTold}
 use Rattle.desk_state.specs.Desks.{benchCount}
 use Rattle.desk_soundness.specs.SoundLog.{logMost}
@@ -22,7 +20,7 @@ use Rattle.reader_cuts.specs.Reading.{badLength}
 use Rattle.reader_cuts.proofs.Laws.{good-length, length-good}
 use Rattle.reader_records.specs.Shape.{shaped}
 use Rattle.reader_records.specs.Wording.{IsRecord}
-use Rattle.reader_records.proofs.Shapes.{shaped-parts, fits-known}
+use Rattle.reader_records.proofs.Shapes.{shaped-parts}
 
 -- the first six bytes and the rest of a list that has them
 six : (r : List ℕ) → headLength ≤ length r
@@ -62,26 +60,22 @@ is-record-of r e g k z =
 module _ (start : ℕ) (r : List ℕ) where
   -- a record of good length and shape is one in the request's words
   pub shape-is : lengthTold r ≡ length r → badLength (length r) ≡ false → shaped start r ≡ true → IsRecord start r (benchTold r) (itemTold r) (valueTold r)
-  unfolding fits
   shape-is e g h =
       let p = shaped-parts start r h in
       let good = good-length (length r) g in
       let v : List ℕ = valueTold r in
-      let known = fits-known (itemTold r) v (p .fit) in
-      let kind = and-both (passes (itemTold r) v) _ (p .fit) in
-      let form = and-both (isValue v) _ (kind .1) in
-      let bytes = and-both (all isTyped v) _ (form .1) in
+      let f = fitting (itemTold r) v (p .fit) in
       record {
         bytes = is-record-of r e g (p .kind-low) (p .kind-high);
         least = good .0;
         most = good .1;
         bench-in = p .bench-in;
-        first = known .0;
-        last = known .1;
-        form = value-is v (form .0);
-        kind = passes-is (itemTold r) v (kind .0);
-        typed = bytes .0;
-        line = leb-true (length (itemRow (itemTold r) .name) + 1 + length v) lineMost (bytes .1);
+        first = f .some;
+        last = f .known;
+        form = value-is v (f .value);
+        kind = passes-is (itemTold r) v (f .passes);
+        typed = f .typed;
+        line = f .line;
         within = p .within;
       }
 

@@ -5,12 +5,6 @@ use desk_log::HEAD;
 use desk_soundness::LOG_MOST;
 use desk_state::desk::BENCH_COUNT;
 
-fn wide(b: u8) -> usize
-    ensures { λ r. ⌜ r ≡ b ⌝ }
-{
-    b as usize
-}
-
 // Whether a whole record that starts at a byte of the log has a record's shape, its length apart.
 pub fn has_shape(start: usize, r: &[u8]) -> bool
     ensures { λ b. ⌜ b ≡ shaped start (now (r .entry)) ⌝ }
@@ -24,10 +18,10 @@ pub fn has_shape(start: usize, r: &[u8]) -> bool
     if r[3] != 0 {
         return false;
     }
-    if BENCH_COUNT <= wide(r[4]) {
+    if BENCH_COUNT <= text::wide(r[4]) {
         return false;
     }
-    if !line_kinds::fits_item(wide(r[5]), &r[HEAD..]) {
+    if !line_kinds::fits_item(text::wide(r[5]), &r[HEAD..]) {
         return false;
     }
     if LOG_MOST < start {

@@ -1,9 +1,9 @@
 -- What rows 13 to 24 say in the request's words: shown once over the table, by the rule and not by the row.
 -- Assumes nothing.
 use mathlib.Core.Path.{_≡_, refl, sym, ap, _∙_}
-use mathlib.Core.Bool.{Bool, true, false, cond, not, _&&_, _||_, false≢true, true≢false}
+use mathlib.Core.Bool.{Bool, true, false, cond, not, _||_, false≢true, true≢false}
 use mathlib.Core.List.{List}
-use mathlib.Core.Logic.{_⊎_, inl, inr, ⊎-elim, _↔_}
+use mathlib.Core.Logic.{_⊎_, inl, inr, _↔_}
 use Prim.Native.Nat.{ℕ, _+_, _-_, _≤_, _<_}
 use native.Mathlib.Omega.{arith}
 use borrow.Author.Tests.{ltb-false, not-true}
@@ -12,7 +12,7 @@ use lib.IntN.{ℤ, pos, negsuc}
 use lib.Signed.{ltZ, _<ℤ_, <ℤ-irrefl}
 use Rattle.text.specs.Quote.{bytes}
 use Rattle.text.specs.Run.{runOf, hasAt, kindAt, between}
-use Rattle.text.proofs.Bools.{and-both, or-either, not-holds}
+use Rattle.text.proofs.Bools.{not-holds, or-neither, and-is, or-is}
 use Rattle.text.proofs.Tables.{agree}
 use Rattle.number_decimal.specs.Reading.{readingOf, unsignedOf, sizeOf, isTail}
 use Rattle.number_decimal.specs.Digits.{valueFrom}
@@ -38,13 +38,9 @@ told false e = absurd (false≢true e)
 pub above-is : (x y : ℤ) → (ltZ y x ≡ true) ↔ (y <ℤ x)
 above-is x y = (λ e. record { lt = told (ltZ y x) e }, λ h. holds (ltZ y x) (h .lt))
 
-neither : (a b : Bool) → (a || b) ≡ false → (a ≡ false) × (b ≡ false)
-neither true b e = absurd (true≢false e)
-neither false b e = (refl, e)
-
 same-so : (x y : ℤ) → (ltZ y x || ltZ x y) ≡ false → x ≡ y
 same-so (pos a) (pos b) e =
-    let h = neither (ltb b a) (ltb a b) e in
+    let h = or-neither (ltb b a) (ltb a b) e in
     let l = ltb-false b a (h .0) in
     let m = ltb-false a b (h .1) in
     let q : a ≡ b = omega arith in
@@ -52,7 +48,7 @@ same-so (pos a) (pos b) e =
 same-so (pos a) (negsuc b) e = absurd (true≢false e)
 same-so (negsuc a) (pos b) e = absurd (true≢false e)
 same-so (negsuc a) (negsuc b) e =
-    let h = neither (ltb a b) (ltb b a) e in
+    let h = or-neither (ltb a b) (ltb b a) e in
     let l = ltb-false a b (h .0) in
     let m = ltb-false b a (h .1) in
     let q : a ≡ b = omega arith in
@@ -112,17 +108,6 @@ module _ (v w : List ℕ) (a : There v) (b : There w) where
 
   pub same-both : (not (orderOf v w .differ) ≡ true) ↔ Both (λ x y. x ≡ y) v w
   same-both = joined (λ o. not (o .differ)) (λ x y. x ≡ y) (same-is (a .worth) (b .worth))
-
--- both tests of a conjunction
-pub and-is : {a b : Bool} {A B : Type 0} → (a ≡ true) ↔ A → (b ≡ true) ↔ B → ((a && b) ≡ true) ↔ (A × B)
-and-is {a} {b} p q = (λ e. let h = and-both a b e in (p .0 (h .0), q .0 (h .1)), λ h. simp (p .1 (h .0), q .1 (h .1)))
-
-pub or-is : {a b : Bool} {A B : Type 0} → (a ≡ true) ↔ A → (b ≡ true) ↔ B → ((a || b) ≡ true) ↔ (A ⊎ B)
-or-is {a} {b} p q = (λ e. ⊎-elim (λ x. inl (p .0 x)) (λ y. inr (q .0 y)) (or-either a b e), ⊎-elim (λ x. simp (p .1 x)) (λ y. last a (q .1 y)))
-  where
-    last : (a : Bool) → b ≡ true → (a || b) ≡ true
-    last true e = refl
-    last false e = e
 
 -- a rule whose row is by two tests: whether all is there, and whether the rule is broken
 compared-judges : {whole breaks : Type 0} (known broken : Bool) → (known ≡ true) ↔ whole → (whole → (broken ≡ true) ↔ breaks) → Judges whole breaks 0 (comparedRow known broken)

@@ -1,10 +1,11 @@
 -- The cases of the definitions of rows 4 and 5, each with the tests that lead to it.
 -- Assumes nothing.
 use mathlib.Core.Path.{_≡_, refl, ap, _∙_}
-use mathlib.Core.Bool.{Bool, true, false, cond}
+use mathlib.Core.Bool.{true, false, cond}
 use mathlib.Core.List.{List}
 use Prim.Native.Nat.{ℕ}
 use lib.IntN.{ℤ}
+use Rattle.text.proofs.Bools.{cond-same}
 use Rattle.number_decimal.specs.Reading.{readingOf}
 use Rattle.number_decimal.specs.declared.Reading.{Reading}
 use Rattle.number_decimal.specs.declared.Reading.the-variants.{Number, Nothing}
@@ -20,10 +21,6 @@ use Rattle.rows_weight.specs.declared.Weighed.{Weighed}
 use Rattle.rows_weight.specs.declared.Weighed.the-variants.{Both, NotBoth}
 
 -- what is judged of a formula's text and a weight
-neither : (t : Bool) → cond t NotBoth NotBoth ≡ NotBoth
-neither true = refl
-neither false = refl
-
 not-both : (r : Reading) (w : Weight) → w ≡ NoWeight → weighedBy r w ≡ NotBoth
 not-both (Number z) w e = ap (weighedBy (Number z)) e
 not-both Nothing w e = refl
@@ -31,11 +28,11 @@ not-both Nothing w e = refl
 module _ (t w : List ℕ) where
   pub weighed-unread : readingOf w ≡ Nothing → weighedOf t w ≡ NotBoth
   unfolding weighedOf
-  weighed-unread e = ap (λ (r : Reading). cond (allRecognised t) (weighedBy r (sumOf t)) NotBoth) e ∙ neither (allRecognised t)
+  weighed-unread e = ap (λ (r : Reading). cond (allRecognised t) (weighedBy r (sumOf t)) NotBoth) e ∙ cond-same (allRecognised t) NotBoth
 
   pub weighed-none : sumOf t ≡ NoWeight → weighedOf t w ≡ NotBoth
   unfolding weighedOf
-  weighed-none e = ap (λ (x : Weighed). cond (allRecognised t) x NotBoth) (not-both (readingOf w) (sumOf t) e) ∙ neither (allRecognised t)
+  weighed-none e = ap (λ (x : Weighed). cond (allRecognised t) x NotBoth) (not-both (readingOf w) (sumOf t) e) ∙ cond-same (allRecognised t) NotBoth
 
   pub weighed-both : (z : ℤ) (s : ℕ) → readingOf w ≡ Number z → sumOf t ≡ Thousandths s → weighedOf t w ≡ Both z (millionths s)
   unfolding weighedOf

@@ -55,17 +55,11 @@ pub fn hints_of(codes: &[u64]) -> [u8; 4096]
     hints
 }
 
-fn wide(x: u8) -> usize
-    ensures { λ r. ⌜ r ≡ x ⌝ }
-{
-    x as usize
-}
-
 // Whether a code is there: first where its hint says, then everywhere. The hints may be any.
 pub fn has_hinted(codes: &[u64], hints: &[u8; 4096], c: u64) -> bool
     ensures { λ r. ⌜ r ≡ has eqb (now (codes .entry)) c ⌝ }
 {
-    let at = wide(hints[hint_of(c)]);
+    let at = text::wide(hints[hint_of(c)]);
     if at < codes.len() {
         if codes[at] == c {
             return true;

@@ -1,8 +1,8 @@
 -- An accepted list of operators is a group.
 -- Assumes nothing.
-use mathlib.Core.Path.{_≡_, refl, sym, ap, subst, _∙_}
+use mathlib.Core.Path.{_≡_, sym, ap, subst, _∙_}
 use mathlib.Core.Bool.{Bool, true, false≢true}
-use mathlib.Core.List.{List, [], _∷_, _++_}
+use mathlib.Core.List.{List, [], _∷_}
 use Prim.Native.Nat.{ℕ, _+_, _*_, _-_, _%_, _<_}
 use native.Mathlib.Omega.{arith}
 use lib.IntN.{ℤ}
@@ -13,6 +13,7 @@ use Rattle.symmetry_operators.specs.Wording.{In}
 use Rattle.symmetry_operators.specs.Group.{Inverse, Group}
 use Rattle.text.specs.Run.{all}
 use Rattle.text.proofs.Bools.{and-both}
+use Rattle.text.proofs.Runs.{all-both}
 use Rattle.symmetry_operators.proofs.Residue.{reduced-small, scaled-small}
 use Rattle.symmetry_operators.specs.Residues.{residuesPart, residues, afterN, productN}
 use Rattle.symmetry_operators.proofs.Modulo.{times-assoc, part-path, row-path}
@@ -31,14 +32,6 @@ pub record Passed (l : List (Row ℤ)) : Type 0 where
   pub products : all (closes l) (pairs l) ≡ true
 
 -- ---- what holds of all pairs holds of each
-all-parts : {A : Type 0} (p : A → Bool) (l m : List A) → all p (l ++ m) ≡ true → (all p l ≡ true) × (all p m ≡ true)
-unfolding all
-all-parts p [] m e = (refl, e)
-all-parts p (a ∷ l) m e =
-    let b = and-both (p a) _ e in
-    let c = all-parts p l m (b .1) in
-    (rw (b .0) (c .0), c .1)
-
 pub all-has : (p : Row ℤ → Bool) (l : List (Row ℤ)) (r : Row ℤ) → all p l ≡ true → Has l r → p r ≡ true
 unfolding all
 all-has p [] r h i = absurd (false≢true i)
@@ -54,8 +47,8 @@ with-each p r s (c ∷ m) e i = in-cases same same-is same-self c m s i (λ q. s
 pub each-pair : (p : Row ℤ × Row ℤ → Bool) (l m : List (Row ℤ)) (r s : Row ℤ) → all p (pairsWith l m) ≡ true → Has l r → Has m s → p (r, s) ≡ true
 each-pair p [] m r s e i j = absurd (false≢true i)
 each-pair p (c ∷ l) m r s e i j = in-cases same same-is same-self c l r i
-    (λ q. subst (λ d. p (d, s) ≡ true) (sym q) (with-each p c s m (all-parts p (withEach c m) (pairsWith l m) e .0) j))
-    (λ k. each-pair p l m r s (all-parts p (withEach c m) (pairsWith l m) e .1) k j)
+    (λ q. subst (λ d. p (d, s) ≡ true) (sym q) (with-each p c s m (all-both p (withEach c m) (pairsWith l m) e .0) j))
+    (λ k. each-pair p l m r s (all-both p (withEach c m) (pairsWith l m) e .1) k j)
 
 -- ---- the identity
 identity-residues : (s : Row ℤ) → productN (residues identity) (residues s) ≡ residues s

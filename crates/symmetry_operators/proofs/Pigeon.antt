@@ -1,22 +1,14 @@
 -- Lists without two equal elements: a map into the list that takes no two elements to one takes some element to each.
 -- Assumes nothing.
 use mathlib.Core.Path.{_≡_, refl, sym, ap, subst, _∙_}
-use mathlib.Core.Bool.{Bool, true, false, cond, not, _||_, false≢true, true≢false}
+use mathlib.Core.Bool.{Bool, true, false, cond, not, false≢true, true≢false}
 use mathlib.Core.List.{List, [], _∷_, map}
 use Prim.Native.Nat.{ℕ, zero, suc, _≤_, _<_}
 use native.Mathlib.Omega.{arith}
 use lib.ListN.{length, length-map, getD}
-use Rattle.text.proofs.Bools.{and-both, not-holds}
+use Rattle.text.proofs.Bools.{and-both, not-holds, or-left, or-right}
 use Rattle.symmetry_operators.specs.Lists.{has, distinct}
 use Rattle.symmetry_operators.specs.Wording.{In}
-
-pub or-right : (a b : Bool) → b ≡ true → (a || b) ≡ true
-or-right true b e = refl
-or-right false b e = e
-
-pub or-left : (a b : Bool) → a ≡ true → (a || b) ≡ true
-or-left true b e = refl
-or-left false b e = absurd (false≢true e)
 
 pub by-cases : {C : Type 0} (t : Bool) → (t ≡ true → C) → (t ≡ false → C) → C
 by-cases true f g = f refl

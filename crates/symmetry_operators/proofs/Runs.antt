@@ -10,16 +10,13 @@ use borrow.Author.Tests.{ne-eqb}
 use lib.Dec.{eqb}
 use lib.ListN.{length, getD, length-append}
 use Rattle.text.specs.Run.{all}
+use Rattle.text.proofs.Bools.{cond-ap}
 use Rattle.symmetry_operators.specs.Lists.{looked, withEach, pairsWith}
 
 -- how many come before the first that fails
 abbrev pub run : {A : Type 0} → (A → Bool) → List A → ℕ
 run p [] = 0
 run p (a ∷ l) = cond (p a) (suc (run p l)) 0
-
-suc-cond : (t : Bool) (m n : ℕ) → suc (cond t m n) ≡ cond t (suc m) (suc n)
-suc-cond true m n = refl
-suc-cond false m n = refl
 
 module _ {A : Type 0} (p : A → Bool) where
   pub run-append : (l m : List A) → run p (l ++ m) ≡ cond (all p l) (length l + run p m) (run p l)
@@ -29,7 +26,7 @@ module _ {A : Type 0} (p : A → Bool) where
     where
       go : run p (l ++ m) ≡ cond (all p l) (length l + run p m) (run p l) → (t : Bool) → p a ≡ t
           → cond t (suc (run p (l ++ m))) 0 ≡ cond (t && all p l) (suc (length l) + run p m) (cond t (suc (run p l)) 0)
-      go ih true e = ap suc ih ∙ suc-cond (all p l) (length l + run p m) (run p l) ∙ ap (λ (n : ℕ). cond (all p l) n (suc (run p l))) (omega arith)
+      go ih true e = ap suc ih ∙ cond-ap suc (all p l) (length l + run p m) (run p l) ∙ ap (λ (n : ℕ). cond (all p l) n (suc (run p l))) (omega arith)
       go ih false e = refl
 
   pub run-le : (l : List A) → run p l ≤ length l
@@ -56,7 +53,7 @@ module _ {A : Type 0} (p : A → Bool) where
     where
       go : looked p l ≡ cond (all p l) (length l) (suc (run p l)) → (t : Bool)
           → suc (cond t (looked p l) 0) ≡ cond (t && all p l) (suc (length l)) (suc (cond t (suc (run p l)) 0))
-      go ih true = ap suc ih ∙ suc-cond (all p l) (length l) (suc (run p l))
+      go ih true = ap suc ih ∙ cond-ap suc (all p l) (length l) (suc (run p l))
       go ih false = refl
 
   -- the first that fails stands where the run ends, and all before it hold

@@ -1,23 +1,24 @@
 -- The tests of the check are the request's words, both ways; an accepted list is a group.
 -- Assumes nothing.
 use mathlib.Core.Path.{_≡_, refl, sym, ap, subst, _∙_}
-use mathlib.Core.Bool.{Bool, true, false, cond, not, _&&_, false≢true, true≢false}
+use mathlib.Core.Bool.{Bool, true, false, cond, not, _&&_, true≢false}
 use mathlib.Core.Logic.{_⊎_, inl, inr, ⊎-elim, _↔_}
-use mathlib.Core.List.{List, [], _∷_, _++_}
-use Prim.Native.Nat.{ℕ, zero, suc, _+_, _*_, _%_, _<_}
+use mathlib.Core.List.{List, [], _∷_}
+use Prim.Native.Nat.{ℕ, zero, suc, _*_, _%_, _<_}
 use native.Mathlib.Omega.{arith}
 use borrow.Author.Tests.{eqb-true, eqb-false, eq-eqb, leb-true, leb-false, le-leb}
 use lib.Dec.{eqb, leb}
 use lib.IntN.{ℤ, pos, negsuc}
 use lib.ListN.{length, getD}
 use Rattle.text.specs.Run.{all}
-use Rattle.text.proofs.Bools.{and-both, or-either, not-holds}
+use Rattle.text.proofs.Bools.{and-both, or-either, not-holds, or-left, or-right, fails}
+use Rattle.text.proofs.Runs.{all-append, all-at}
 use Rattle.symmetry_operators.specs.Operator.{Row, product, determinant, identity, eqZ, same, fine, turns}
 use Rattle.symmetry_operators.specs.Lists.{has, distinct, withEach, pairsWith}
 use Rattle.symmetry_operators.specs.Check.{rowMost, operatorRows, closes, pairs, closing, judged, listShaped, checked, outcome, Outcome}
 use Rattle.symmetry_operators.specs.Wording.{In, Some, operatorRow, NoList, too-many, part-row, out-of-range, HasUnit, NoUnit, EqualRows, ProductMissing, IsList, Accepted}
 use Rattle.symmetry_operators.specs.Group.{Group}
-use Rattle.symmetry_operators.proofs.Pigeon.{by-cases, not-is, has-in, in-has, or-left, or-right}
+use Rattle.symmetry_operators.proofs.Pigeon.{by-cases, not-is, has-in, in-has}
 use Rattle.symmetry_operators.proofs.Rows.{eqZ-is, eqZ-self, same-is, same-self}
 use Rattle.symmetry_operators.proofs.Groups.{Passed, each-pair, group}
 
@@ -39,14 +40,8 @@ module _ {A : Type 0} where
   in-at l k d h = record { place = k; within = h; here = getD-any l k (getD l k d) d h }
 
   -- a test of all: what holds of all holds of each; where it fails it fails of some
-  each-at : (p : A → Bool) (l : List A) (k : ℕ) (d : A) → all p l ≡ true → k < length l → p (getD l k d) ≡ true
-  unfolding all
-  each-at p [] k d e h = absurd (omega arith)
-  each-at p (b ∷ l) zero d e h = and-both (p b) (all p l) e .0
-  each-at p (b ∷ l) (suc k) d e h = each-at p l k d (and-both (p b) (all p l) e .1) (omega arith)
-
   pub each : (p : A → Bool) (l : List A) → all p l ≡ true → (a : A) → In l a → p a ≡ true
-  each p l e a i = subst (λ b. p b ≡ true) (i .here) (each-at p l (i .place) a e (i .within))
+  each p l e a i = subst (λ b. p b ≡ true) (i .here) (all-at p l (i .place) a e (i .within))
 
   pub all-of : (p : A → Bool) (l : List A) → ((a : A) → In l a → p a ≡ true) → all p l ≡ true
   unfolding all
@@ -68,9 +63,6 @@ has-row = has-in same same-is same-self
 
 pub row-has : (l : List (Row ℤ)) (r : Row ℤ) → In l r → has same l r ≡ true
 row-has = in-has same same-is same-self
-
-fails : {t : Bool} → t ≡ false → t ≡ true → ⊥
-fails e f = false≢true (sym e ∙ f)
 
 -- "more than 192 rows, a part row or a number out of range"
 pub shaped-is : (n : List ℤ) → listShaped n ≡ true → IsList n
@@ -158,11 +150,6 @@ distinct-taken l f = by-cases (distinct same l) (λ e. e)
 -- "each product of two, or of one with itself, is in the list"
 pub closes-is : (l : List (Row ℤ)) → all (closes l) (pairs l) ≡ true → (r s : Row ℤ) → In l r → In l s → In l (product r s)
 closes-is l e r s i j = has-row l (product r s) (each-pair (closes l) l l r s e (row-has l r i) (row-has l s j))
-
-all-append : {A : Type 0} (p : A → Bool) (l m : List A) → all p l ≡ true → all p m ≡ true → all p (l ++ m) ≡ true
-unfolding all
-all-append p [] m e f = f
-all-append p (a ∷ l) m e f = let b = and-both (p a) _ e in rw (b .0) (all-append p l m (b .1) f)
 
 all-with : (p : Row ℤ × Row ℤ → Bool) (r : Row ℤ) (m : List (Row ℤ)) → ((s : Row ℤ) → In m s → p (r, s) ≡ true) → all p (withEach r m) ≡ true
 unfolding all

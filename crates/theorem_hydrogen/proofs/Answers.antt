@@ -5,6 +5,7 @@ use mathlib.Core.Path.{_≡_, refl, sym, ap, subst⁻¹, _∙_}
 use mathlib.Core.Bool.{Bool, true, false, cond}
 use mathlib.Core.Logic.{_⊎_, inl, inr}
 use mathlib.Core.List.{List}
+use Rattle.text.proofs.Bools.{fails}
 use Rattle.hydrogen_answers.specs.declared.Proposed.{Proposed}
 use Rattle.hydrogen_answers.specs.declared.Proposed.the-variants.{Count, NoSheet, Unsound, NoStart, NoneRight, NotRight}
 use Rattle.hydrogen_answers.specs.Number.{proposedNumber, proposedCount}
@@ -15,7 +16,7 @@ use Rattle.hydrogen_right.proofs.Wording.{right-is, is-right}
 use Rattle.hydrogen_check.specs.Check.{checkOf}
 use Rattle.hydrogen_helper.specs.Helper.{helperOf}
 use Rattle.theorem_refusals.specs.Table.{Answers}
-use Rattle.theorem_refusals.proofs.Firsts.{First, this, next, answers, fails}
+use Rattle.theorem_refusals.proofs.Firsts.{First, this, next, answers}
 use Rattle.theorem_hydrogen.specs.Table.{helperTable, checkTable}
 use Rattle.theorem_hydrogen.proofs.First.{Given, first-either}
 use Rattle.theorem_hydrogen.proofs.Helper.{sought, helper-sought, helper-stops, helper-right, helper-none}

@@ -6,6 +6,7 @@ use mathlib.Core.List.{List}
 use Prim.Native.Nat.{ℕ, _≤_}
 use native.Mathlib.Omega.{arith}
 use borrow.Author.Tests.{ltb-true, lt-ltb}
+use Rattle.text.proofs.Bools.{fails, cond-ap}
 use Rattle.desk_state.specs.Desks.{sheetCount, isSheet}
 use Rattle.desk_state.specs.declared.desk.Desk.{Desk}
 use Rattle.desk_memory.specs.Memory.{deskOf}
@@ -17,17 +18,13 @@ use Rattle.desk_hydrogen.specs.Hydrogens.{Proposal, proposalIn, noCount, formul
 use Rattle.desk_hydrogen.proofs.Asked.{helper-by, check-by}
 use Rattle.theorem_refusals.specs.Table.{Refusal, Answers}
 use Rattle.theorem_refusals.specs.Key.{SoundLent}
-use Rattle.theorem_refusals.proofs.Firsts.{First, this, next, answers, fails}
+use Rattle.theorem_refusals.proofs.Firsts.{First, this, next, answers}
 use Rattle.theorem_refusals.proofs.Sounds.{lent-so}
 use Rattle.theorem_hydrogen.specs.Table.{helperTable, checkTable, askedTable}
 use Rattle.theorem_hydrogen.specs.Smallest.{CheckPromise}
 use Rattle.theorem_hydrogen.specs.Lent.{RefusedZero, RightLent, LentSmallest, LentChecked}
 use Rattle.theorem_hydrogen.proofs.Helper.{helper-right, helper-smallest, check-promise}
 use Rattle.theorem_hydrogen.proofs.Answers.{helper-first, check-first, refused-zero}
-
-answer-cond : (b : Bool) (x y : Proposal) → cond b x y .answer ≡ cond b (x .answer) (y .answer)
-answer-cond true x y = refl
-answer-cond false x y = refl
 
 -- 12 and 2 have no count
 asked-refused : (p : Proposal) → RefusedZero p → (a b : Bool) → RefusedZero (cond a (cond b p (noCount 2)) (noCount 12))
@@ -44,7 +41,7 @@ asked-zero p false b e = absurd (omega arith)
 module _ (t n : List ℕ) (sheet : ℕ) where
   -- the number, by tests
   asked-is : (p : Proposal) → cond (isSheet sheet) (cond (soundMemory t n) p (noCount 2)) (noCount 12) .answer ≡ cond (isSheet sheet) (cond (soundMemory t n) (p .answer) 2) 12
-  asked-is p = simp answer-cond
+  asked-is p = simp (cond-ap (λ (p : Proposal). p .answer))
 
   -- 12 and 2 stand before the rows of a table
   asked-by : (rs : List Refusal) (k : ℕ) → First rs k → (a b : Bool) → isSheet sheet ≡ a → soundMemory t n ≡ b

@@ -23,6 +23,7 @@ use Rattle.line_reader.specs.declared.line.Split.the-variants.{Parts, Malformed
 use Rattle.line_reader.specs.declared.line.Class.{Class}
 use Rattle.line_reader.specs.declared.line.Class.the-variants.{Entry, BadForm, UnknownName, WrongKind}
 use Rattle.line_reader.proofs.Splits.{split-is}
+use Rattle.line_reader.proofs.Entries.{no-bad-form, no-wrong-kind}
 use Rattle.desk_log.specs.Record.{recordLength, recordOf, withRecord}
 use Rattle.desk_state.specs.Lines.{typed}
 use Rattle.desk_state.specs.Desks.{lineAt}
@@ -92,14 +93,8 @@ module _ (t : List ℕ) where
 
 -- ---- entries
 
-bad-form-refuses : (item start : ℕ) → BadForm ≡ Entry item start → ⊥
-bad-form-refuses item start e = let z : _≡_ {A = ℕ} 0 1 = cc in omega arith
-
 unknown-refuses : (item start : ℕ) → UnknownName ≡ Entry item start → ⊥
 unknown-refuses item start e = let z : _≡_ {A = ℕ} 0 1 = cc in omega arith
-
-wrong-kind-refuses : (item start : ℕ) → WrongKind ≡ Entry item start → ⊥
-wrong-kind-refuses item start e = let z : _≡_ {A = ℕ} 0 1 = cc in omega arith
 
 module _ (t : List ℕ) (item start : ℕ) where
   stays-by : (b : Bool) (v k : ℕ) → namedClass t v (cond b (Item k) Unknown) ≡ Entry item start → namedClass t v (Item k) ≡ Entry item start
@@ -118,7 +113,7 @@ module _ (t : List ℕ) (item start : ℕ) where
   pub entry-as-before : oldClass t ≡ Entry item start → classOf t ≡ Entry item start
   unfolding classOf oldClass
   entry-as-before e =
-      let taken = cond-first (leb (length t) oldMost && all isTyped t) (oldSplitClass t (splitOf t)) BadForm (Entry item start) (bad-form-refuses item start) e in
+      let taken = cond-first (leb (length t) oldMost && all isTyped t) (oldSplitClass t (splitOf t)) BadForm (Entry item start) (no-bad-form item start) e in
       let both = and-both (leb (length t) oldMost) (all isTyped t) (taken .0) in
       let short = leb-true (length t) oldMost (both .0) in
       simp (le-leb (length t) lineMost (omega (arith, short)), both .1) (split-stays (splitOf t) (taken .1))
@@ -126,19 +121,19 @@ module _ (t : List ℕ) (item start : ℕ) where
   named-new : (b v : ℕ) (x : Named) → b ≤ item → namedClass t v x ≡ Entry item start → namedClass t v (earlier b x) ≡ UnknownName
   named-new b v Unknown h e = refl
   named-new b v (Item k) h e =
-      let q = cond-first (passes k (drop v t)) (Entry k v) WrongKind (Entry item start) (wrong-kind-refuses item start) e .1 in
+      let q = cond-first (passes k (drop v t)) (Entry k v) WrongKind (Entry item start) (no-wrong-kind item start) e .1 in
       let at : k ≡ item = cc in
       simp (le-ltb k b (omega (arith, h, at)))
 
   split-new : oldCount < item → (x : Split) → splitClass t x ≡ Entry item start → oldSplitClass t x ≡ UnknownName
-  split-new h Malformed e = absurd (bad-form-refuses item start e)
+  split-new h Malformed e = absurd (no-bad-form item start e)
   split-new h (Parts n v) e = ap (namedClass t v) (old-item (take n t)) ∙ named-new (1 + oldCount) v (itemOf (take n t)) (omega (arith, h)) e
 
   -- of the lines that the old limit allows only entries of items after the tenth are new: their names were unknown
   pub new-names-were-unknown : length t ≤ oldMost → oldCount < item → classOf t ≡ Entry item start → oldClass t ≡ UnknownName
   unfolding classOf oldClass
   new-names-were-unknown short h e =
-      let taken = cond-first (leb (length t) lineMost && all isTyped t) (splitClass t (splitOf t)) BadForm (Entry item start) (bad-form-refuses item start) e in
+      let taken = cond-first (leb (length t) lineMost && all isTyped t) (splitClass t (splitOf t)) BadForm (Entry item start) (no-bad-form item start) e in
       let both = and-both (leb (length t) lineMost) (all isTyped t) (taken .0) in
       simp (le-leb (length t) oldMost short, both .1) (split-new h (splitOf t) (taken .1))
 

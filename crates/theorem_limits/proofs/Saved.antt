@@ -1,11 +1,12 @@
 -- "A desk saved by the old build is not taken over" (document 02, No. 6): its memory has another length.
 -- Assumes nothing.
-use mathlib.Core.Path.{_≡_, refl, ap, _∙_}
-use mathlib.Core.Bool.{Bool, true, false, cond, _&&_}
+use mathlib.Core.Path.{_≡_, ap, _∙_, sym}
+use mathlib.Core.Bool.{false, cond, _&&_}
 use mathlib.Core.List.{List}
 use Prim.Native.Nat.{ℕ}
 use lib.Dec.{eqb}
 use lib.ListN.{length}
+use Rattle.text.proofs.Bools.{cond-ap}
 use Rattle.desk_state.specs.Desks.{isSheet}
 use Rattle.rows.specs.Rows.{isProfile, noRows}
 use Rattle.desk_memory.specs.Memory.{textsLength, numbersLength, isDesk, deskOf}
@@ -19,33 +20,28 @@ no-desk : (t n : List ℕ) → SavedBefore t n → isDesk t n ≡ false
 unfolding isDesk
 no-desk t n s = ap (λ (m : ℕ). eqb m textsLength && eqb (length n) numbersLength) (s .texts)
 
--- a choice between two refusals is a refusal with the number that is chosen
-chosen : {A : Type 0} (f : ℕ → A) (b : Bool) (x y : ℕ) → cond b (f x) (f y) ≡ f (cond b x y)
-chosen f true x y = refl
-chosen f false x y = refl
-
 module _ (t n : List ℕ) (e : isDesk t n ≡ false) (sheet : ℕ) where
   no-report : (profile : ℕ) → reportLent t n sheet profile ≡ reportedAs (cond (isSheet sheet) (cond (isProfile profile) 2 21) 12) noRows
   unfolding reportLent
   no-report profile =
       let f : ℕ → Report = λ a. reportedAs a noRows in
-      simp e (ap (λ (r : Report). cond (isSheet sheet) r (f 12)) (chosen f (isProfile profile) 2 21) ∙ chosen f (isSheet sheet) (cond (isProfile profile) 2 21) 12)
+      simp e (ap (λ (r : Report). cond (isSheet sheet) r (f 12)) (sym (cond-ap f (isProfile profile) 2 21)) ∙ sym (cond-ap f (isSheet sheet) (cond (isProfile profile) 2 21) 12))
 
   no-who : (item : ℕ) → whoLent t n sheet item ≡ nobody (cond (isSheet sheet) 2 12)
   unfolding whoLent
-  no-who item = simp e (chosen nobody (isSheet sheet) 2 12)
+  no-who item = simp e (sym (cond-ap nobody (isSheet sheet) 2 12))
 
   no-file : (name out : List ℕ) → fileLent t n sheet name out ≡ noFile (cond (isSheet sheet) 2 12) out
   unfolding fileLent
-  no-file name out = simp e (chosen (λ (a : ℕ). noFile a out) (isSheet sheet) 2 12)
+  no-file name out = simp e (sym (cond-ap (λ (a : ℕ). noFile a out) (isSheet sheet) 2 12))
 
   no-hydrogens : helperLent t n sheet ≡ noCount (cond (isSheet sheet) 2 12)
   unfolding helperLent
-  no-hydrogens = simp e (chosen noCount (isSheet sheet) 2 12)
+  no-hydrogens = simp e (sym (cond-ap noCount (isSheet sheet) 2 12))
 
   no-right : (count : ℕ) → checkLent t n sheet count ≡ noCount (cond (isSheet sheet) 2 12)
   unfolding checkLent
-  no-right count = simp e (chosen noCount (isSheet sheet) 2 12)
+  no-right count = simp e (sym (cond-ap noCount (isSheet sheet) 2 12))
 
 -- every call answers 2, or 12 where there is no such sheet and 21 where there is no such profile, and changes nothing
 pub saved-not-taken : (t n : List ℕ) → SavedBefore t n → NotTaken t n

@@ -22,7 +22,7 @@ use Rattle.desk_state.specs.declared.desk.Desk.{Desk}
 use Rattle.desk_soundness.specs.SoundLog.{logMost}
 use Rattle.desk_entries.specs.Entry.{openTo, ownItem}
 use Rattle.desk_entries.proofs.Camps.{sheet-in}
-use Rattle.desk_entries.proofs.Items.{fitting}
+use Rattle.line_kinds.proofs.Fitting.{fitting}
 use Rattle.reader_cuts.specs.Reading.{lengthMost, ended}
 use Rattle.reader_records.specs.Shape.{shaped}
 use Rattle.reader_entries.specs.Judged.{refusalOf, storeOf, readOn}

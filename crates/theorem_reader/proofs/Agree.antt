@@ -148,6 +148,11 @@ grown-good : (cs : List LogPart) → Good refusalOf storeOf soundAt Fine fine-so
 grown-good cs =
     after-good refusalOf storeOf soundAt Fine fine-sound fine-kept start cs (record { fine = fresh-fine; waits = undecided-few [] (omega arith) })
 
+-- no reading's answer is 2
+pub not-2 : (a : ℕ) → (a ≡ 0) ⊎ ((18 ≤ a) × (a ≤ 20)) → a ≡ 2 → ⊥
+not-2 a (inl z) q = omega (arith, z, q)
+not-2 a (inr h) q = omega (arith, h .0, q)
+
 -- "kept sound": a reader that grew from a fresh one is never refused with 2
 pub never-unsound : (cs : List LogPart) (c : LogPart) → NeverUnsound cs c
 never-unsound cs c e =
@@ -159,10 +164,6 @@ never-unsound cs c e =
     let y : fed (afterParts fresh cs) c .answer ≡ call refusalOf storeOf soundAt r (c .0) (c .1) .reading .answer
     = ap (λ (l : Left). l .answer) f ∙ ap (λ (q : Called Desk). q .answer) g ∙ sym (ap (λ (q : Called Desk). q .reading .answer) g) in
     not-2 (call refusalOf storeOf soundAt r (c .0) (c .1) .reading .answer) x (sym y ∙ e)
-  where
-    not-2 : (a : ℕ) → (a ≡ 0) ⊎ ((18 ≤ a) × (a ≤ 20)) → a ≡ 2 → ⊥
-    not-2 a (inl z) q = omega (arith, z, q)
-    not-2 a (inr h) q = omega (arith, h .0, q)
 
 -- a record never gets 20
 pub never-20 : (start : ℕ) (r : List ℕ) (d : Desk) → refusalOf start r d ≡ 20 → ⊥

@@ -6,19 +6,18 @@ use mathlib.Core.List.{List, [], _∷_, _++_}
 use mathlib.Core.Logic.{_↔_, _⊎_, inl, inr}
 use Prim.Native.Nat.{ℕ, _+_, _≤_}
 use native.Mathlib.Omega.{arith}
-use borrow.Author.Tests.{ltb-true, ltb-false, lt-ltb, le-ltb, eqb-true, eqb-false, eq-eqb, ne-eqb}
+use borrow.Author.Tests.{ltb-true, lt-ltb, le-ltb, eqb-true, eqb-false, eq-eqb, ne-eqb}
 use lib.Dec.{ltb, eqb}
 use lib.ListN.{length, take, drop, take-append-drop, drop-of-length-le}
 use lib.Seq.{take-all, length-take-le}
-use Rattle.text.proofs.Bools.{or-either}
+use Rattle.text.proofs.Bools.{or-either, fails}
 use Rattle.desk_log.specs.Record.{headLength, lengthTold, benchTold, itemTold, valueTold}
 use Rattle.desk_state.specs.declared.sheet.Item.{Item}
 use Rattle.desk_state.specs.declared.desk.Desk.{Desk}
 use Rattle.desk_entries.specs.Entry.{withEntryOn, openTo, ownItem}
-use Rattle.reader_cuts.specs.Reading.{lengthLeast, lengthMost, badLength, undecided, Reading, ended, placeFor}
-use Rattle.reader_cuts.specs.Reading.{short as shortOf}
+use Rattle.reader_cuts.specs.Reading.{lengthLeast, lengthMost, badLength, undecided, Reading, ended, placeFor, short as shortOf}
 use Rattle.reader_cuts.proofs.Laws.{good-length, length-good, length-front, read-bad, read-refused, front-taken, every-reading}
-use Rattle.reader_cuts.proofs.Firsts.{read-undecided}
+use Rattle.reader_cuts.proofs.Firsts.{read-undecided, undecided-cases}
 use Rattle.reader_cuts.proofs.Told.{answers-known}
 use Rattle.reader_memory.specs.Memory.{keptIn, standsAt}
 use Rattle.reader_records.specs.Shape.{shaped}
@@ -30,7 +29,7 @@ use Rattle.reader_left.specs.Left.{Left}
 use Rattle.reader_feed.specs.Feed.{soundReader}
 use Rattle.theorem_refusals.specs.Table.{Answers, _when_}
 use Rattle.theorem_refusals.specs.Key.{HeldByAnother}
-use Rattle.theorem_refusals.proofs.Firsts.{First, this, next, answers, fails}
+use Rattle.theorem_refusals.proofs.Firsts.{First, this, next, answers}
 use Rattle.theorem_reader.specs.Parts.{Between, LogPart, fed}
 use Rattle.theorem_reader.specs.Table.{Comes, here, later, ComesTo, BadLength, short, long, WholeRecord, BadShape, bad-length, fault, ForeignOverwrite, EndInside, fewer-than-six, fewer-than-length, feedTable, At, Placed}
 use Rattle.theorem_reader.specs.Sound.{SoundReader}
@@ -159,16 +158,8 @@ gives-20 d at cs e = let u = inside-undecided d at cs e in ap (λ (r : Reading D
 -- ---- and each number has its condition
 
 undecided-inside : (d : Desk) (at : ℕ) (cs : List ℕ) → 1 ≤ length cs → undecided cs ≡ true → EndInside d at cs
-unfolding undecided
-undecided-inside d at cs some e = go (ltb (length cs) headLength) (badLength (lengthTold cs)) (ltb (length cs) (lengthTold cs)) refl refl refl
-  where
-    go : (a b c : Bool) → ltb (length cs) headLength ≡ a → badLength (lengthTold cs) ≡ b → ltb (length cs) (lengthTold cs) ≡ c → EndInside d at cs
-    go true b c p q r = fewer-than-six some (ltb-true (length cs) headLength p)
-    go false false true p q r =
-        let k = good-length (lengthTold cs) q in
-        fewer-than-length (ltb-false (length cs) headLength p) (k .0) (k .1) (ltb-true (length cs) (lengthTold cs) r)
-    go false true c p q r = let z = simp (p, q) at e in absurd (false≢true z)
-    go false false false p q r = let z = simp (p, q, r) at e in absurd (false≢true z)
+undecided-inside d at cs some e =
+    undecided-cases cs e (fewer-than-six some) (λ h q l. let k = good-length (lengthTold cs) q in fewer-than-length h (k .0) (k .1) l)
 
 bad-so : (cs : List ℕ) → headLength ≤ length cs → badLength (lengthTold cs) ≡ true → BadLength cs
 bad-so cs h e = go (or-either (ltb (lengthTold cs) lengthLeast) (ltb lengthMost (lengthTold cs)) e)

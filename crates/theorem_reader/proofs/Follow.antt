@@ -1,6 +1,6 @@
 -- Feeding parts in memory follows reading in parts, so that each theorem about readings is one about parts.
 -- Assumes nothing.
-use mathlib.Core.Path.{_≡_, refl, sym, ap, subst, _∙_}
+use mathlib.Core.Path.{_≡_, refl, ap, _∙_}
 use mathlib.Core.Bool.{Bool, true, false, cond}
 use mathlib.Core.List.{List, [], _∷_, _++_}
 use mathlib.Core.Logic.{_⊎_, inl, inr}
@@ -11,13 +11,14 @@ use lib.Dec.{eqb}
 use lib.ListN.{length, replicate, length-append, length-replicate}
 use lib.Seq.{take-at}
 use Rattle.text.specs.Run.{between}
+use Rattle.text.proofs.Bools.{cond-keeps}
 use Rattle.desk_state.specs.declared.desk.Desk.{Desk}
 use Rattle.reader_cuts.specs.Reading.{Reading, feed}
 use Rattle.reader_cuts.specs.Called.{Called, calledWith, soundReading, call, answers, afterCalls}
 use Rattle.reader_cuts.proofs.Firsts.{undecided-short}
 use Rattle.reader_cuts.proofs.Told.{Known, answers-known}
 use Rattle.reader_memory.specs.Memory.{readerKept, keptIn, isStanding, isReader, answerAt, overWith, keptOf, stateNumbers}
-use Rattle.reader_entries.specs.Judged.{refusalOf, storeOf, soundAt, readOn}
+use Rattle.reader_entries.specs.Judged.{refusalOf, storeOf, soundAt}
 use Rattle.reader_entries.proofs.Judged.{refusal-known}
 use Rattle.reader_left.specs.Left.{Left, left}
 use Rattle.reader_feed.specs.Feed.{soundReader, feedOf}
@@ -86,12 +87,8 @@ module _ (r : Reading Desk) (g : Good r) where
 
 feed-known : (r : Reading Desk) → Good r → (part : List ℕ) (last : Bool) → Good (feed refusalOf storeOf r part last)
 unfolding feed
-feed-known r g part last = go (r .over) refl
-  where
-    go : (b : Bool) → r .over ≡ b → Good (cond (r .over) r (readOn last (r .sheets) (r .at) (r .rest ++ part)))
-    go true q = subst (λ (x : Bool). Good (cond x r (readOn last (r .sheets) (r .at) (r .rest ++ part)))) (sym q) g
-    go false q = subst (λ (x : Bool). Good (cond x r (readOn last (r .sheets) (r .at) (r .rest ++ part)))) (sym q)
-        (answers-known refusalOf storeOf refusal-known last (r .sheets) (r .at) (r .rest ++ part))
+feed-known r g part last =
+    cond-keeps Good (r .over) _ _ (λ e. g) (λ e. answers-known refusalOf storeOf refusal-known last (r .sheets) (r .at) (r .rest ++ part))
 
 pub call-known : (r : Reading Desk) → Good r → (part : List ℕ) (last : Bool) → Good (call refusalOf storeOf soundAt r part last .reading)
 unfolding call

@@ -3,11 +3,12 @@
 use mathlib.Core.Path.{_≡_, refl, sym, ap, subst, subst⁻¹, _∙_}
 use mathlib.Core.Bool.{Bool, true, false}
 use mathlib.Core.List.{List, _++_}
-use mathlib.Core.Logic.{_↔_, _⊎_, inl, inr}
-use Prim.Native.Nat.{ℕ, _≤_}
+use mathlib.Core.Logic.{_↔_}
+use Prim.Native.Nat.{ℕ}
 use native.Mathlib.Omega.{arith}
 use borrow.Author.Tests.{eqb-true, eqb-false}
 use lib.Dec.{eqb}
+use Rattle.text.proofs.Bools.{fails}
 use Rattle.desk_state.specs.declared.desk.Desk.{Desk}
 use Rattle.desk_memory.specs.Memory.{Sized, isDesk, deskOf, usedOf}
 use Rattle.desk_memory.proofs.Desks.{desk-sized, sized-desk, still-desk}
@@ -17,12 +18,12 @@ use Rattle.reader_entries.proofs.Keeps.{desk-whole}
 use Rattle.reader_left.specs.Left.{Left, left}
 use Rattle.reader_feed.specs.Feed.{soundReader}
 use Rattle.theorem_refusals.specs.Table.{Answers}
-use Rattle.theorem_refusals.proofs.Firsts.{this, answers, fails}
+use Rattle.theorem_refusals.proofs.Firsts.{this, answers}
 use Rattle.theorem_reader.specs.Parts.{Between, leftFor, LogPart, fed, ChangesNothing, SheetsThere, Ends}
 use Rattle.theorem_reader.specs.Parts as parts
 use Rattle.theorem_reader.specs.Runs.{Memory, betweenIn, FedIn, SoundIn, lentFeedTable, LentPlaced, Idle, unsound, over, IdleSame, EndsIn, with-refusal, with-last, Repeated}
 use Rattle.theorem_reader.proofs.Sounds.{reader-so}
-use Rattle.theorem_reader.proofs.Agree.{unsound-changes-nothing, over-changes-nothing, reads, reading-known, repeats}
+use Rattle.theorem_reader.proofs.Agree.{unsound-changes-nothing, over-changes-nothing, reads, reading-known, repeats, not-2}
 use Rattle.theorem_reader.proofs.Answers.{feed-answers, feed-places}
 
 -- every desk in lent memory has its sheets and items
@@ -59,10 +60,6 @@ module _ (m : Memory) (c : LogPart) (a place : ℕ) (m′ : Memory) (h : FedIn m
   idle-nothing : isDesk (m .texts) (m .numbers) ≡ true → Idle m a → ChangesNothing b c
   idle-nothing d i = go (soundReader (b .desk) (b .used) (b .kept) (b .state)) (eqb (standsAt (b .state)) 0) refl refl i
     where
-      not-2 : (n : ℕ) → (n ≡ 0) ⊎ ((18 ≤ n) × (n ≤ 20)) → n ≡ 2 → ⊥
-      not-2 n (inl z) q = omega (arith, z, q)
-      not-2 n (inr k) q = omega (arith, k .0, q)
-
       go : (x y : Bool) → soundReader (b .desk) (b .used) (b .kept) (b .state) ≡ x → eqb (standsAt (b .state)) 0 ≡ y → Idle m a → ChangesNothing b c
       go false y p q i = unsound-changes-nothing b c p .2
       go true false p q i = over-changes-nothing b c p (eqb-false (standsAt (b .state)) 0 q)

@@ -1,12 +1,12 @@
 -- The test of a sound reader says what the request's words say.
 -- Assumes nothing.
 use mathlib.Core.Path.{_≡_, refl}
-use mathlib.Core.Bool.{Bool, true, false, _&&_, _||_, not, false≢true}
+use mathlib.Core.Bool.{Bool, true, false, _&&_, _||_, not}
 use mathlib.Core.List.{List}
 use mathlib.Core.Logic.{_↔_, _⊎_, inl, inr}
 use Prim.Native.Nat.{ℕ, _≤_}
 use native.Mathlib.Omega.{arith}
-use borrow.Author.Tests.{ltb-true, lt-ltb, leb-true, le-leb, lt-leb, eqb-true, eqb-false, eq-eqb}
+use borrow.Author.Tests.{lt-ltb, leb-true, le-leb, lt-leb, eqb-true, eqb-false, eq-eqb}
 use lib.Dec.{ltb, leb, eqb}
 use lib.ListN.{length}
 use Rattle.text.specs.Run.{between}
@@ -19,20 +19,14 @@ use Rattle.desk_soundness.proofs.Wording.{sound-is, sound-taken}
 use Rattle.desk_soundness.proofs.LogWording.{log-is, log-taken}
 use Rattle.reader_cuts.specs.Reading.{badLength, undecided}
 use Rattle.reader_cuts.proofs.Laws.{good-length, length-good}
+use Rattle.reader_cuts.proofs.Firsts.{undecided-cases}
 use Rattle.reader_memory.specs.Memory.{readerKept, readerState, keptIn, standsAt, isStanding, isReader}
 use Rattle.reader_entries.specs.Judged.{soundAt}
 use Rattle.reader_feed.specs.Feed.{soundReader}
 use Rattle.theorem_reader.specs.Sound.{Undecided, few, part, Stands, goes-on, ended, refused, SoundReader}
 
 undecided-is : (cs : List ℕ) → undecided cs ≡ true → Undecided cs
-unfolding undecided
-undecided-is cs e = go (ltb (length cs) headLength) (badLength (lengthTold cs)) (ltb (length cs) (lengthTold cs)) refl refl refl
-  where
-    go : (a b c : Bool) → ltb (length cs) headLength ≡ a → badLength (lengthTold cs) ≡ b → ltb (length cs) (lengthTold cs) ≡ c → Undecided cs
-    go true b c p q r = few (ltb-true (length cs) headLength p)
-    go false false true p q r = let k = good-length (lengthTold cs) q in part (k .0) (k .1) (ltb-true (length cs) (lengthTold cs) r)
-    go false true c p q r = let z = simp (p, q) at e in absurd (false≢true z)
-    go false false false p q r = let z = simp (p, q, r) at e in absurd (false≢true z)
+undecided-is cs e = undecided-cases cs e few (λ h q l. let k = good-length (lengthTold cs) q in part (k .0) (k .1) l)
 
 undecided-taken : (cs : List ℕ) → Undecided cs → undecided cs ≡ true
 unfolding undecided

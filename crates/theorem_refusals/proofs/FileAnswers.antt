@@ -9,6 +9,7 @@ use native.Mathlib.Omega.{arith}
 use borrow.Author.Tests.{leb-true, leb-false, ltb-true, lt-ltb}
 use lib.Dec.{leb}
 use lib.ListN.{length}
+use Rattle.text.proofs.Bools.{fails, cond-ap, cond-between}
 use Rattle.desk_state.specs.Desks.{sheetCount, isSheet, sheetAt}
 use Rattle.desk_memory.specs.Memory.{isDesk, deskOf}
 use Rattle.desk_soundness.specs.Sound.{soundDesk}
@@ -22,8 +23,8 @@ use Rattle.file_cif.specs.Answers.{Filing, fileStep, fileLent}
 use Rattle.theorem_refusals.specs.Table.{Answers}
 use Rattle.theorem_refusals.specs.Key.{SoundLent}
 use Rattle.theorem_refusals.specs.File.{fileTable}
-use Rattle.theorem_refusals.proofs.Firsts.{First, this, next, answers, fails}
-use Rattle.theorem_refusals.proofs.Sounds.{desk-so, lent-so, sheet-both}
+use Rattle.theorem_refusals.proofs.Firsts.{First, this, next, answers}
+use Rattle.theorem_refusals.proofs.Sounds.{desk-so, lent-so}
 
 module _ (name out : List ℕ) where
   -- the number by tests where the desk is sound
@@ -52,13 +53,9 @@ module _ (name out : List ℕ) where
         answers (fileTable Sound sheet s name out) (cond (isSheet sheet) (cond sound (soundNumber s) 2) 12) refl
         (file-by (isSheet sheet) sound (isBlockName name) (leb long (length out)) refl refl refl refl)
 
-  file-cond : (b : Bool) (x y : Filing) → cond b x y .answer ≡ cond b (x .answer) (y .answer)
-  file-cond true x y = refl
-  file-cond false x y = refl
-
   file-is : (d : Desk) (sheet : ℕ) → fileStep d sheet name out .answer ≡ cond (isSheet sheet) (cond (soundDesk d) (soundNumber (sheetAt d sheet)) 2) 12
   unfolding fileStep
-  file-is d sheet = simp file-cond
+  file-is d sheet = simp (cond-ap (λ (x : Filing). x .answer))
 
   -- "12, no such sheet, before 2"; "2 as for questions, then 11 bad block name, then 10 no room"
   pub file-table : (d : Desk) (sheet : ℕ) → Answers (fileTable (Sound d) sheet (sheetAt d sheet) name out) (fileStep d sheet name out .answer)
@@ -74,9 +71,9 @@ module _ (name out : List ℕ) where
     lent-file-is : fileLent t n sheet name out .answer ≡ cond (isSheet sheet) (cond (isDesk t n && soundDesk d) (soundNumber (sheetAt d sheet)) 2) 12
     unfolding fileLent
     lent-file-is =
-        file-cond (isDesk t n) _ _
-        ∙ ap₂ (λ (a b : ℕ). cond (isDesk t n) a b) (file-is d sheet) (file-cond (isSheet sheet) _ _)
-        ∙ sheet-both (isDesk t n) (isSheet sheet) (soundDesk d) (soundNumber (sheetAt d sheet)) 2 12
+        cond-ap (λ (x : Filing). x .answer) (isDesk t n) _ _
+        ∙ ap₂ (λ (a b : ℕ). cond (isDesk t n) a b) (file-is d sheet) (cond-ap (λ (x : Filing). x .answer) (isSheet sheet) _ _)
+        ∙ cond-between (isDesk t n) (soundDesk d) (isSheet sheet) (soundNumber (sheetAt d sheet)) 2 12
 
     pub lent-file-table : Answers (fileTable (SoundLent t n) sheet (sheetAt d sheet) name out) (fileLent t n sheet name out .answer)
     lent-file-table =

@@ -1,7 +1,7 @@
 -- A key call answers by its table: each number exactly when its condition holds and none above it does, 0 exactly when none does.
 -- Assumes nothing.
 use mathlib.Core.Path.{_≡_, refl, ap, _∙_, subst⁻¹}
-use mathlib.Core.Bool.{Bool, true, false, cond, _&&_, _||_}
+use mathlib.Core.Bool.{Bool, true, false, cond, _&&_}
 use mathlib.Core.Logic.{_↔_}
 use mathlib.Core.List.{List}
 use Prim.Native.Nat.{ℕ, _-_, _≤_}
@@ -10,6 +10,7 @@ use borrow.Author.Tests.{ltb-true, ltb-false, leb-true, leb-false, eqb-true, eqb
 use lib.Dec.{ltb, leb, eqb}
 use lib.ListN.{length, drop, length-take, List·getD-eq-default}
 use Rattle.text.specs.Run.{all}
+use Rattle.text.proofs.Bools.{fails, and-is, or-neither, cond-ap}
 use Rattle.text.proofs.Runs.{between-is, between-taken}
 use Rattle.line_items.specs.Items.{IsName}
 use Rattle.line_items.specs.Typed.{lineMost, isTyped}
@@ -35,8 +36,8 @@ use Rattle.desk_keys.specs.Lent.{KeyLent}
 use Rattle.theorem_refusals.specs.Table.{Answers, from}
 use Rattle.theorem_refusals.specs.KeyNumber.{enterNumber, byteNumber, keyNumber}
 use Rattle.theorem_refusals.specs.Key.{Appends, IsKey, appends, erases, empties, enter, keyTable, HeldByAnother, deskTable, SoundLent, lentTable}
-use Rattle.theorem_refusals.proofs.Firsts.{First, this, next, answers, fails}
-use Rattle.theorem_refusals.proofs.Sounds.{both-so, desk-so, lent-so}
+use Rattle.theorem_refusals.proofs.Firsts.{First, this, next, answers}
+use Rattle.theorem_refusals.proofs.Sounds.{desk-so, lent-so}
 use Rattle.theorem_refusals.proofs.Cases.{form-so, item-so, LineCase, class-case}
 
 -- a byte that is no key
@@ -131,10 +132,6 @@ module _ (Sound : Type 0) (line : List ℕ) (size : ℕ) (OfAnother : ℕ → Ty
 
 -- ---- a key call on a desk
 
-answer-cond : (b : Bool) (x y : After) → cond b x y .answer ≡ cond b (x .answer) (y .answer)
-answer-cond true x y = refl
-answer-cond false x y = refl
-
 -- each line of a sound desk is sound; that of a bench that is not there reads as an empty one
 no-line-sound : SoundLine noLine
 unfolding all
@@ -148,13 +145,9 @@ line-by d bench false e h = subst⁻¹ SoundLine (List·getD-eq-default (d .line
 open-so : (i : Item) (bench : ℕ) → (openTo i bench ≡ false) ↔ HeldByAnother bench i
 unfolding openTo
 open-so i bench = (
-  λ e. let h = neither (eqb (i .len) 0) (eqb (i .bench) bench) e in let some = eqb-false (i .len) 0 (h .0) in (omega arith, eqb-false (i .bench) bench (h .1)),
+  λ e. let h = or-neither (eqb (i .len) 0) (eqb (i .bench) bench) e in let some = eqb-false (i .len) 0 (h .0) in (omega arith, eqb-false (i .bench) bench (h .1)),
   λ h. simp (ne-eqb (i .len) 0 (λ z. omega (arith, h .0)), ne-eqb (i .bench) bench (h .1)),
 )
-  where
-    neither : (a b : Bool) → (a || b) ≡ false → (a ≡ false) × (b ≡ false)
-    neither true b e = absurd (fails e refl)
-    neither false b e = (refl, e)
 
 -- the log's part
 log-so : (d : Desk) (len used : ℕ) → (soundLog d len used ≡ true) ↔ SoundWith d len used
@@ -181,19 +174,19 @@ module _ (d : Desk) (used : ℕ) (log : List ℕ) (bench byte : ℕ) where
   number-class class.UnknownName = refl
   number-class class.WrongKind = refl
   number-class (class.Entry item start) =
-      answer-cond (may item) _ _
-      ∙ ap (λ (a : ℕ). cond (may item) a 9) (answer-cond (leb (recordLength (drop start (typed l))) (length log - used)) _ _)
+      cond-ap (λ (x : After). x .answer) (may item) _ _
+      ∙ ap (λ (a : ℕ). cond (may item) a 9) (cond-ap (λ (x : After). x .answer) (leb (recordLength (drop start (typed l))) (length log - used)) _ _)
 
   number-is : keyOf d used log bench byte .answer ≡ keyNumber (soundDesk d && soundLog d (length log) used) (typed l) (l .len) may (length log - used) bench byte
   unfolding keyOf keyStep
-  number-is = simp (answer-cond, number-class)
+  number-is = simp (cond-ap (λ (x : After). x .answer), number-class)
 
   -- "given exactly when", "The first that applies, in this order, is the answer"
   pub key-table : Answers (deskTable d used log bench byte) (keyOf d used log bench byte .answer)
   key-table =
       subst⁻¹ (Answers (deskTable d used log bench byte)) number-is
       (number-answers (Sound d × SoundWith d (length log) used) (typed l) (l .len) (λ item. HeldByAnother bench (ownItem d bench item)) (length log - used) bench byte
-      (soundDesk d && soundLog d (length log) used) (both-so (desk-so d) (log-so d (length log) used)) may (λ item. open-so (ownItem d bench item) bench)
+      (soundDesk d && soundLog d (length log) used) (and-is (desk-so d) (log-so d (length log) used)) may (λ item. open-so (ownItem d bench item) bench)
       (λ h. line-ready d bench (h .0)))
 
 -- ---- the same of the desk in lent memory
@@ -219,6 +212,6 @@ module _ (t n log : List ℕ) (bench byte : ℕ) where
     lent-key-table =
         subst⁻¹ (Answers (lentTable t n log bench byte)) (lent-by (isDesk t n) refl)
         (number-answers (SoundLent t n × SoundWith d (length log) (usedOf n)) line (lineAt d bench .len) (λ item. HeldByAnother bench (ownItem d bench item)) (length log - usedOf n) bench byte
-        ((isDesk t n && soundDesk d) && soundLog d (length log) (usedOf n)) (both-so (lent-so t n) (log-so d (length log) (usedOf n)))
+        ((isDesk t n && soundDesk d) && soundLog d (length log) (usedOf n)) (and-is (lent-so t n) (log-so d (length log) (usedOf n)))
         lentMay (λ item. open-so (ownItem d bench item) bench)
         (λ s. line-ready d bench (s .0 .1)))

@@ -7,7 +7,7 @@ use mathlib.Core.List.{List}
 use Prim.Native.Nat.{ℕ}
 use borrow.Author.Tests.{leb-true, le-leb, ltb-true, lt-ltb}
 use lib.Dec.{leb, eqb}
-use Rattle.text.proofs.Bools.{and-both}
+use Rattle.text.proofs.Bools.{and-both, fails, cond-ap, cond-same, cond-between}
 use Rattle.line_items.specs.Items.{itemCount, isItem}
 use Rattle.desk_state.specs.Desks.{sheetCount, isSheet}
 use Rattle.rows.specs.Rows.{profileCount, isProfile}
@@ -21,8 +21,8 @@ use Rattle.desk_questions.specs.Who.{Who, toldOf, whoOf, whoLent}
 use Rattle.theorem_refusals.specs.Table.{Answers}
 use Rattle.theorem_refusals.specs.Key.{SoundLent}
 use Rattle.theorem_refusals.specs.Questions.{reportTable, whoTable}
-use Rattle.theorem_refusals.proofs.Firsts.{First, this, next, answers, fails}
-use Rattle.theorem_refusals.proofs.Sounds.{desk-so, lent-so, sheet-both}
+use Rattle.theorem_refusals.proofs.Firsts.{First, this, next, answers}
+use Rattle.theorem_refusals.proofs.Sounds.{desk-so, lent-so}
 
 -- the numbers by tests, whatever says that the desk is sound
 module _ (Sound : Type 0) (sound : Bool) (is-sound : (sound ≡ true) ↔ Sound) (sheet : ℕ) where
@@ -57,13 +57,9 @@ module _ (Sound : Type 0) (sound : Bool) (is-sound : (sound ≡ true) ↔ Sound)
 
 -- ---- Report
 
-report-cond : (b : Bool) (x y : Report) → cond b x y .answer ≡ cond b (x .answer) (y .answer)
-report-cond true x y = refl
-report-cond false x y = refl
-
 report-is : (d : Desk) (sheet profile : ℕ) → reportedOf d sheet profile .answer ≡ cond (isSheet sheet) (cond (isProfile profile) (cond (soundDesk d) 0 2) 21) 12
 unfolding reportedOf
-report-is d sheet profile = simp report-cond
+report-is d sheet profile = simp (cond-ap (λ (r : Report). r .answer))
 
 -- "12, no such sheet, before 2"; "21, no such profile, after 12 and before 2"; "on an unsound desk it gives 2"
 pub report-table : (d : Desk) (sheet profile : ℕ) → Answers (reportTable (Sound d) sheet profile) (reportedOf d sheet profile .answer)
@@ -72,22 +68,14 @@ report-table d sheet profile =
 
 -- ---- Who
 
-who-cond : (b : Bool) (x y : Who) → cond b x y .answer ≡ cond b (x .answer) (y .answer)
-who-cond true x y = refl
-who-cond false x y = refl
-
 -- what is told of an item is no refusal
 told-accepted : (i : Item) → toldOf i .answer ≡ 0
 unfolding toldOf
-told-accepted i = who-cond (eqb (i .len) 0) _ _ ∙ same (eqb (i .len) 0)
-  where
-    same : (b : Bool) → _≡_ {A = ℕ} (cond b 0 0) 0
-    same true = refl
-    same false = refl
+told-accepted i = cond-ap (λ (w : Who). w .answer) (eqb (i .len) 0) _ _ ∙ cond-same (eqb (i .len) 0) 0
 
 who-is : (d : Desk) (sheet item : ℕ) → whoOf d sheet item .answer ≡ cond (isSheet sheet) (cond (soundDesk d) (cond (isItem item) 0 6) 2) 12
 unfolding whoOf
-who-is d sheet item = simp (who-cond, told-accepted)
+who-is d sheet item = simp (cond-ap (λ (w : Who). w .answer), told-accepted)
 
 -- "12, no such sheet, before 2"; "2 if unsound, else 6 if not 1 to 10"
 pub who-table : (d : Desk) (sheet item : ℕ) → Answers (whoTable (Sound d) sheet item) (whoOf d sheet item .answer)
@@ -106,16 +94,16 @@ module _ (t n : List ℕ) (sheet : ℕ) where
     lent-report-is : reportLent t n sheet profile .answer ≡ cond (isSheet sheet) (cond (isProfile profile) (cond sound 0 2) 21) 12
     unfolding reportLent
     lent-report-is =
-        report-cond (isDesk t n) _ _
+        cond-ap (λ (r : Report). r .answer) (isDesk t n) _ _
         ∙ ap₂ (λ (a b : ℕ). cond (isDesk t n) a b) (report-is d sheet profile)
-        (report-cond (isSheet sheet) _ _ ∙ ap (λ (a : ℕ). cond (isSheet sheet) a 12) (report-cond (isProfile profile) _ _))
+        (cond-ap (λ (r : Report). r .answer) (isSheet sheet) _ _ ∙ ap (λ (a : ℕ). cond (isSheet sheet) a 12) (cond-ap (λ (r : Report). r .answer) (isProfile profile) _ _))
         ∙ go (isSheet sheet)
       where
         go : (s : Bool)
             → _≡_ {A = ℕ} (cond (isDesk t n) (cond s (cond (isProfile profile) (cond (soundDesk d) 0 2) 21) 12) (cond s (cond (isProfile profile) 2 21) 12))
             (cond s (cond (isProfile profile) (cond sound 0 2) 21) 12)
-        go true = sheet-both (isDesk t n) (isProfile profile) (soundDesk d) 0 2 21
-        go false = sheet-both (isDesk t n) false (soundDesk d) 0 2 12
+        go true = cond-between (isDesk t n) (soundDesk d) (isProfile profile) 0 2 21
+        go false = cond-between (isDesk t n) (soundDesk d) false 0 2 12
 
     pub lent-report-table : Answers (reportTable (SoundLent t n) sheet profile) (reportLent t n sheet profile .answer)
     lent-report-table =
@@ -125,9 +113,9 @@ module _ (t n : List ℕ) (sheet : ℕ) where
     lent-who-is : whoLent t n sheet item .answer ≡ cond (isSheet sheet) (cond sound (cond (isItem item) 0 6) 2) 12
     unfolding whoLent
     lent-who-is =
-        who-cond (isDesk t n) _ _
-        ∙ ap₂ (λ (a b : ℕ). cond (isDesk t n) a b) (who-is d sheet item) (who-cond (isSheet sheet) _ _)
-        ∙ sheet-both (isDesk t n) (isSheet sheet) (soundDesk d) (cond (isItem item) 0 6) 2 12
+        cond-ap (λ (w : Who). w .answer) (isDesk t n) _ _
+        ∙ ap₂ (λ (a b : ℕ). cond (isDesk t n) a b) (who-is d sheet item) (cond-ap (λ (w : Who). w .answer) (isSheet sheet) _ _)
+        ∙ cond-between (isDesk t n) (soundDesk d) (isSheet sheet) (cond (isItem item) 0 6) 2 12
 
     pub lent-who-table : Answers (whoTable (SoundLent t n) sheet item) (whoLent t n sheet item .answer)
     lent-who-table = subst⁻¹ (Answers (whoTable (SoundLent t n) sheet item)) lent-who-is (who-number (SoundLent t n) sound (lent-so t n) sheet item)

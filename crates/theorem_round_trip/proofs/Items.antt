@@ -2,7 +2,7 @@
 -- Assumes nothing.
 use mathlib.Core.Path.{_≡_, refl, sym, ap, _∙_}
 use mathlib.Core.Bool.{Bool, true, false, cond}
-use mathlib.Core.List.{List, [], _∷_}
+use mathlib.Core.List.{List, [], _∷_, map-append}
 use Prim.Native.Nat.{ℕ, zero, suc, _+_, _≤_, _<_}
 use native.Mathlib.Nat.{add-zero, add-suc, suc-add, not-suc-le-zero, le-of-suc-le-suc}
 use native.Mathlib.Numerals.{add-one}
@@ -11,7 +11,7 @@ use borrow.Author.Tests.{eq-eqb, ne-eqb, eqb-true}
 use lib.Dec.{ltb, leb, eqb}
 use lib.ListN.{length, getD, drop, length-append}
 use Rattle.text_copies.specs.Each.{linesFrom}
-use Rattle.text.proofs.Bools.{and-both}
+use Rattle.text.proofs.Bools.{and-both, cond-keeps}
 use Rattle.line_items.specs.Items.{itemCount}
 use Rattle.line_items.specs.Typed.{lineMost}
 use Rattle.line_kinds.specs.Kinds.{fits}
@@ -23,12 +23,11 @@ use Rattle.desk_soundness.specs.SoundLog.{logMost}
 use Rattle.desk_state.specs.declared.sheet.Item.{Item}
 use Rattle.theorem_work.specs.Calls.{key, typing}
 use Rattle.theorem_work.specs.Work.{Entry, recordsOf, lastOf}
-use Rattle.theorem_work.proofs.Choices.{cond-keeps}
 use Rattle.theorem_sequences.proofs.LineLaws.{typed-lineOf}
 use Rattle.theorem_work.proofs.OwnerLaws.{OneBench}
 use Rattle.file_cif.specs.File.{itemLine}
 use Rattle.theorem_round_trip.specs.RoundTrip.{recordRoom, roomFor, filledCount}
-use Rattle.theorem_round_trip.proofs.Plays.{map-append, workOf, entryOf, Plays, plays-none, plays-then, line-plays}
+use Rattle.theorem_round_trip.proofs.Plays.{workOf, entryOf, Plays, plays-none, plays-then, line-plays}
 
 -- the entries es, with one more where item k is filled
 abbrev pub withItem : ℕ → ℕ → Item → List Entry → List Entry

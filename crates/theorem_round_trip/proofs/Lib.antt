@@ -1,5 +1,4 @@
 pub mod Lines
-pub mod Fitting
 pub mod Plays
 pub mod Items
 pub mod Room

@@ -2,7 +2,7 @@
 -- Assumes nothing.
 use mathlib.Core.Path.{_≡_, refl, sym, ap, ap₂, _∙_}
 use mathlib.Core.Bool.{true, false}
-use mathlib.Core.List.{List, [], _∷_, _++_, map, append-assoc, append-nil}
+use mathlib.Core.List.{List, [], _∷_, _++_, map, append-assoc, append-nil, map-append}
 use Prim.Native.Nat.{ℕ, _+_, _-_, _≤_, _<_}
 use native.Mathlib.Omega.{arith}
 use borrow.Author.Tests.{lt-ltb, le-leb, leb-true, ne-eqb}
@@ -10,7 +10,7 @@ use lib.Dec.{leb, eqb}
 use lib.ListN.{length, drop, set, replicate, length-append, replicate-append-replicate}
 use lib.Seq.{getD-set-same, set-set, drop-append-add}
 use Rattle.text.specs.Run.{all, between}
-use Rattle.text.proofs.Bools.{and-both}
+use Rattle.text.proofs.Bools.{and-both, and-true-true}
 use Rattle.text.proofs.Runs.{all-append}
 use Rattle.line_items.specs.Items.{itemCount, itemRow}
 use Rattle.line_items.specs.Typed.{lineMost, isTyped}
@@ -29,15 +29,10 @@ use Rattle.rows.specs.Rows.{noRows}
 use Rattle.rows.specs.declared.Rows.{Rows}
 use Rattle.theorem_work.specs.Calls.{Call, key, Reply, keyed, answered, final, typing}
 use Rattle.theorem_work.specs.Work.{Entry, Work, typedBy, recordsOf, tableAnswer, textAfter, withEntryOf, entriesAfter, workStep}
-use Rattle.theorem_work.proofs.Choices.{and-true-true}
 use Rattle.theorem_work.proofs.OwnerLaws.{OneBench, one-bench-may, one-bench-sheet}
 use Rattle.theorem_work.proofs.Gathering.{answered-append, final-append}
 use Rattle.file_cif.specs.File.{endedLine, itemText}
-use Rattle.theorem_round_trip.proofs.Fitting.{fitting}
-
-pub map-append : {A B : Type 0} (f : A → B) (xs ys : List A) → map f (xs ++ ys) ≡ map f xs ++ map f ys
-map-append f [] ys = refl
-map-append f (x ∷ xs) ys = ap (λ (r : List _). f x ∷ r) (map-append f xs ys)
+use Rattle.line_kinds.proofs.Fitting.{fitting}
 
 -- the work in which the bench has typed p, and the others nothing
 abbrev pub workOf : ℕ → List ℕ → List Entry → Work
@@ -149,8 +144,8 @@ module _ (len : ℕ) where
         let name = itemRow k .name in
         let t : List ℕ = name ++ (32 ∷ v) in
         let g = fitting k v f in
-        let c = entry-taken k v some known (g .value) (g .passes) (g .typed) (g .short) in
+        let c = entry-taken k v some known (g .value) (g .passes) (g .typed) (g .line) in
         let at : drop (length name + 1) t ≡ v = drop-append-add name (32 ∷ v) 1 in
         let typed : all isTyped t ≡ true = all-append isTyped name (32 ∷ v) (name-typed k some known) (and-true-true (isTyped 32) (all isTyped v) refl (g .typed)) in
         let long = length-append name (32 ∷ v) in
-        rw (name-of k some known) (typed-plays t v k (length name + 1) es alone typed (omega (arith, g .short)) c at room)
+        rw (name-of k some known) (typed-plays t v k (length name + 1) es alone typed (omega (arith, g .line)) c at room)

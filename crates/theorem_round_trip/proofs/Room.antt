@@ -14,7 +14,7 @@ use Rattle.desk_state.specs.Sheets.{valueIn}
 use Rattle.desk_soundness.specs.Sound.{every, soundItem}
 use Rattle.desk_state.specs.declared.sheet.Item.{Item}
 use Rattle.theorem_round_trip.specs.RoundTrip.{recordRoom, roomFor}
-use Rattle.theorem_round_trip.proofs.Fitting.{fitting}
+use Rattle.line_kinds.proofs.Fitting.{fitting}
 use Rattle.theorem_round_trip.proofs.Items.{filled-fits}
 
 item-most : (s n j : ℕ) (i : Item) → soundItem s n j i ≡ true → recordRoom i ≤ headLength + lineMost
@@ -22,7 +22,7 @@ item-most s n j i h = go (eqb (i .len) 0) refl
   where
     go : (t : Bool) → eqb (i .len) 0 ≡ t → recordRoom i ≤ headLength + lineMost
     go true e = rw e (omega arith)
-    go false e = let g = fitting (suc j) (valueIn i) (filled-fits s n j i e h) in rw e (omega (arith, g .short))
+    go false e = let g = fitting (suc j) (valueIn i) (filled-fits s n j i e h) in rw e (omega (arith, g .line))
 
 pub room-most : (s n j : ℕ) (is : List Item) → every (soundItem s n) j is ≡ true → roomFor is ≤ (headLength + lineMost) * length is
 unfolding every

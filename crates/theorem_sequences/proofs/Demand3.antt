@@ -8,6 +8,7 @@ use borrow.Author.Tests.{lt-ltb, le-ltb}
 use lib.ListN.{length, getD, take, drop, getD-replicate}
 use lib.Seq.{take-append-seam, drop-append-seam}
 use Rattle.text.specs.Run.{all, between}
+use Rattle.text.proofs.Bools.{cond-true, cond-false}
 use Rattle.line_items.specs.Items.{itemCount}
 use Rattle.desk_state.specs.Lines.{lineOf}
 use Rattle.desk_state.specs.Sheets.{emptyItem, noItem, itemAt, emptySheet}
@@ -23,7 +24,6 @@ use Rattle.theorem_work.specs.Gather.{own, gather, gatherAnswered}
 use Rattle.theorem_work.specs.Work.{Work, Entry, noWork, recordsOf, entriesOf, timesOf, lastOf, sheetOf, keyAnswer, reportOn, workStep}
 use Rattle.theorem_work.specs.Logged.{recordsNaming}
 use Rattle.theorem_work.specs.Entered.{Entered, enteredFirst, enteredBy, textAfterCalls}
-use Rattle.theorem_work.proofs.Choices.{cond-true, cond-false}
 use Rattle.theorem_work.proofs.GatherChecks.{gather-regroups}
 use Rattle.theorem_work.proofs.OneRegrouping.{one-regrouping}
 use Rattle.theorem_work.proofs.Gathering.{final-append, gathered}

@@ -11,7 +11,7 @@ use lib.Dec.{ltb, leb, eqb}
 use lib.ListN.{length, take, drop, set, length-append, length-drop, length-map}
 use lib.Seq.{take-at, drop-append-add, drop-drop}
 use Rattle.text.specs.Run.{between}
-use Rattle.text.proofs.Bools.{and-both}
+use Rattle.text.proofs.Bools.{and-both, cond-sim, cond-true}
 use Rattle.line_items.specs.Items.{itemCount, isItem}
 use Rattle.line_items.specs.Typed.{lineMost, isTyped}
 use Rattle.line_reader.specs.Line.{classOf}
@@ -39,7 +39,6 @@ use Rattle.theorem_sequences.specs.Calls.{State, leftByKey, reportOf, st
 use Rattle.theorem_refusals.specs.KeyNumber.{enterNumber, byteNumber}
 use Rattle.theorem_work.specs.Work.{Entry, Work, typedBy, recordsOf, entriesOf, timesOf, lastOf, sheetOf, mayWrite, tableAnswer, accepts, editedText, keyAnswer, keyWork, lastTold, whoLast, whoOn, reportOn, workStep}
 use Rattle.theorem_sequences.specs.Shaped.{Shaped}
-use Rattle.theorem_work.proofs.Choices.{cond-sim, cond-true}
 use Rattle.theorem_sequences.proofs.Lists.{map-set, getD-map}
 use Rattle.theorem_sequences.proofs.LineLaws.{sound-canonical, typed-lineOf, appended-lineOf, erased-lineOf, shorter}
 use Rattle.theorem_sequences.proofs.ItemLaws.{filled-some}

@@ -10,7 +10,7 @@ use lib.Dec.{ltb, leb, eqb}
 use lib.ListN.{length, getD, take, drop, set, length-set, length-append, length-take, length-drop}
 use lib.Seq.{getD-set-same, getD-set-other}
 use Rattle.text.specs.Run.{all}
-use Rattle.text.proofs.Bools.{and-both}
+use Rattle.text.proofs.Bools.{and-both, and-true-true, cond-keeps}
 use Rattle.line_items.specs.Items.{itemCount}
 use Rattle.line_items.specs.Typed.{lineMost, isTyped}
 use Rattle.line_reader.specs.Line.{classOf}
@@ -32,12 +32,12 @@ use Rattle.desk_state.specs.declared.desk.Desk.{Desk}
 use Rattle.desk_soundness.proofs.Everys.{every-each, every-set}
 use Rattle.desk_entries.specs.Entry.{withEntry, withEntryOn, openTo, ownItem}
 use Rattle.desk_entries.proofs.Camps.{sheet-in}
-use Rattle.desk_entries.proofs.Items.{fitting}
+use Rattle.line_kinds.proofs.Fitting.{fitting}
 use Rattle.desk_entries.proofs.Sounds.{keeps-sound, keeps-log}
+use Rattle.desk_entries.proofs.Stores.{padded-length}
 use Rattle.desk_keys.specs.Key.{After, refused, edited, entered, stored, storedIfOpen, enteredAs, appendKey, keyStep, keyOf}
 use Rattle.theorem_sequences.specs.Shaped.{Shaped}
-use Rattle.theorem_work.proofs.Choices.{cond-keeps, and-true-true}
-use Rattle.theorem_sequences.proofs.LineLaws.{Canonical, sound-canonical, lineOf-sound, padded-length, appended-lineOf, erased-lineOf, shorter, more-typed, fewer-typed, shorter-short}
+use Rattle.theorem_sequences.proofs.LineLaws.{Canonical, sound-canonical, lineOf-sound, appended-lineOf, erased-lineOf, shorter, more-typed, fewer-typed, shorter-short}
 use Rattle.theorem_sequences.proofs.ItemLaws.{entry-fits}
 
 -- what a key call on a sound desk leaves

@@ -7,16 +7,15 @@ use Prim.Native.Nat.{ℕ, suc, _+_, _-_, _≤_, _<_}
 use native.Mathlib.Omega.{arith}
 use borrow.Author.Tests.{le-leb, lt-ltb, leb-true}
 use lib.Dec.{leb}
-use lib.ListN.{length, take, drop, getD, replicate, length-append, length-take, length-replicate, length-drop, take-append-drop, drop-of-length-le}
+use lib.ListN.{length, take, drop, getD, replicate, length-append, length-take, length-drop, take-append-drop, drop-of-length-le}
 use lib.Seq.{set-at, take-at, drop-at, length-take-le, split-at}
 use Rattle.text.specs.Run.{all, between}
-use Rattle.text.proofs.Bools.{and-both}
+use Rattle.text.proofs.Bools.{and-both, and-true-true}
 use Rattle.text.proofs.Runs.{all-append, all-take, all-replicate}
 use Rattle.line_items.specs.Typed.{lineMost, isTyped}
 use Rattle.desk_state.specs.Lines.{padded, typed, lineOf, appended, erased}
 use Rattle.desk_soundness.specs.Sound.{zeros, soundLine}
 use Rattle.desk_state.specs.declared.line.Line.{Line}
-use Rattle.theorem_work.proofs.Choices.{and-true-true}
 
 line-eq : {a b : List ℕ} {n m : ℕ} → a ≡ b → n ≡ m → _≡_ {A = Line} (record { bytes = a; len = n }) (record { bytes = b; len = m })
 line-eq p q = cc
@@ -24,13 +23,7 @@ line-eq p q = cc
 pub typed-lineOf : (t : List ℕ) → typed (lineOf t) ≡ t
 typed-lineOf t = take-at t (replicate (lineMost - length t) 0) (length t) refl
 
--- a padded text has all its bytes, and zeros after the text
-pub padded-length : (t : List ℕ) → length t ≤ lineMost → length (padded t) ≡ lineMost
-padded-length t h =
-    let n = length-append t (replicate (lineMost - length t) 0) in
-    let m = length-replicate {A = ℕ} (lineMost - length t) 0 in
-    omega arith
-
+-- a padded text has zeros after the text
 pub padded-zeros : (t : List ℕ) → zeros (drop (length t) (padded t)) ≡ true
 unfolding between
 padded-zeros t = ap zeros (drop-at t (replicate (lineMost - length t) 0) (length t) refl) ∙ all-replicate (between 0 0) (lineMost - length t) 0 refl

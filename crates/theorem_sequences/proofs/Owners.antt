@@ -7,6 +7,7 @@ use mathlib.Core.List.{List, [], _∷_, _++_}
 use Prim.Native.Nat.{ℕ, _-_, _≤_, _<_}
 use borrow.Author.Tests.{le-leb, eq-eqb}
 use lib.ListN.{length}
+use Rattle.text.proofs.Bools.{cond-true}
 use Rattle.line_items.specs.Items.{itemCount}
 use Rattle.line_reader.specs.Wording.{IsLine}
 use Rattle.desk_log.specs.Record.{recordOf}
@@ -17,7 +18,6 @@ use Rattle.desk_questions.specs.Who.{Who}
 use Rattle.theorem_work.specs.Calls.{Call, key, keyed, told}
 use Rattle.theorem_work.specs.Work.{Entry, recordsOf, onSheet, entriesOf, timesOf, whoLast}
 use Rattle.theorem_work.specs.Owning.{OneOwner}
-use Rattle.theorem_work.proofs.Choices.{cond-true}
 use Rattle.desk_entries.proofs.Camps.{sheet-in}
 use Rattle.theorem_work.proofs.Times.{Benches}
 use Rattle.theorem_sequences.specs.Sequences.{stateAfter, answerAfter, workAfter}

@@ -6,13 +6,14 @@ use mathlib.Core.List.{List}
 use Prim.Native.Nat.{ℕ}
 use lib.IntN.{ℤ}
 use Rattle.text.specs.Run.{all}
+use Rattle.text.proofs.Bools.{fails, cond-ap}
 use Rattle.symmetry_operators.specs.Operator.{Row, identity, same, turns}
 use Rattle.symmetry_operators.specs.Lists.{has, distinct}
 use Rattle.symmetry_operators.specs.Check.{operatorRows, closes, pairs, closing, judged, listShaped, checked, Outcome}
 use Rattle.symmetry_operators.proofs.Words.{shaped-is, not-shaped, list-or-not, no-unit, units-or-not, has-row, row-has, equal-rows, distinct-is, products-or-not}
 use Rattle.symmetry_operators.proofs.Position.{product-missing}
 use Rattle.theorem_refusals.specs.Table.{Answers}
-use Rattle.theorem_refusals.proofs.Firsts.{First, this, next, answers, fails}
+use Rattle.theorem_refusals.proofs.Firsts.{First, this, next, answers}
 use Rattle.theorem_symmetry.specs.Table.{listTable}
 
 module _ (n : List ℤ) where
@@ -38,13 +39,9 @@ module _ (n : List ℤ) where
       next (list-or-not n (shaped-is n p)) (next (units-or-not l q) (next (λ none. none (has-row l identity r))
       (next (λ m. distinct-is l s (m .first) (m .second) (m .apart) (m .within) (m .equal)) (next (products-or-not l t) refl))))
 
-  cond-answer : (b : Bool) (x y : Outcome) → cond b x y .answer ≡ cond b (x .answer) (y .answer)
-  cond-answer true x y = refl
-  cond-answer false x y = refl
-
   number-is : checked n .answer ≡ number (listShaped n) (all turns l) (has same l identity) (distinct same l) (all (closes l) (pairs l))
   unfolding checked judged closing
-  number-is = simp cond-answer
+  number-is = simp (cond-ap (λ (x : Outcome). x .answer))
 
   -- "each given exactly when its condition is the first that applies"
   pub list-table : Answers (listTable n) (checked n .answer)

@@ -8,6 +8,7 @@ use native.Mathlib.Omega.{arith}
 use lib.Dec.{ltb, leb, eqb}
 use lib.ListN.{length, getD, set, drop, length-append}
 use borrow.Author.Tests.{eqb-true, leb-true, le-leb}
+use Rattle.text.proofs.Bools.{cond-true, cond-false}
 use Rattle.line_items.specs.Typed.{lineMost, isTyped}
 use Rattle.line_reader.specs.Line.{classOf}
 use Rattle.line_reader.specs.declared.line.Class.{Class}
@@ -20,7 +21,6 @@ use Rattle.theorem_refusals.specs.KeyNumber.{enterNumber, keyNumber}
 use Rattle.theorem_work.specs.Calls.{Call, report, who, key, ask, keyed, reported, told}
 use Rattle.theorem_work.specs.Work.{Entry, Work, typedBy, recordsOf, onSheet, entriesOf, mayWrite, tableAnswer, accepts, textAfter, withEntryOf, entriesAfter, keyAnswer, keyWork, workStep}
 use Rattle.theorem_work.specs.Camps.{ofCamp, keptTexts, restrict, fitted}
-use Rattle.theorem_work.proofs.Choices.{cond-true, cond-false}
 use Rattle.theorem_work.proofs.WorkLaws.{work-eq}
 use Rattle.theorem_work.proofs.Alone.{Apart}
 

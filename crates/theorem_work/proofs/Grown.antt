@@ -9,7 +9,7 @@ use borrow.Author.Tests.{ltb-true, leb-true, le-leb, eqb-true}
 use lib.Dec.{ltb, leb, eqb}
 use lib.ListN.{length, getD, take, drop, set, length-append, length-take, length-drop}
 use Rattle.text.specs.Run.{all, between}
-use Rattle.text.proofs.Bools.{and-both, cond-first}
+use Rattle.text.proofs.Bools.{and-both, cond-first, and-true-true, cond-keeps}
 use Rattle.text.proofs.Runs.{all-append, all-take}
 use Rattle.line_items.specs.Typed.{lineMost, isTyped}
 use Rattle.line_reader.specs.Line.{classOf}
@@ -24,7 +24,6 @@ use Rattle.theorem_work.specs.Calls.{Call, key, ask, report, who, final}
 use Rattle.theorem_work.specs.Work.{Entry, Work, noWork, typedBy, recordsOf, entriesOf, mayWrite, tableAnswer, accepts, editedText, textAfter, withEntryOf, keyAnswer, keyWork, workStep}
 use Rattle.theorem_work.specs.Owning.{OwnedByAnother}
 use Rattle.theorem_work.specs.WorkTable.{workTable}
-use Rattle.theorem_work.proofs.Choices.{cond-keeps, and-true-true}
 use Rattle.theorem_work.proofs.Times.{Fitting, Benches}
 use Rattle.theorem_work.proofs.EntryWords.{enter-accepts, accepted-only}
 use Rattle.theorem_work.proofs.OwnerLaws.{AllRightful, may-so, key-rightful}

@@ -1,4 +1,3 @@
-pub mod Choices
 pub mod Simulation
 pub mod EndOrder
 pub mod Gathering

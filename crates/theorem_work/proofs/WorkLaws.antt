@@ -1,25 +1,21 @@
 -- The work meets the laws of `Gathering`: keys of two benches, one of them no Enter, and questions, do not see each other.
 -- Assumes nothing.
 use mathlib.Core.Path.{_≡_, refl, sym, ap, ap₂, _∙_}
-use mathlib.Core.Bool.{Bool, true, false, cond}
+use mathlib.Core.Bool.{false, cond}
 use mathlib.Core.List.{List, []}
 use Prim.Native.Nat.{ℕ}
 use lib.Dec.{eqb}
 use lib.ListN.{getD, set}
 use lib.Seq.{getD-set-other, set-comm, set-getD}
+use Rattle.text.proofs.Bools.{cond-same, cond-false}
 use Rattle.line_reader.specs.Line.{classOf}
 use Rattle.desk_state.specs.declared.sheet.Sheet.{Sheet}
 use Rattle.theorem_work.specs.Calls.{Question, report, who, key, ask, keyed}
 use Rattle.theorem_work.specs.Work.{Entry, Work, typedBy, tableAnswer, accepts, editedText, textAfter, withEntryOf, entriesAfter, keyAnswer, keyWork, workStep}
-use Rattle.theorem_work.proofs.Choices.{cond-false}
 use Rattle.theorem_work.proofs.Gathering.{Swap, Laws}
 
 pub work-eq : {l m : List (List ℕ)} {s t : List Entry} → l ≡ m → s ≡ t → _≡_ {A = Work} (record { typed = l; entries = s }) (record { typed = m; entries = t })
 work-eq p q = cc
-
-cond-same : {A : Type 0} (b : Bool) (x : A) → cond b x x ≡ x
-cond-same true x = refl
-cond-same false x = refl
 
 -- a key other than Enter neither reads nor changes the entries
 plain-entries : (x : ℕ) (a j : ℕ) (t : List ℕ) (es : List Entry) → eqb j 10 ≡ false → entriesAfter x a j t es ≡ es

@@ -10,7 +10,7 @@ use Rattle.symmetry_codes.proofs.has_hinted.Reads as reads
 use Rattle.symmetry_codes.proofs.has_hinted.Lts as lts
 use Rattle.symmetry_codes.proofs.has_code.Reads as has-code-reads
 use Rattle.symmetry_codes.proofs.hint_of.Reads as hint-of-reads
-use Rattle.symmetry_codes.proofs.wide.Reads as wide-reads
+use Rattle.text.proofs.wide.Reads as wide-reads
 
 returns : tie.Need-returns
 returns c =
