@@ -1,8 +1,9 @@
 #!/usr/bin/env bash
 # Runs other builds of the same source, since no proof covers the compiler: on the interpreter, compiled at -O0, at -O3 and with the compiler's
 # assumptions checked, as 'rt try' makes them; and holds all that they answer equal to the reference's.
-#   harness/builds.sh           a minute at most, as tools/test runs it
-#   harness/builds.sh --long    100,000 sequences by each compiled build, and the whole comparison with archives compiled at -O0
+#   harness/builds.sh           a minute or two, as tools/test runs it
+#   harness/builds.sh --long    some twenty minutes on two processors: 40,000 sequences at -O3, 8,000 at -O0 and 2,000 with assumptions checked, and the
+#                               whole comparison with archives compiled at -O0, 4,000 sequences, and as they are, 40,000
 # Needs the built harness and programs. Prints one line for each check and at the end 'N passed, M failed'.
 set -u
 case "$*" in
@@ -15,6 +16,13 @@ need "$desk"
 kit=${RATTLE_HOME:-/opt/rattle}
 own=$kit/on/$(uname -m)
 archives=(export_wall export_desk export_symmetry test_probe)
+# The folder of the kept builds, in the parts too.
+kept=$work
+
+# piece NAME COMMAND..: some of the checks, in the long form a part beside others.
+piece() {
+    if [ -n "$long" ]; then part "$@"; else "${@:2}"; fi
+}
 
 # toolchain FOLDER LEVEL: the kit's, but that it keeps each linked program there as 1, 2 and so on, and compiles a static library at this level.
 toolchain() {
@@ -81,82 +89,81 @@ tried() {
 # The kept builds, as number and name.
 builds=('1 -O0' '2 -O3' '3 checked')
 
+# The program desk by one of the kept builds: the stored sessions, and so many generated inputs.
+desk_build() {
+    local build=$1 runs=$2 input
+    local of=$kept/desk/${build% *} name="desk, ${build#* }"
+    for input in harness/desk-sessions/*.in; do
+        prints "$name: $(basename "$input" .in)" "${input%.in}.out" "$input" "$of"
+    done
+    summary "$name: $runs generated inputs" "$harness" desk-runs "$of" 31 "$runs"
+}
+
+# The stored sessions of at most 56 bytes by all four.
+short_sessions() {
+    local input
+    for input in $(find harness/desk-sessions -name '*.in' -size -57c | sort); do
+        tried "desk, four ways: $(basename "$input" .in)" "$work/again" desk crates/desk/src/main.rt "$(used_by desk)" "$input" "${input%.in}.out"
+    done
+}
+
 # The program desk.
 desk_builds() {
     # The interpreter takes at most 10 million steps, too few for a session of 57 keys.
-    local first=harness/desk-sessions/odd_last_enter input name build of crates
+    local first=harness/desk-sessions/odd_last_enter build
     local -A runs=([1]=60 [2]=300 [3]=12)
     [ -z "$long" ] || runs=([1]=1000 [2]=5000 [3]=100)
-    crates="$(used_by desk)"
-    tried "desk, four ways: odd_last_enter" "$work/desk" desk crates/desk/src/main.rt "$crates" $first.in $first.out
+    tried "desk, four ways: odd_last_enter" "$kept/desk" desk crates/desk/src/main.rt "$(used_by desk)" $first.in $first.out
     for build in "${builds[@]}"; do
-        of=$work/desk/${build% *} name="desk, ${build#* }"
-        for input in harness/desk-sessions/*.in; do
-            prints "$name: $(basename "$input" .in)" "${input%.in}.out" "$input" "$of"
-        done
-        summary "$name: ${runs[${build% *}]} generated inputs" "$harness" desk-runs "$of" 31 "${runs[${build% *}]}"
+        piece "desk${build% *}" desk_build "$build" "${runs[${build% *}]}"
     done
-    [ -n "$long" ] || return
-    for input in $(find harness/desk-sessions -name '*.in' -size -57c | sort); do
-        name=$(basename "$input" .in)
-        tried "desk, four ways: $name" "$work/again" desk crates/desk/src/main.rt "$crates" "$input" "${input%.in}.out"
-    done
+    [ -z "$long" ] || part sessions short_sessions
 }
 
-# generated FOLDER SEED NUMBER BUILD..: so many generated sequences, each with lines, values, sheets and files, by these of the kept builds.
+# generated SEED NUMBERS..: so many generated sequences by each of the kept builds, each sequence with lines, values, sheets and files.
 generated() {
-    local folder=$1 seed=$2 number=$3 build
-    shift 3
-    mkdir -p "$folder"
-    "$harness" frames "$seed" "$number" "$folder" || fail "frames" "seed $seed is not written"
-    for build; do
-        prints "library, ${build#* }: $number generated sequences, seed $seed" "$folder/stdout" "$folder/stdin" "$work/library/${build% *}"
+    local seed=$1 build number
+    shift
+    mkdir -p "$work/frames"
+    for build in "${builds[@]}"; do
+        number=$1
+        shift
+        "$harness" frames "$seed" "$number" "$work/frames" || fail "frames" "seed $seed is not written"
+        prints "library, ${build#* }: $number generated sequences, seed $seed" "$work/frames/stdout" "$work/frames/stdin" "$kept/library/${build% *}"
     done
-}
-
-# part SEED: 1000 sequences by every build, with a folder of its own, beside other parts.
-part() {
-    local library=$work/library
-    work=$work/part$1
-    mkdir "$work" && ln -s "$library" "$work/library"
-    generated "$work/frames" "$1" 1000 "${builds[@]}"
-    rm -rf "$work"
+    rm -r "$work/frames"
 }
 
 # The calls of the library, through the program test_caller: the measured examples four ways, then the fixed lists and generated sequences by the compiled builds.
 library_builds() {
     local build seed part
-    local -A number=([1]=400 [2]=2000 [3]=60)
     mkdir -p "$work/examples" "$work/lists"
     "$harness" example-frames "$work/examples" && "$harness" frames "$work/lists" || fail "frames" "not written"
     for part in "$work"/examples/*; do
-        tried "library, four ways: measured examples, part ${part##*/}" "$work/library" test_caller crates/test_caller/src/main.rt "$(used_by test_caller)" "$part/stdin" "$part/stdout"
+        tried "library, four ways: measured examples, part ${part##*/}" "$kept/library" test_caller crates/test_caller/src/main.rt "$(used_by test_caller)" "$part/stdin" "$part/stdout"
     done
     for build in "${builds[@]}"; do
-        prints "library, ${build#* }: fixed lists" "$work/lists/stdout" "$work/lists/stdin" "$work/library/${build% *}"
+        piece "lists${build% *}" prints "library, ${build#* }: fixed lists" "$kept/lists/stdout" "$kept/lists/stdin" "$kept/library/${build% *}"
     done
     if [ -z "$long" ]; then
-        for build in "${builds[@]}"; do
-            generated "$work/frames" 32 "${number[${build% *}]}" "$build"
-        done
+        generated 32 400 2000 60
         return
     fi
-    # 100 parts, as many at once as there are processors.
-    for seed in $(seq 100); do
-        [ "$(jobs -rp | wc -l)" -lt "$(nproc)" ] || wait -n
-        (part "$seed") >"$work/$seed.told" 2>&1 &
-    done
-    wait
-    for seed in $(seq 100); do
-        cat "$work/$seed.told"
-        passed=$((passed + $(grep -c '^ok ' "$work/$seed.told")))
-        failed=$((failed + ${#builds[@]} - $(grep -c '^ok ' "$work/$seed.told")))
+    # A sequence makes some 630 calls, each of which looks through the whole desk: in a part each build takes some ten seconds.
+    for seed in $(seq 40); do
+        part "generated$seed" generated "$seed" 200 1000 50
     done
 }
 
-# The archives compiled at -O0 in place of -O3, and the whole comparison with them; 100,000 sequences of the five million lines.
-archive_builds() {
-    local name level=-O0 count=5000000
+# compared NAME PROGRAM COUNT: the whole comparison by one program, with so many lines.
+compared() {
+    summary "$1" "$2" compare --count "$3"
+    grep -a -E '^(fixed seed|measured|sequences)' "$work/out"
+}
+
+# The archives compiled at -O0 in place of -O3, and the whole comparison with them.
+unoptimised_archives() {
+    local name level=-O0
     toolchain "$work/toolchain" $level
     mkdir "$work/archives"
     for name in "${archives[@]}"; do
@@ -167,16 +174,18 @@ archive_builds() {
     done
     PROVED_LIBS=$work/archives CARGO_TARGET_DIR=$PWD/build/cargo$level cargo build --release --offline --quiet --manifest-path harness/Cargo.toml ||
         { fail "archives at $level" "the harness is not built"; return; }
-    summary "archives at $level" "build/cargo$level/release/harness" compare --count $count
-    grep -a -E '^(fixed seed|measured|sequences)' "$work/out"
-    summary "archives as proved, at -O3" "$harness" compare --count $count
-    grep -a -E '^(fixed seed|measured|sequences)' "$work/out"
+    compared "archives at $level" "build/cargo$level/release/harness" 200000
 }
 
 if [ "$(uname -m)" = x86_64 ]; then
-    desk_builds
+    # The longest parts begin first.
+    if [ -n "$long" ]; then
+        part unoptimised unoptimised_archives
+        part proved compared "archives as proved, at -O3" "$harness" 2000000
+    fi
     library_builds
-    [ -z "$long" ] || archive_builds
+    desk_builds
+    parts_ended
 else
     echo "skipped: other builds (they are for x86-64)"
 fi

@@ -102,6 +102,38 @@ summary() {
     fi
 }
 
+# part NAME COMMAND..: checks that run beside other parts, as many at once as there are processors, with a folder of their own below $work.
+parts=()
+part() {
+    local name=$1
+    shift
+    while [ "$(jobs -rp | wc -l)" -ge "$(nproc)" ]; do wait -n; done
+    mkdir "$work/$name"
+    parts+=("$name")
+    (
+        work=$work/$name passed=0 failed=0
+        "$@"
+        echo "$passed passed, $failed failed"
+    ) >"$work/$name.said" 2>&1 &
+}
+
+# parts_ended: waits for the parts, prints what they said in their order, and counts it. One that was cut off before its last line has failed.
+parts_ended() {
+    local name
+    wait
+    for name in "${parts[@]}"; do
+        if [[ $(tail -n 1 "$work/$name.said") =~ ^([0-9]+)\ passed,\ ([0-9]+)\ failed$ ]]; then
+            sed '$d' "$work/$name.said"
+            passed=$((passed + BASH_REMATCH[1]))
+            failed=$((failed + BASH_REMATCH[2]))
+        else
+            cat "$work/$name.said"
+            fail "part $name" "it did not end"
+        fi
+    done
+    parts=()
+}
+
 # finish: the count of all checks.
 finish() {
     echo "$passed passed, $failed failed"

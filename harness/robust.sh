@@ -1,12 +1,12 @@
 #!/usr/bin/env bash
 # Runs the programs and the library on empty, random and huge input, and under valgrind, and holds what they answer equal to the reference's.
-#   harness/robust.sh           about a minute, as tools/test runs it
-#   harness/robust.sh --long    more inputs, longer ones
+#   harness/robust.sh           a minute or two, as tools/test runs it
+#   harness/robust.sh --long    some fifteen minutes on two processors: more inputs, longer ones
 # Needs the built harness, client and programs. Prints one line for each check and at the end 'N passed, M failed'.
 set -u
 case "$*" in
     '') memory=4000 random=500000 huge=16000000 lines=8000 ;;
-    --long) memory=200000 random=8000000 huge=512000000 lines=200000 ;;
+    --long) memory=100000 random=8000000 huge=512000000 lines=200000 ;;
     *) echo "usage: harness/robust.sh [--long]" >&2; exit 2 ;;
 esac
 . "$(dirname "$0")/checks.sh"
@@ -239,13 +239,6 @@ END
     if [ $status -eq $faults ]; then ok "valgrind sees a read beyond the lent bytes"; else fail "valgrind sees a read beyond the lent bytes" "exit $status"; fi
 }
 
-# library FOLDER: the comparison under valgrind, beside the programs, with a folder of its own.
-library() {
-    work=$1
-    mkdir "$work"
-    summary "library: lent blocks of exact length" valgrind -q --error-exitcode=$faults "$harness" memory --count "$memory"
-}
-
 programs() {
     local input name
     every_program clean "no input" "$work/empty"
@@ -316,20 +309,22 @@ refusals() {
     refuses "wall_screen: input cannot be read" 1 "$client" <.
 }
 
+valgrind_runs=
+if ensure_valgrind; then
+    valgrind_runs=1
+    # The comparison under valgrind, which takes the longest, beside all else.
+    part library summary "library: lent blocks of exact length" valgrind -q --error-exitcode=$faults "$harness" memory --count "$memory"
+fi
 inputs
 slow_disk
 unwatched
 sanitized
-if ensure_valgrind; then
+if [ -n "$valgrind_runs" ]; then
     fault_is_seen
-    (library "$work/library") >"$work/library.out" 2>&1 &
-    watching=$!
     programs
     running
     refusals
-    wait $watching
-    cat "$work/library.out"
-    if grep -q '^ok ' "$work/library.out"; then passed=$((passed + 1)); else failed=$((failed + 1)); fi
+    parts_ended
 else
     echo "skipped: runs under valgrind (it is not there, and cannot be installed)"
 fi
