@@ -1273,7 +1273,9 @@ def judge(typists, found, flushes, waits, seconds):
               else f"{late} of {len(took)} late, the worst {max(took, default=0) * 1000:.1f} ms, {lost} not shown, {len(found)} records, {len(flushes)} flushes of {len(enters)} Enters")
 
     def told(took):
-        took = sorted(took) or [0.0]
+        if not took:
+            return "none"
+        took = sorted(took)
         late = sum(1 for one in took if one > 0.010)
         return f"{len(took)}, half within {took[len(took) // 2] * 1000:.2f} ms, 99 of 100 within {took[len(took) * 99 // 100] * 1000:.2f} ms, the worst {took[-1] * 1000:.2f} ms, {late} over 10 ms"
 
