@@ -1267,13 +1267,15 @@ def judge(typists, found, flushes, waits, seconds):
             begun.append(start - max(due, flushes[place - 1][1] if place else 0.0))
     what = f"with a flush of {waits} ms" if waits else "with flushing"
     # Others use the processors too, so one in ten may be late.
-    for name, took in [("keys other than Enter", keys + behind), ("Enters, after their flush", enters), ("flushes begun", begun)]:
+    for name, took in [("keys other than Enter", keys + behind), ("Enters, from their flush and to it", enters + begun)]:
         late = sum(1 for one in took if one > 0.010)
         check(f"{what}: {name}, within 10 ms", "" if took and late * 10 <= len(took) and not lost and len(flushes) == len(found) == len(enters)
               else f"{late} of {len(took)} late, the worst {max(took, default=0) * 1000:.1f} ms, {lost} not shown, {len(found)} records, {len(flushes)} flushes of {len(enters)} Enters")
 
     def told(took):
-        took = sorted(took) or [0.0]
+        if not took:
+            return "none"
+        took = sorted(took)
         late = sum(1 for one in took if one > 0.010)
         return f"{len(took)}, half within {took[len(took) // 2] * 1000:.2f} ms, 99 of 100 within {took[len(took) * 99 // 100] * 1000:.2f} ms, the worst {took[-1] * 1000:.2f} ms, {late} over 10 ms"
 
