@@ -36,6 +36,8 @@ use std::path::Path;
 const CALLS: u8 = 0;
 const FRESH_CALLS: u8 = 1;
 const WALL: u8 = 2;
+/// The most bytes of a log, of a name or text, and of a room that `crates/test_caller` takes.
+const LONGEST: [usize; 3] = [131_072, 1_024, 81_920];
 /// What stands in memory before it is made a fresh desk, and in a room before the call.
 const FILL: u8 = 0xa5;
 /// Each generated sequence comes with so many lines, values and sheets, and desks of any kind.
@@ -52,6 +54,8 @@ struct Frames {
 
 impl Frames {
     fn head(&mut self, kind: u8, numbers: [usize; 4]) {
+        let fits = numbers[1..].iter().zip(LONGEST).all(|(length, longest)| *length <= longest);
+        assert!(fits, "{numbers:?}: more than is taken");
         self.stdin.push(kind);
         self.stdin.extend(numbers.iter().flat_map(|&number| (number as u32).to_le_bytes()));
     }

@@ -9,8 +9,12 @@ use rows::ROW_COUNT;
 // The bytes of a frame's head: its kind, and four numbers of four bytes of which three count.
 const HEAD: usize = 17;
 
-// The most bytes that are lent.
-const LONGEST: usize = 262144;
+// The most bytes that are lent as a log, as a name or a text, and as the room of a file: a longer array costs the check of main more.
+const LONGEST_LOG: usize = 131072;
+
+const LONGEST_NAME: usize = 1024;
+
+const LONGEST_OUT: usize = 81920;
 
 // How many calls there are, or the row of the wall screen, and the lengths of the bytes that are lent.
 struct Lengths {
@@ -234,8 +238,8 @@ fn run(log: &mut [u8], name: &mut [u8], out: &mut [u8]) {
 }
 
 fn main() {
-    let mut log = [0u8; LONGEST];
-    let mut name = [0u8; LONGEST];
-    let mut out = [0u8; LONGEST];
+    let mut log = [0u8; LONGEST_LOG];
+    let mut name = [0u8; LONGEST_NAME];
+    let mut out = [0u8; LONGEST_OUT];
     run(&mut log, &mut name, &mut out);
 }
