@@ -30,7 +30,7 @@ const NOT_METALS: [u8; 50] = *b"H HeB C N O F NeSiP S ClArGeAsSeBrKrTeI XeAtRnTs
 // The symbols that have a weight, and the weight of each, in thousandths.
 const WEIGHED: [u8; 50] = *b"H B C N O F NaMgAlSiP S ClK CaMnFeCoNiCuZnBrAgI Pb";
 
-const WEIGHTS: [u32; 25] = [
+const WEIGHTS: [u64; 25] = [
     1008,
     10810,
     12011,
@@ -122,5 +122,5 @@ pub fn weight_of(a: u8, b: u8) -> Weight
     let Place::At(k) = find(&WEIGHED, a, b) else {
         return Weight::NoWeight;
     };
-    Weight::Thousandths(WEIGHTS[k] as u64)
+    Weight::Thousandths(WEIGHTS[k])
 }

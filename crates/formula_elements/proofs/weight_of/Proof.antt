@@ -1,13 +1,11 @@
 -- `formula_elements::weight_of` meets its contract: the weight stands where the symbol does.
 -- Assumes nothing.
 use native.Mathlib.Omega.{arith}
-use mathlib.Core.Path.{_≡_, sym, ap, subst, _∙_}
+use mathlib.Core.Path.{_≡_, sym, ap, _∙_}
 use Prim.Native.Nat.{_<_}
-use lib.ListN.{getD}
 use Rattle.formula_elements.specs.Elements.{weights, weightOf}
 use Rattle.formula_elements.proofs.Places.{place-within}
-use Rattle.formula_elements.proofs.Weights.{symbolsIn, valuesIn, weightAt, weight-place, Light, weight-light}
-use Rattle.formula_elements.specs.declared.Weight.the-variants.{Thousandths}
+use Rattle.formula_elements.proofs.Weights.{symbolsIn, valuesIn, weightAt, weight-place}
 use borrow.Author.Needs.{needs}
 use Rattle.formula_elements.proofs.weight_of.Statement.{statement}
 use Rattle.formula_elements.proofs.weight_of.Tie as tie
@@ -33,19 +31,9 @@ mul-t9 c = omega (arith, within (c .before))
 array-read-t12 : tie.Need-array-read-t12
 array-read-t12 c = omega (arith, within (c .before))
 
--- the weight at that place, which no weight is above
-heavy : (c : tie.After-k) → weightOf (c .before .before .before .before .args .a) (c .before .before .before .before .args .b) ≡ Thousandths (getD (valuesIn weights) (c .k .given .0 .0) 0)
-heavy c = weighed (c .before .before) ∙ ap (weightAt (valuesIn weights)) (c .k .given .1)
-
-cast-t13 : tie.Need-cast-t13
-unfolding valuesIn weights
-cast-t13 c =
-    let l = subst Light (heavy (c .before)) (weight-light _ _) in
-    record { fits = omega (arith, l) }
-
 returns-2 : tie.Need-returns-2
 unfolding valuesIn weights
-returns-2 c = sym (heavy (c .before))
+returns-2 c = sym (weighed (c .before .before .before) ∙ ap (weightAt (valuesIn weights)) (c .before .k .given .1))
 
 pub weight-of-spec : {M : Type 1} → statement M
 weight-of-spec =
@@ -58,5 +46,4 @@ weight-of-spec =
     returns
     mul-t9
     array-read-t12
-    cast-t13
     returns-2)
