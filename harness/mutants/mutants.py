@@ -101,9 +101,8 @@ def main():
     expected = [number for number, name in enumerate(names, 1) if name not in reasons]
     survivors = [number for number, name in enumerate(names, 1) if name in reasons]
     resource.setrlimit(resource.RLIMIT_AS, (MEMORY, MEMORY))
-    found = run([0], names, SHORT, SECONDS[SHORT])
+    found = run_all([0, *expected], names, count, SECONDS[count])
     faults = [] if found[0] is None else [f"the reference itself differs: {found[0]}"]
-    found |= run_all(expected, names, count, SECONDS[count])
     found |= run_all(survivors, names, count if count == LONG else 0, SECONDS[count])
     faults += wrong(names, found, reasons)
     if not can_fail(names, found, reasons):
