@@ -203,7 +203,9 @@ def kills(camp, count, seed):
                 else:
                     typed[bench].append(value)
                     pads.type(bench, f"{NAMES[OWN[bench]]} {value}\n")
-            desk.read(0.002)
+            # At this pace keypads and output never fill, so that neither side waits for the other for ever.
+            desk.read()
+            time.sleep(0.002)
         desk.kill()
         pads.close()
         for line in desk.lines():
