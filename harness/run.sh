@@ -3,7 +3,7 @@
 # keypads that go and come back, the counsellor's console, the screen in a real terminal, how soon a key is shown, and memory.
 #   harness/run.sh           as tools/test runs it: logs, keypads, the console, 10 kills, the screen at 80x24; no check goes by the clock
 #   harness/run.sh --live    that with 25 kills, and larger screens, how soon a key is shown, memory; a minute on a quiet machine
-#   harness/run.sh --long    the same with 300 kills, a minute of typing, a million keys
+#   harness/run.sh --long    the same with 300 kills, two minutes of typing, a million keys
 # Needs the built harness, client and camp, and python3. Prints one line for each check and at the end 'N passed, M failed'.
 set -u
 case "$*" in
