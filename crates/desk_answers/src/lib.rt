@@ -1,9 +1,11 @@
 // The answers of a key call and of the two questions, and their numbers (document 01, "Keys and their refusals"; document 02, No. 8, 9 and 11), and those of the file's writer (document 02, No. 1).
+#![tactic(auto)]
+
 ghost use Rattle.std.specs.Prelude.{◌≡◌};
 ghost use Rattle.desk_answers.specs.Number.{answer_number, asked_number, file_number};
 
 // The answers of a key call.
-#[derive(Drop)]
+#[derive(Clone, Copy)]
 pub enum Answer {
     Accepted,
     NoBench,
@@ -36,7 +38,7 @@ pub fn answer_number(a: Answer) -> u8
 }
 
 // The answers of a question.
-#[derive(Drop)]
+#[derive(Clone, Copy)]
 pub enum Asked {
     Answered,
     NoSheet,
@@ -59,7 +61,7 @@ pub fn asked_number(a: Asked) -> u8
 }
 
 // The answers of the file's writer.
-#[derive(Drop)]
+#[derive(Clone, Copy)]
 pub enum FileAnswer {
     Written,
     NoSheet,

@@ -1,4 +1,6 @@
 // One entry more on a desk in memory that the caller lends: what an accepted entry stores, and which bench may make it.
+#![tactic(auto)]
+
 ghost use Rattle.std.specs.Prelude.{◌≡◌, ℕ, ◌+◌, ◌*◌, ◌-◌, ◌<◌, ◌≤◌, true, List, length};
 ghost use Rattle.text_copies.specs.Copy.{copied};
 ghost use Rattle.line_items.specs.Typed.{line_most};

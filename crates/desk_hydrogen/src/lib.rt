@@ -1,4 +1,6 @@
 // The hydrogen helper and the check of a count, asked of a sheet of the desk in lent memory (document 02, No. 13). The memory is lent to be read: the sheet does not change.
+#![tactic(auto)]
+
 ghost use Rattle.std.specs.Prelude.{◌≡◌};
 ghost use Rattle.desk_hydrogen.specs.Hydrogens.{proposal_in, helper_lent, check_lent};
 

@@ -8,13 +8,13 @@ use native.Mathlib.Omega.{arith}
 use borrow.Author.Tests.{leb-true, le-leb, ltb-true, lt-ltb, eqb-true, eqb-false, eq-eqb, ne_eqb}
 use lib.Dec.{leb, ltb, eqb}
 use lib.ListN.{length, drop}
-use Rattle.text.specs.Run.{all, between}
+use Rattle.text.specs.Run.{between}
 use Rattle.text.proofs.Bools.{and_both}
 use Rattle.text.proofs.Runs.{all_replicate, all_same}
 use Rattle.line_values.proofs.Values.{value-is, value_taken}
 use Rattle.line_items.specs.Items.{item_row}
-use Rattle.line_items.specs.Typed.{line_most, is_typed}
-use Rattle.line_kinds.specs.Kinds.{passes, fits}
+use Rattle.line_items.specs.Typed.{line_most}
+use Rattle.line_kinds.specs.Kinds.{fits}
 use Rattle.line_kinds.proofs.Wording.{passes-is, passes-taken}
 use Rattle.line_kinds.proofs.Fitting.{fitting}
 use Rattle.desk_state.specs.Sheets.{value_in}

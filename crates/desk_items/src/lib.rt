@@ -1,4 +1,6 @@
 // The test of soundness of an item in lent memory, empty or filled (document 01, "What the desk holds"; document 02, No. 7 and 9).
+#![tactic(auto)]
+
 ghost use Rattle.std.specs.Prelude.{◌≡◌, ◌&&◌, leb, length, take, drop};
 ghost use Rattle.line_items.specs.Typed.{line_most};
 ghost use Rattle.line_kinds.specs.Kinds.{fits};

@@ -1,4 +1,6 @@
 // The key call of the desk: one key of a bench, on a desk in memory that the caller lends.
+#![tactic(auto)]
+
 ghost use Rattle.std.specs.Prelude.{◌≡◌, ℕ, ◌<◌, ◌≤◌, true, List, get_or, drop};
 ghost use Rattle.line_items.specs.Items.{item_count};
 ghost use Rattle.desk_answers.specs.Number.{answer_number};

@@ -1,9 +1,11 @@
 // The record of an accepted entry, and its writer.
+#![tactic(auto)]
+
 ghost use Rattle.std.specs.Prelude.{◌≡◌, ◌++◌, ◌+◌, ◌≤◌, length, drop};
 ghost use Rattle.desk_log.specs.Record.{head_length, record_most, head_of, written_of, free_after};
 
 // How many bytes a record took, or that there was no room for it.
-#[derive(Drop)]
+#[derive(Clone, Copy)]
 pub enum Written {
     Bytes(usize),
     NoRoom,

@@ -1,6 +1,8 @@
 // The desk in memory that the caller lends: where each part stands, what is read of it, and bytes made zero in it.
 // Texts: a slot of the longest line for each bench, then each sheet's block, a slot for each item.
 // Numbers: the length of each bench's line, then each sheet's block, each item's numbers together and then the sheet's count; then the used number.
+#![tactic(auto)]
+
 ghost use Rattle.std.specs.Prelude.{◌≡◌, ◌+◌, ◌≤◌, length, get_or, take, replicate};
 ghost use Rattle.text_copies.specs.Copy.{copied};
 ghost use Rattle.line_items.specs.Typed.{line_most};

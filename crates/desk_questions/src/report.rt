@@ -11,7 +11,7 @@ use rows::{PROFILE_COUNT, Rows};
 use rows_sheet::sheet_rows::sheet_rows;
 
 // The answer and the rows.
-#[derive(Drop)]
+#[derive(Clone, Copy)]
 pub struct Reported {
     pub answer: Asked,
     pub rows: Rows,

@@ -11,7 +11,7 @@ use desk_state::desk::{NO_BENCH, SHEET_COUNT};
 use line_items::ITEM_COUNT;
 
 // The answer, the number of the item's last entry, its bench, and how many accepted entries named the item.
-#[derive(Drop)]
+#[derive(Clone, Copy)]
 pub struct Told {
     pub answer: Asked,
     pub entry: usize,

@@ -1,4 +1,6 @@
 // A session of the program `desk`: the pairs that it reads, a bench digit and a key byte, each one key call (document 01, "Measured examples").
+#![tactic(auto)]
+
 ghost use Rattle.std.specs.Prelude.{◌≡◌};
 ghost use Rattle.desk_session.specs.Play.{bench_of};
 ghost use Rattle.desk_session.specs.Lent.{PlayLent};

@@ -1,4 +1,6 @@
 // The test of soundness of a desk in lent memory (document 01, "What the desk holds"; document 02, No. 9).
+#![tactic(auto)]
+
 ghost use Rattle.std.specs.Prelude.{◌≡◌, ℕ, ◌*◌, List, leb, length};
 ghost use Rattle.line_items.specs.Typed.{line_most};
 ghost use Rattle.desk_memory.specs.Memory.{sheet_texts, sheet_numbers, numbers_length, Sized, line_from, sheet_from, desk_of, used_of};

@@ -12,7 +12,7 @@ pub const SHEET_COUNT: usize = 2;
 // The bench number that stands for none.
 pub const NO_BENCH: u8 = 255;
 
-#[derive(Drop)]
+#[derive(Clone, Copy)]
 pub struct Desk {
     pub lines: [Line; BENCH_COUNT],
     pub sheets: [Sheet; SHEET_COUNT],

@@ -2,7 +2,7 @@
 use line_items::{ITEM_COUNT, LINE_MOST};
 
 // A value as typed, of which the first len bytes count, its entry number, its bench, and how many accepted entries named it. An empty item is zero.
-#[derive(Drop)]
+#[derive(Clone, Copy)]
 pub struct Item {
     pub value: [u8; LINE_MOST],
     pub len: usize,
@@ -11,7 +11,7 @@ pub struct Item {
     pub times: usize,
 }
 
-#[derive(Drop)]
+#[derive(Clone, Copy)]
 pub struct Sheet {
     pub items: [Item; ITEM_COUNT],
     pub count: usize,

@@ -7,7 +7,7 @@ use hydrogen_answers::Proposed;
 
 // The count of hydrogens, and the number of the answer.
 #[repr(C)]
-#[derive(Drop)]
+#[derive(Clone, Copy)]
 pub struct DeskProposed {
     pub count: usize,
     pub answer: u8,

@@ -1,5 +1,7 @@
 // The desk for C programs: include/desk.h declares these functions.
 // hydrogen: the hydrogen helper and the check of a count.
+#![tactic(auto)]
+
 ghost use Rattle.std.specs.Prelude.{◌≡◌};
 ghost use Rattle.desk_keys.specs.Lent.{KeyLent};
 ghost use Rattle.desk_questions.specs.Report.{report_lent};
@@ -15,7 +17,7 @@ pub mod reader;
 
 // The number of the answer, and the rows.
 #[repr(C)]
-#[derive(Drop)]
+#[derive(Clone, Copy)]
 pub struct DeskReported {
     pub answer: u8,
     pub rows: Rows,
@@ -23,7 +25,7 @@ pub struct DeskReported {
 
 // The item's last entry, how many accepted entries named it, the number of the answer, and the item's bench.
 #[repr(C)]
-#[derive(Drop)]
+#[derive(Clone, Copy)]
 pub struct DeskTold {
     pub entry: usize,
     pub times: usize,
@@ -33,7 +35,7 @@ pub struct DeskTold {
 
 // How many bytes were written, and the number of the answer.
 #[repr(C)]
-#[derive(Drop)]
+#[derive(Clone, Copy)]
 pub struct DeskFiled {
     pub count: usize,
     pub answer: u8,

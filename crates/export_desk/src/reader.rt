@@ -4,7 +4,7 @@ ghost use Rattle.reader_feed.specs.Feed.{FeedLent};
 
 // The byte where the refused record starts, else 0, and the number of the answer.
 #[repr(C)]
-#[derive(Drop)]
+#[derive(Clone, Copy)]
 pub struct DeskFed {
     pub place: usize,
     pub answer: u8,

@@ -1,4 +1,6 @@
 // Symmetry operators for C programs.
+#![tactic(auto)]
+
 ghost use Rattle.std.specs.Prelude.{◌≡◌};
 ghost use Rattle.symmetry_operators.specs.Check.{checked};
 ghost use Rattle.symmetry_readings.specs.Answers.{reading_number, numbers};
@@ -12,7 +14,7 @@ use symmetry_text::read_operator;
 
 // The number of the answer, and the twelve numbers of the row: zeros where there is none.
 #[repr(C)]
-#[derive(Drop)]
+#[derive(Clone, Copy)]
 pub struct SymmetryOperator {
     pub answer: u8,
     pub row: [i8; NUMBERS],
@@ -32,7 +34,7 @@ pub extern "C" fn symmetry_read(text: &[u8]) -> SymmetryOperator
 
 // How many pairs were looked at, and the number of the answer.
 #[repr(C)]
-#[derive(Drop)]
+#[derive(Clone, Copy)]
 pub struct SymmetryChecked {
     pub pairs: u64,
     pub answer: u8,

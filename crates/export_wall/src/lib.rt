@@ -1,4 +1,6 @@
 // The wall screen's two questions, for a program in C: include/wall.h declares them.
+#![tactic(auto)]
+
 ghost use Rattle.std.specs.Prelude.{◌≡◌};
 ghost use Rattle.export_wall.specs.Wall.{line_number, wall_answer, wall_grade};
 
@@ -6,7 +8,7 @@ use rows_levels::Graded;
 
 // The answer's number, and the level that goes with it.
 #[repr(C)]
-#[derive(Drop)]
+#[derive(Clone, Copy)]
 pub struct WallGraded {
     pub answer: u8,
     pub level: u8,

@@ -1,4 +1,6 @@
 // The name of a block: 1 to 32 letters, digits or `-`.
+#![tactic(auto)]
+
 ghost use Rattle.std.specs.Prelude.{◌≡◌};
 ghost use Rattle.file_block_name.specs.Block.{is_block_byte, is_block_name};
 

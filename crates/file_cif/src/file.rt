@@ -14,7 +14,7 @@ use desk_state::desk::SHEET_COUNT;
 use line_items::ITEM_COUNT;
 
 // The answer, and how many bytes were written.
-#[derive(Drop)]
+#[derive(Clone, Copy)]
 pub struct Filed {
     pub answer: FileAnswer,
     pub count: usize,

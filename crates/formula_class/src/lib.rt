@@ -1,4 +1,6 @@
 // The class of a formula by its elements (document 01, "The twelve rows": row 3).
+#![tactic(auto)]
+
 ghost use Rattle.std.specs.Prelude.{◌≡◌};
 ghost use Rattle.formula_class.specs.Class.{formula_class};
 

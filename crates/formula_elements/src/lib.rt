@@ -1,17 +1,19 @@
 // The tables of document 01: the symbols of the elements, those that are no metals, and the weights.
 // A symbol is two bytes, a space after a single letter.
+#![tactic(auto)]
+
 ghost use Rattle.std.specs.Prelude.{◌≡◌};
 ghost use Rattle.formula_elements.specs.Elements.{same_symbol, place_of, element_of, is_element, is_metal, weight_of};
 
 // Where a table has a symbol, counted from 0.
-#[derive(Drop)]
+#[derive(Clone, Copy)]
 pub enum Place {
     At(usize),
     Nowhere,
 }
 
 // A weight in thousandths, or none.
-#[derive(Drop)]
+#[derive(Clone, Copy)]
 pub enum Weight {
     Thousandths(u64),
     NoWeight,

@@ -1,5 +1,5 @@
 -- The text of every tree of the subset is read as that tree, so no text is that of two. Assumes nothing.
-use Prim.Native.Nat.{ℕ, zero, suc, ◌+◌, ◌-◌, ◌*◌, ◌≤◌, ◌<◌}
+use Prim.Native.Nat.{ℕ, zero, suc, ◌+◌, ◌*◌, ◌≤◌, ◌<◌}
 use mathlib.Core.Path.{◌≡◌, refl, sym, subst}
 use mathlib.Core.Bool.{true, false}
 use mathlib.Core.List.{List, [], ◌∷◌, ◌++◌, append_assoc}
@@ -14,7 +14,7 @@ use Rattle.text.proofs.Bools.{and_both, not-holds}
 use Rattle.text.proofs.Runs.{has-byte, run-append, run_none}
 use Rattle.formula_terms.specs.Grammar.{SymbolText, capital, capital_small, CountText, written}
 use Rattle.formula_terms.specs.Grammar as G
-use Rattle.formula_moiety.specs.Grammar.{Part, Moiety, term, group, shown_part, shown, IsTimes, IsLeaf, IsPart, IsMoiety, is_term, is_group, is_one, is_more, none}
+use Rattle.formula_moiety.specs.Grammar.{Part, Moiety, term, group, shown_part, shown, IsTimes, IsLeaf, IsPart, IsMoiety, is_term, is_group, is_one, is_more}
 use Rattle.formula_moiety.specs.Reading.{got, in_word, word, past, word_part, closed, part_of, moiety_of}
 use Rattle.formula_moiety.proofs.Leaves.{leaf-read, times-read}
 

@@ -1,4 +1,6 @@
 // The order of the symbols of a formula (document 01, "The twelve rows": row 2; document 02, No. 2).
+#![tactic(auto)]
+
 ghost use Rattle.std.specs.Prelude.{◌≡◌, ◌≤◌};
 ghost use Rattle.formula_order.specs.Order.{rank, order_key, in_order};
 

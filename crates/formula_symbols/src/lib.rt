@@ -1,4 +1,6 @@
 // Which symbols the well-formed terms of a formula's text have (document 01, "The twelve rows": rows 2 and 3).
+#![tactic(auto)]
+
 ghost use Rattle.std.specs.Prelude.{◌≡◌};
 ghost use Rattle.formula_symbols.specs.Symbols.{is_wanted, has_term};
 
@@ -6,7 +8,7 @@ use formula_terms::Step;
 use formula_terms::term::Term;
 
 // What is looked for among the terms of a formula: a symbol, or that of any metal.
-#[derive(Drop)]
+#[derive(Clone, Copy)]
 pub enum Wanted {
     Symbol(u8, u8),
     AnyMetal,

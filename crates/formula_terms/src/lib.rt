@@ -1,4 +1,6 @@
 // The terms of a formula's text, one after the other (document 01, "The twelve rows"). term: one term.
+#![tactic(auto)]
+
 ghost use Rattle.std.specs.Prelude.{◌≡◌};
 ghost use Rattle.formula_terms.specs.Terms.{step_of};
 
@@ -7,7 +9,7 @@ use crate::term::Term;
 pub mod term;
 
 // What stands at a place of a text: a term, with the place where the next one begins, or none, past the text's end.
-#[derive(Drop)]
+#[derive(Clone, Copy)]
 pub enum Step {
     Next(Term, usize),
     End,

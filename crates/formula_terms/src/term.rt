@@ -6,14 +6,14 @@ ghost use Rattle.formula_terms.specs.Term.{count_of, with_count, term_of};
 use number_decimal::Whole;
 
 // What the text after a symbol counts: so many, or that it is no count.
-#[derive(Drop)]
+#[derive(Clone, Copy)]
 pub enum Count {
     Times(u64),
     NoCount,
 }
 
 // What a term is: the two bytes of its symbol, a space after a single letter, with its count; or ill formed.
-#[derive(Drop)]
+#[derive(Clone, Copy)]
 pub enum Term {
     Well(u8, u8, u64),
     Ill,

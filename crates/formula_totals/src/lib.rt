@@ -1,5 +1,7 @@
 // The totals of each element in a moiety formula and in a formula, compared (document 02, No. 12). counts: counters of the elements;
 // moieties: the readers of a moiety formula.
+#![tactic(auto)]
+
 ghost use Rattle.std.specs.Prelude.{◌≡◌};
 ghost use Rattle.formula_totals.specs.Compare.{compared_of};
 ghost use Rattle.formula_totals.specs.Counting.{TermRoom, FormulaLeft};
@@ -12,7 +14,7 @@ mod counts;
 mod moieties;
 
 // What a comparison finds: every element's totals are the same, or some element's differ, or one of the texts cannot be read.
-#[derive(Drop)]
+#[derive(Clone, Copy)]
 pub enum Compared {
     Same,
     Differs,

@@ -13,7 +13,7 @@ use formula_terms::term::Count;
 const MOST_DEEP: usize = 4;
 
 // How many bytes a reader took, or that it read nothing.
-#[derive(Drop)]
+#[derive(Clone, Copy)]
 pub enum Taken {
     Bytes(usize),
     Nothing,

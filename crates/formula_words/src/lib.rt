@@ -1,4 +1,6 @@
 // The words of a moiety formula's text (document 02, No. 12): a word is a term, or the count after a bracket.
+#![tactic(auto)]
+
 ghost use Rattle.std.specs.Prelude.{◌≡◌, ◌≤◌, length};
 ghost use Rattle.text.specs.Run.{run_of};
 ghost use Rattle.formula_moiety.specs.Reading.{in_word, bracket_count};

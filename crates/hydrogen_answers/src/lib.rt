@@ -1,9 +1,11 @@
 // The answers of the hydrogen helper and of the check of a count, and their numbers (document 02, No. 13).
+#![tactic(auto)]
+
 ghost use Rattle.std.specs.Prelude.{◌≡◌};
 ghost use Rattle.hydrogen_answers.specs.Number.{proposed_number, proposed_count};
 
 // The answers: a right count, or why there is none.
-#[derive(Drop)]
+#[derive(Clone, Copy)]
 pub enum Proposed {
     Count(u64),
     NoSheet,

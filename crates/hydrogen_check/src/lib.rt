@@ -1,4 +1,6 @@
 // The check of a proposed count of hydrogen (document 02, No. 13): it writes the formula with that count and asks the rows.
+#![tactic(auto)]
+
 ghost use Rattle.std.specs.Prelude.{◌≡◌};
 ghost use Rattle.hydrogen_right.specs.Stages.{rows_pass, is_right};
 ghost use Rattle.hydrogen_check.specs.Check.{check_of};

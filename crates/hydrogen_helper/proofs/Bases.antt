@@ -2,23 +2,18 @@
 -- Assumes nothing.
 use Prim.Native.Nat.{ℕ, ◌+◌, ◌*◌, ◌^◌, ◌≤◌, ◌<◌}
 use mathlib.Core.Path.{◌≡◌, refl, sym, ap, ◌∙◌}
-use mathlib.Core.Bool.{Bool, true, false}
+use mathlib.Core.Bool.{true}
 use mathlib.Core.List.{List, [], ◌∷◌, map}
 use native.Mathlib.Omega.{arith}
 use borrow.Author.Tests.{le-leb}
-use lib.Dec.{leb}
 use lib.IntN.{ℤ, pos, negsuc, nat_abs}
 use lib.Signed.{mag}
 use lib.ListN.{length}
 use Rattle.text.specs.Run.{all, kind_at}
-use Rattle.number_decimal.specs.Reading.{reading_of}
-use Rattle.number_decimal.specs.declared.Reading.{Reading}
-use Rattle.number_decimal.specs.declared.Reading.TheVariants.{Number}
 use Rattle.line_quotes.specs.Quoted.{text_of}
-use Rattle.formula_elements.specs.declared.Weight.{Weight}
 use Rattle.formula_elements.specs.declared.Weight.TheVariants.{Thousandths, NoWeight}
 use Rattle.formula_terms.specs.Term.{term_of}
-use Rattle.formula_terms.specs.Terms.{cut, terms_of}
+use Rattle.formula_terms.specs.Terms.{cut}
 use Rattle.formula_terms.specs.Grammar.{joined}
 use Rattle.formula_sum.specs.Recognised.{all_recognised}
 use Rattle.formula_sum.specs.Sum.{total_weight, sum_of}

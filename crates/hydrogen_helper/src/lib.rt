@@ -1,4 +1,6 @@
 // The hydrogen helper (document 02, No. 13): the smallest right count, in closed form.
+#![tactic(auto)]
+
 ghost use Rattle.std.specs.Prelude.{◌≡◌, ◌<◌, ◌^◌};
 ghost use Rattle.hydrogen_helper.specs.Helper.{other_weight, given_weight, first_count, helper_of};
 

@@ -2,10 +2,10 @@
 -- 99000 * (b + 1008 * n) ≤ 100 * g ≤ 101000 * (b + 1008 * n). From the first n with 100 * g ≤ 101000 * (b + 1008 * n) on, a larger count only makes the other
 -- bound and the length worse: so that count is right if any is. Assumes nothing.
 use Prim.Native.Nat.{ℕ, ◌+◌, ◌-◌, ◌*◌, ◌/◌, ◌≤◌, ◌<◌}
-use mathlib.Core.Path.{◌≡◌, refl, sym, ap, subst, ◌∙◌}
-use mathlib.Core.Bool.{Bool, true, false, cond}
+use mathlib.Core.Path.{◌≡◌, refl, sym, ap, ◌∙◌}
+use mathlib.Core.Bool.{Bool, true, false}
 use mathlib.Core.Logic.{◌⊎◌, inl, inr}
-use mathlib.Core.List.{List, [], ◌∷◌, map}
+use mathlib.Core.List.{List, [], map}
 use native.Mathlib.Omega.{arith}
 use borrow.Author.Tests.{leb-true, leb-false, le-leb, eqb-true, eqb-false}
 use lib.Dec.{leb, eqb}
@@ -15,22 +15,19 @@ use Rattle.text.proofs.Bools.{not-holds}
 use Rattle.number_decimal.specs.Reading.{reading_of}
 use Rattle.number_decimal.specs.declared.Reading.TheVariants.{Number}
 use Rattle.line_quotes.specs.Quoted.{text_of}
-use Rattle.formula_elements.specs.declared.Weight.{Weight}
-use Rattle.formula_elements.specs.declared.Weight.TheVariants.{Thousandths, NoWeight}
+use Rattle.formula_elements.specs.declared.Weight.TheVariants.{Thousandths}
 use Rattle.formula_terms.specs.Term.{term_of}
 use Rattle.formula_terms.specs.Terms.{cut, terms_of}
 use Rattle.formula_sum.specs.Sum.{most_summed, total_weight, sum_of}
-use Rattle.formula_symbols.specs.Symbols.{has_carbon}
-use Rattle.hydrogen_text.specs.Hydrogens.{most_hydrogens, most_text_bytes, other_words, in_quotes}
+use Rattle.hydrogen_text.specs.Hydrogens.{most_hydrogens, most_text_bytes, other_words}
 use Rattle.hydrogen_text.specs.NewText.{with_hydrogens, new_words, new_text}
-use Rattle.hydrogen_text.proofs.Words.{some_words}
-use Rattle.hydrogen_text.proofs.Rows.{NewRows, new-rows}
+use Rattle.hydrogen_text.proofs.Rows.{new-rows}
 use Rattle.hydrogen_text.proofs.Bytes.{words_left, longer}
 use Rattle.hydrogen_right.specs.Right.{Start}
 use Rattle.hydrogen_right.specs.Stages.{is_right}
 use Rattle.hydrogen_right.proofs.Typed.{row-1-is, row-1-of, row-2-of, known-plain}
 use Rattle.hydrogen_right.proofs.Weights.{Weighs, row-4-is, row-4-of}
-use Rattle.hydrogen_right.proofs.Wording.{known-left, Tested, tested, is-tested}
+use Rattle.hydrogen_right.proofs.Wording.{known-left, tested, is-tested}
 use Rattle.hydrogen_right.proofs.Starts.{start-known, start-order}
 
 -- no smaller count is right, and this one is if any is

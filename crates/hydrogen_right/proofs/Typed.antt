@@ -1,22 +1,22 @@
 -- What rows 1 and 2 say of a text as it is typed, in quotes.
 -- Assumes nothing.
-use Prim.Native.Nat.{ℕ, ◌+◌, ◌-◌, ◌≤◌}
+use Prim.Native.Nat.{ℕ, ◌-◌}
 use native.Mathlib.Nat.{suc-ne-zero}
 use mathlib.Core.Path.{◌≡◌, refl, sym, ap, ◌∙◌}
-use mathlib.Core.Bool.{Bool, true, false, cond, ◌&&◌, ◌||◌, not, false≢true, and-false}
+use mathlib.Core.Bool.{Bool, true, false, cond, ◌&&◌, false≢true, and-false}
 use mathlib.Core.Logic.{⊎_elim}
 use mathlib.Core.List.{List, [], ◌∷◌, ◌++◌, map}
 use native.Mathlib.Omega.{arith}
-use borrow.Author.Tests.{leb-true, ne_eqb}
+use borrow.Author.Tests.{ne_eqb}
 use lib.Dec.{leb, ltb, eqb}
-use lib.ListN.{length, take, drop, get_or, length-append}
+use lib.ListN.{length, get_or, length-append}
 use lib.Seq.{take-append_seam}
 use Rattle.text.specs.Run.{all, between, other, kind_at, is_digit, is_capital, is_small}
 use Rattle.text.proofs.Bools.{and_both, or-either, not-holds}
 use Rattle.text.proofs.Runs.{all_append, all-lack}
 use Rattle.line_quotes.specs.Quoted.{inner, is_quoted_by, is_quoted, text_of}
 use Rattle.line_values.specs.Value.{is_unassigned}
-use Rattle.line_values.specs.Wording.{Mark, QuotedText}
+use Rattle.line_values.specs.Wording.{Mark}
 use Rattle.line_values.proofs.Values.{text-inside}
 use Rattle.formula_terms.specs.Term.{term_of}
 use Rattle.formula_terms.specs.Terms.{attach, cut}

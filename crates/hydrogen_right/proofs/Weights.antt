@@ -1,18 +1,17 @@
 -- What row 4 says of a text as it is typed, in quotes: at level 0 the weight is from 0.99 to 1.01 of the sum.
 -- Assumes nothing.
-use Prim.Native.Nat.{ℕ, suc, ◌+◌, ◌*◌, ◌≤◌, ◌<◌}
+use Prim.Native.Nat.{ℕ, ◌*◌, ◌≤◌}
 use mathlib.Core.Path.{◌≡◌, refl, sym, ap, ◌∙◌}
-use mathlib.Core.Bool.{Bool, true, false, cond}
+use mathlib.Core.Bool.{Bool, true, false}
 use mathlib.Core.List.{List}
 use native.Mathlib.Omega.{arith}
 use borrow.Author.Tests.{ltb-false, le-ltb}
 use lib.Dec.{ltb}
-use lib.IntN.{ℤ, pos, negsuc}
+use lib.IntN.{pos, negsuc}
 use Rattle.text.proofs.Bools.{or-neither}
 use Rattle.number_decimal.specs.Reading.{reading_of}
 use Rattle.number_decimal.specs.declared.Reading.{Reading}
 use Rattle.number_decimal.specs.declared.Reading.TheVariants.{Number, Nothing}
-use Rattle.line_quotes.specs.Quoted.{text_of}
 use Rattle.formula_elements.specs.declared.Weight.{Weight}
 use Rattle.formula_elements.specs.declared.Weight.TheVariants.{Thousandths, NoWeight}
 use Rattle.formula_sum.specs.Sum.{sum_of}
@@ -20,7 +19,6 @@ use Rattle.rows_levels.specs.Level.{level_of}
 use Rattle.rows_levels.specs.Bounds.{bounds}
 use Rattle.rows.specs.Rows.{missing}
 use Rattle.rows_weight.specs.WeightRows.{ratio_outside, ratio_level, ratio_row, weighed_of, row4}
-use Rattle.rows_weight.specs.declared.Weighed.TheVariants.{Both, NotBoth}
 use Rattle.rows_weight.proofs.WeightCases.{weighed-unread, weighed-none, weighed-both, ratio-weight, ratio-judged}
 use Rattle.hydrogen_text.specs.Hydrogens.{in_quotes}
 use Rattle.hydrogen_right.proofs.Typed.{Plain, typed-there, typed-text}

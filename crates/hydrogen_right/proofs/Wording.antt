@@ -2,9 +2,9 @@
 -- Assumes nothing.
 use Prim.Native.Nat.{ℕ, ◌≤◌}
 use mathlib.Core.Path.{◌≡◌, refl, sym, ap, subst, ◌∙◌}
-use mathlib.Core.Bool.{Bool, true, false, ◌&&◌, false≢true}
-use mathlib.Core.List.{List, [], ◌∷◌, map}
-use borrow.Author.Tests.{leb-true, le-leb, eqb-true, eq-eqb}
+use mathlib.Core.Bool.{true, false, false≢true}
+use mathlib.Core.List.{List, []}
+use borrow.Author.Tests.{leb-true, le-leb, eqb-true}
 use lib.Dec.{leb, eqb}
 use lib.ListN.{length}
 use Rattle.text.specs.Run.{all, kind_at}
@@ -17,7 +17,7 @@ use Rattle.formula_symbols.specs.Symbols.{has_carbon}
 use Rattle.formula_sum.specs.Recognised.{all_recognised}
 use Rattle.rows_formula.specs.FormulaRows.{row1, row2}
 use Rattle.rows_weight.specs.WeightRows.{row4}
-use Rattle.hydrogen_text.specs.Hydrogens.{most_hydrogens, most_text_bytes, hydrogen_terms, hydrogen_words, other_words, in_quotes}
+use Rattle.hydrogen_text.specs.Hydrogens.{most_hydrogens, most_text_bytes, hydrogen_words, other_words, in_quotes}
 use Rattle.hydrogen_text.specs.NewText.{new_words, new_text}
 use Rattle.hydrogen_text.proofs.Words.{new-cut, new_others, new-hydrogens}
 use Rattle.hydrogen_text.proofs.Unique.{one-text}

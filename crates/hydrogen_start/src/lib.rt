@@ -1,4 +1,6 @@
 // Where the hydrogen helper and the check of a count start (document 02, No. 13).
+#![tactic(auto)]
+
 ghost use Rattle.std.specs.Prelude.{◌≡◌};
 ghost use Rattle.hydrogen_right.specs.Right.{has_weight, all_weighed};
 ghost use Rattle.hydrogen_right.specs.Stages.{is_start};

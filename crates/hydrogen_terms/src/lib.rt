@@ -1,4 +1,6 @@
 // The term of so many hydrogens, and where it stands among the terms of a formula (document 02, No. 13).
+#![tactic(auto)]
+
 ghost use Rattle.std.specs.Prelude.{◌≡◌, ◌%◌, ◌≤◌, length, take};
 ghost use Rattle.number_decimal.specs.Digits.{digit};
 ghost use Rattle.hydrogen_text.specs.Hydrogens.{hydrogen_text, is_hydrogen};
@@ -8,7 +10,7 @@ use formula_elements::same_symbol;
 use formula_terms::term::Term;
 
 // A term of hydrogen: the first so many of some bytes.
-#[derive(Drop)]
+#[derive(Clone, Copy)]
 pub struct Word {
     pub bytes: [u8; 5],
     pub length: usize,

@@ -2,7 +2,7 @@
 -- Assumes nothing.
 use Prim.Native.Nat.{ℕ, ◌<◌}
 use mathlib.Core.Path.{◌≡◌, refl, sym, ap, subst, ◌∙◌}
-use mathlib.Core.Bool.{Bool, true, false, cond, ◌&&◌, false≢true}
+use mathlib.Core.Bool.{Bool, true, false, cond, false≢true}
 use mathlib.Core.List.{List, [], ◌∷◌, map}
 use native.Mathlib.Omega.{arith}
 use borrow.Author.Tests.{ltb-true, le-ltb}
@@ -20,7 +20,7 @@ use Rattle.formula_symbols.specs.Symbols.{has_carbon}
 use Rattle.formula_sum.specs.Recognised.{is_recognised, all_recognised}
 use Rattle.formula_order.specs.Order.{order_key, order_keys, rising, in_order}
 use Rattle.hydrogen_text.specs.Hydrogens.{hydrogen_text, hydrogen_terms, is_hydrogen, hydrogen_words, other_words}
-use Rattle.hydrogen_text.specs.NewText.{is_later, placed, with_hydrogens, new_words, new_text}
+use Rattle.hydrogen_text.specs.NewText.{is_later, placed, with_hydrogens, new_text}
 use Rattle.hydrogen_text.proofs.Words.{some_words, same-carbon}
 use Rattle.hydrogen_text.proofs.Keys.{hydrogen_key, own_key}
 use Rattle.hydrogen_text.proofs.Rows.{rises}

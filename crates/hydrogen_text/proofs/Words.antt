@@ -11,7 +11,7 @@ use Rattle.text.specs.Run.{all, other}
 use Rattle.text.proofs.Bools.{and_both}
 use Rattle.formula_elements.specs.Elements.{same_symbol}
 use Rattle.formula_terms.specs.Term.{term_of}
-use Rattle.formula_terms.specs.Terms.{cut, terms_of, some}
+use Rattle.formula_terms.specs.Terms.{cut, some}
 use Rattle.formula_terms.specs.Grammar.{joined, spaceless}
 use Rattle.formula_terms.proofs.Wording.{cut-joined, cut-spaceless}
 use Rattle.formula_terms.specs.declared.term.Term.{Term}

@@ -1,20 +1,20 @@
 -- The mark in place of the space after the last term makes the text as it is typed.
 -- Assumes nothing.
-use Prim.Native.Nat.{ℕ, suc, ◌+◌, ◌-◌, ◌≤◌, ◌<◌}
-use mathlib.Core.Path.{◌≡◌, refl, sym, ap, subst, ◌∙◌}
+use Prim.Native.Nat.{ℕ, ◌+◌, ◌-◌, ◌≤◌, ◌<◌}
+use mathlib.Core.Path.{◌≡◌, refl, sym, ap, ◌∙◌}
 use mathlib.Core.Bool.{Bool, true, false, cond, not}
 use mathlib.Core.Logic.{◌⊎◌, inl, inr}
 use mathlib.Core.List.{List, [], ◌∷◌, ◌++◌}
 use native.Mathlib.Numerals.{add-one}
 use native.Mathlib.Omega.{arith}
 use borrow.Author.Tests.{le-leb, lt-leb}
-use lib.Dec.{leb, eqb}
-use lib.ListN.{length, take, set, length-append}
+use lib.Dec.{eqb}
+use lib.ListN.{length, take, set}
 use lib.Seq.{take-suc-set, take-take, take_at}
 use Rattle.formula_terms.specs.Terms.{cut}
 use Rattle.formula_terms.specs.Grammar.{joined}
 use Rattle.formula_symbols.specs.Symbols.{has_carbon}
-use Rattle.hydrogen_text.specs.Hydrogens.{most_text_bytes, hydrogen_text, other_words, in_quotes}
+use Rattle.hydrogen_text.specs.Hydrogens.{most_text_bytes, hydrogen_text, other_words}
 use Rattle.hydrogen_text.specs.NewText.{placed, with_hydrogens, spread, new_words, new_text}
 use Rattle.hydrogen_text.proofs.Words.{some_words}
 use Rattle.hydrogen_text.proofs.Bytes.{spread-is, new-length}

@@ -1,5 +1,7 @@
 // Writes a formula's text with another count of hydrogen, in quotes as it is typed (document 02, No. 13).
 // put: terms one after the other.
+#![tactic(auto)]
+
 ghost use Rattle.std.specs.Prelude.{◌≡◌, ◌≤◌, length, take};
 ghost use Rattle.hydrogen_writer.specs.Typed.{typed_with};
 
@@ -14,7 +16,7 @@ const TEXT_MOST: usize = 176;
 pub const TYPED_MOST: usize = TEXT_MOST + 2;
 
 // A text as it is typed: the first so many of some bytes.
-#[derive(Drop)]
+#[derive(Clone, Copy)]
 pub struct Typed {
     pub bytes: [u8; TYPED_MOST],
     pub length: usize,

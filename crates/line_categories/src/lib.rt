@@ -1,10 +1,12 @@
 // The categories, by the classes of formulas that row 3 tells apart (document 01, "A line, a number", "The twelve rows").
+#![tactic(auto)]
+
 ghost use Rattle.std.specs.Prelude.{◌≡◌, ◌||◌};
 ghost use Rattle.text_equality.specs.Same.{exact, same_by};
 ghost use Rattle.line_categories.specs.Categories.{in_class, is_category};
 
 // The classes that row 3 tells apart.
-#[derive(Drop)]
+#[derive(Clone, Copy)]
 pub enum Class {
     Inorganic,
     MetalOrganic,

@@ -31,7 +31,10 @@ pub none_above : (item : ℕ) → item_count < item → name_of item ≡ []
 unfolding name_of
 none_above item h = let some : 1 ≤ item = omega arith in simp (le-leb 1 item some, lt-leb item item_count h)
 
+pub none_outside : (item : ℕ) → (1 ≤ item → item_count < item) → name_of item ≡ []
+none_outside zero h = none_below zero (omega arith)
+none_outside (suc j) h = none_above (suc j) (h (omega arith))
+
 -- where no arm was taken there is no name
 pub no_name : (item : ℕ) → Others item 1 item_count → name_of item ≡ []
-no_name zero none = none_below zero (omega arith)
-no_name (suc j) none = none_above (suc j) (past (suc j) 1 item_count (omega arith) none)
+no_name item none = none_outside item (λ (some : 1 ≤ item). past item 1 item_count some none)

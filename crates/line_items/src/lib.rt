@@ -1,4 +1,6 @@
 // The items and their names (document 01, "What the desk holds"; document 02, No. 11 and 12).
+#![tactic(auto)]
+
 ghost use Rattle.std.specs.Prelude.{◌≡◌, length};
 ghost use Rattle.line_items.specs.Items.{name_of};
 
@@ -11,7 +13,7 @@ pub const FIRST_TYPED: u8 = 32;
 pub const LAST_TYPED: u8 = 126;
 
 // What a value must be.
-#[derive(Drop)]
+#[derive(Clone, Copy)]
 pub enum Kind {
     Text,
     Number,
@@ -19,7 +21,7 @@ pub enum Kind {
 }
 
 // What a name names: an item, counted from 1, or none.
-#[derive(Drop)]
+#[derive(Clone, Copy)]
 pub enum Named {
     Item(usize),
     Unknown,

@@ -1,4 +1,6 @@
 // The values that an item takes, by its kind (document 01, "What the desk holds").
+#![tactic(auto)]
+
 ghost use Rattle.std.specs.Prelude.{◌≡◌, ◌<◌, ◌+◌};
 ghost use Rattle.number_decimal.specs.Reading.{is_number};
 ghost use Rattle.line_items.specs.Items.{item_count, item_row};

@@ -1,4 +1,6 @@
 // The item of a name, found in place (document 02, No. 3). The names are lent in parts: each name that a function lends costs at each of its places.
+#![tactic(auto)]
+
 ghost use Rattle.std.specs.Prelude.{◌≡◌, ℕ, ◌≤◌};
 ghost use Rattle.text_equality.specs.Same.{same_folded};
 ghost use Rattle.line_items.specs.Items.{item_count, name_of, item_of};

@@ -1,4 +1,6 @@
 // The name of an item, copied from the table of names. The names are lent in parts: each name that a function lends costs at each of its places.
+#![tactic(auto)]
+
 ghost use Rattle.std.specs.Prelude.{◌≡◌, ℕ, ◌≤◌};
 ghost use Rattle.text_copies.specs.Copy.{copied};
 ghost use Rattle.line_items.specs.Items.{item_count, name_of};

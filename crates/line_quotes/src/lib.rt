@@ -1,4 +1,6 @@
 // A quoted value, and the text of a value (document 01, "A line, a number").
+#![tactic(auto)]
+
 ghost use Rattle.std.specs.Prelude.{◌≡◌};
 ghost use Rattle.line_quotes.specs.Quoted.{is_quoted_by, is_quoted, text_of};
 

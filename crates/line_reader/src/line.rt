@@ -5,14 +5,14 @@ ghost use Rattle.line_reader.specs.Line.{split_of, split_class, class_of, class_
 use line_items::{FIRST_TYPED, LAST_TYPED, LINE_MOST, Named};
 
 // Where the name ends and the value begins, or that the text is no line.
-#[derive(Drop)]
+#[derive(Clone, Copy)]
 pub enum Split {
     Parts(usize, usize),
     Malformed,
 }
 
 // What a line is: an entry for an item, with the place where its value begins, or why it is none.
-#[derive(Drop)]
+#[derive(Clone, Copy)]
 pub enum Class {
     Entry(usize, usize),
     BadForm,

@@ -1,4 +1,6 @@
 // A value is bare or quoted (document 01, "A line, a number").
+#![tactic(auto)]
+
 ghost use Rattle.std.specs.Prelude.{◌≡◌};
 ghost use Rattle.line_values.specs.Value.{may_begin, is_reserved, is_bare, is_value, is_unassigned};
 

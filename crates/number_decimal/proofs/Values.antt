@@ -11,8 +11,12 @@ use lib.ListN.{length, get_or, take}
 use lib.Pow.{pow-add}
 use lib.Seq.{take-suc}
 use Rattle.text.specs.Run.{all, is_digit}
-use Rattle.number_decimal.specs.Digits.{most_places, value_from, value_of, scale_of}
+use Rattle.number_decimal.specs.Digits.{most_bytes, most_places, value_from, value_of, scale_of}
 use Rattle.number_decimal.proofs.Digits.{first-digit}
+
+-- a word has room for the bytes of s from i on, where the digits before write v
+abbrev pub Room : ℕ → List ℕ → ℕ → Type 0
+Room v s i = (v + 1) * 10 ^ (length s - i) ≤ 10 ^ most_bytes
 
 pub ten-le : (i j : ℕ) → i ≤ j → 10 ^ i ≤ 10 ^ j
 ten-le i j h = pow-le-pow_right (lit< tt) h

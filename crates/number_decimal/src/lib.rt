@@ -1,33 +1,35 @@
 // Reads a number (documents 01, "A line, a number", and 02, No. 4) as an exact signed decimal in millionths.
 // A client cites Reading (reading_of, isNumber). That this reading is the documents' wording (Grammar) is the theorem `agree` of proofs/Agree.antt.
+#![tactic(auto)]
+
 ghost use Rattle.std.specs.Prelude.{◌≡◌, ◌+◌, ◌*◌, ◌^◌, ◌≤◌, ◌<◌, length, take};
 ghost use Rattle.text.specs.Run.{run_of, is_digit};
 ghost use Rattle.number_decimal.specs.Digits.{most_bytes, value_from, scale_of};
 ghost use Rattle.number_decimal.specs.Reading.{Small, whole_of, closes_bracket, is_tail, size_of, point_length, unsigned_of, sign_length, signed_of, reading_of};
 
 // What reading a number finds: the number, in millionths, or that there is none.
-#[derive(Drop)]
+#[derive(Clone, Copy)]
 pub enum Reading {
     Number(i64),
     Nothing,
 }
 
 // The same with no sign.
-#[derive(Drop)]
+#[derive(Clone, Copy)]
 pub enum Size {
     Millionths(u64),
     Neither,
 }
 
 // What reading digits finds: the whole number that they write, or that a text is not a few digits.
-#[derive(Drop)]
+#[derive(Clone, Copy)]
 pub enum Whole {
     Worth(u64),
     NoDigits,
 }
 
 // The digits that a text begins with: how many, and the number that they write.
-#[derive(Drop)]
+#[derive(Clone, Copy)]
 struct DigitRun {
     count: usize,
     value: u64,

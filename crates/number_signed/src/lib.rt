@@ -1,5 +1,7 @@
 // Signed numbers. No rule of document 01 is here.
 // A client's proof cites the laws of `i64` in proofs/Signs.antt.
+#![tactic(auto)]
+
 ghost use Rattle.std.specs.Prelude.{◌≡◌, nat_abs};
 
 // The absolute value of a number.

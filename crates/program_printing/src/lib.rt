@@ -1,5 +1,7 @@
 // The printed report (document 01, "Measured examples"): of each sheet the rows for a single crystal, and the filled items with their benches and entry numbers.
 // page: a text under way.
+#![tactic(auto)]
+
 ghost use Rattle.std.specs.Prelude.{◌≡◌, ◌++◌, ◌+◌, ◌*◌, ◌≤◌, ◌<◌, length};
 ghost use Rattle.line_items.specs.Items.{item_count};
 ghost use Rattle.desk_state.specs.Desks.{sheet_count};
@@ -19,7 +21,7 @@ use line_items::ITEM_COUNT;
 use rows::{ROW_COUNT, Row, Rows};
 
 // How many bytes were printed, or that there was no room for them.
-#[derive(Drop)]
+#[derive(Clone, Copy)]
 pub enum Printed {
     Bytes(usize),
     NoRoom,

@@ -17,7 +17,7 @@ const ITEM_LINE_MOST: usize = 23 + 20 + 20 + LINE_MOST;
 pub const PAGE_MOST: usize = HEAD_MOST + ROW_LINE_MOST * ROW_COUNT + ITEM_LINE_MOST * ITEM_COUNT;
 
 // The first len bytes are written.
-#[derive(Drop)]
+#[derive(Clone, Copy)]
 pub struct Page {
     pub bytes: [u8; PAGE_MOST],
     pub len: usize,

@@ -1,9 +1,11 @@
 // The answers of a part of a log that is fed, and their numbers (document 02, No. 10).
+#![tactic(auto)]
+
 ghost use Rattle.std.specs.Prelude.{◌≡◌};
 ghost use Rattle.reader_answers.specs.Number.{feed_number};
 
 // The answers of a part.
-#[derive(Drop)]
+#[derive(Clone, Copy)]
 pub enum FeedAnswer {
     Accepted,
     Unsound,

@@ -1,4 +1,6 @@
 // A whole record of a log, judged against a desk in memory that the caller lends, and stored in it where it is taken (document 02, No. 10).
+#![tactic(auto)]
+
 ghost use Rattle.std.specs.Prelude.{◌≡◌};
 ghost use Rattle.reader_answers.specs.Number.{feed_number};
 ghost use Rattle.reader_entries.specs.Lent.{RecordLent};

@@ -1,4 +1,6 @@
 // One part of a log fed to a desk in memory that the caller lends, with the reader's own memory beside it (document 02, No. 10).
+#![tactic(auto)]
+
 ghost use Rattle.std.specs.Prelude.{◌≡◌, true, ◌++◌, ◌≤◌, ◌<◌, length, take};
 ghost use Rattle.desk_memory.specs.Memory.{desk_of, used_of};
 ghost use Rattle.reader_answers.specs.Number.{feed_number};

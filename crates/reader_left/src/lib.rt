@@ -1,4 +1,6 @@
 // What a part of a log leaves in the reader's own memory, and what it answers (document 02, No. 10).
+#![tactic(auto)]
+
 ghost use Rattle.std.specs.Prelude.{◌≡◌};
 ghost use Rattle.desk_state.specs.declared.desk.Desk.{Desk};
 ghost use Rattle.reader_answers.specs.Number.{feed_number};
@@ -10,7 +12,7 @@ use reader_answers::{FeedAnswer, feed_number};
 use reader_memory::{ENDED, GOES_ON};
 
 // The answer to a part, and its place: the byte where the refused record starts, else 0.
-#[derive(Drop)]
+#[derive(Clone, Copy)]
 pub struct Fed {
     pub place: usize,
     pub answer: FeedAnswer,

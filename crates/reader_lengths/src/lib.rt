@@ -1,4 +1,6 @@
 // The length that a record of a log tells, and whether the record's bytes so far decide it (document 02, No. 10).
+#![tactic(auto)]
+
 ghost use Rattle.std.specs.Prelude.{◌≡◌, ◌<◌};
 ghost use Rattle.desk_log.specs.Record.{length_told};
 ghost use Rattle.reader_cuts.specs.Reading.{bad_length, undecided};

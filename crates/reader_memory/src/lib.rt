@@ -1,5 +1,7 @@
 // The log's reader between two parts, in memory that the caller lends: the bytes kept of a record that they do not decide, and two numbers, how many bytes are kept and
 // how the reading stands.
+#![tactic(auto)]
+
 ghost use Rattle.std.specs.Prelude.{◌≡◌};
 ghost use Rattle.reader_answers.specs.Number.{feed_number};
 ghost use Rattle.reader_memory.specs.Memory.{is_standing, is_reader, answer_at, only_first, holding, standing};

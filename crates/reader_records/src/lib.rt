@@ -1,4 +1,6 @@
 // The shape of a record of a log, as bytes that are lent (document 02, No. 10). Nothing here looks at a desk.
+#![tactic(auto)]
+
 ghost use Rattle.std.specs.Prelude.{◌≡◌};
 ghost use Rattle.reader_records.specs.Shape.{shaped};
 

@@ -1,5 +1,7 @@
 // The records of some bytes taken one after the other on a desk in memory that the caller lends (document 02, No. 10). A record is judged where it lies; none is
 // copied.
+#![tactic(auto)]
+
 ghost use Rattle.reader_answers.specs.Number.{feed_number};
 ghost use Rattle.reader_steps.specs.Steps.{FirstLent, PartLent};
 
@@ -7,14 +9,14 @@ use desk_log::HEAD;
 use reader_answers::{FeedAnswer, feed_number};
 
 // How many bytes of a record were taken, 0 where none was, and the answer.
-#[derive(Drop)]
+#[derive(Clone, Copy)]
 pub struct Taken {
     pub bytes: usize,
     pub answer: FeedAnswer,
 }
 
 // The place of a part at which its reading stopped, and the answer.
-#[derive(Drop)]
+#[derive(Clone, Copy)]
 pub struct Stopped {
     pub from: usize,
     pub answer: FeedAnswer,

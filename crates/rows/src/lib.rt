@@ -1,4 +1,6 @@
 // A row of the report, rows without an alert, and when the value of an item is missing (document 01, "The twelve rows"; document 02, No. 11: rows 13 to 24, No. 12: row 25).
+#![tactic(auto)]
+
 ghost use Rattle.std.specs.Prelude.{◌≡◌};
 ghost use Rattle.rows.specs.Rows.{row_of, no_rows, missing};
 
@@ -11,14 +13,14 @@ pub const POWDER: u64 = 1;
 
 // Level 0 none, 1 General, 2 C, 3 B, 4 A. Reason 0 judged, 1 an item missing, 2 not judgeable.
 #[repr(C)]
-#[derive(Drop)]
+#[derive(Clone, Copy)]
 pub struct Row {
     pub level: u8,
     pub reason: u8,
 }
 
 #[repr(C)]
-#[derive(Drop)]
+#[derive(Clone, Copy)]
 pub struct Rows {
     pub rows: [Row; ROW_COUNT],
 }

@@ -1,4 +1,6 @@
 // Rows 13 to 24 of a sheet's block of memory, by the table of rules (document 02, No. 11).
+#![tactic(auto)]
+
 ghost use Rattle.std.specs.Prelude.{◌≡◌, true};
 ghost use Rattle.line_items.specs.Items.{is_item};
 ghost use Rattle.desk_memory.specs.Memory.{sheet_from};

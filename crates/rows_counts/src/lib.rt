@@ -1,5 +1,7 @@
 // Rows 13 to 24 (document 02, No. 11): a table of rules on items, and the row that each earns.
 // A client cites Counts (rule_of, keeps, rule_row, count_row). What a row says in the request's words is the theorem `count-rows` of proofs/Fires.antt.
+#![tactic(auto)]
+
 ghost use Rattle.std.specs.Prelude.{◌≡◌};
 ghost use Rattle.rows.specs.Rows.{missing};
 ghost use Rattle.rows_counts.specs.Counts.{no_order, order_of, present_row, differ_row, agree_row, above_row, rising_row, rule_of, keeps};
@@ -8,7 +10,7 @@ use number_decimal::Reading;
 use rows::{POWDER, Row, is_missing, make_row};
 
 // A rule on items, by their numbers.
-#[derive(Drop)]
+#[derive(Clone, Copy)]
 pub enum Rule {
     // The item is present.
     Present(usize),
@@ -25,7 +27,7 @@ pub enum Rule {
 }
 
 // How the numbers of two texts stand: whether both are there, whether they differ, and whether the first is above the second.
-#[derive(Drop)]
+#[derive(Clone, Copy)]
 pub struct Order {
     pub known: bool,
     pub differ: bool,

@@ -1,4 +1,6 @@
 // Rows 1 to 3: the formula by itself, and against the category (document 01, "The twelve rows").
+#![tactic(auto)]
+
 ghost use Rattle.std.specs.Prelude.{◌≡◌, cond};
 ghost use Rattle.rows.specs.Rows.{row_of, no_alert, missing};
 ghost use Rattle.rows_formula.specs.FormulaRows.{row1, row2, row3};

@@ -1,6 +1,6 @@
 -- Document 02, No. 4, "all other levels of lines accepted before stay": rows 6, 8 and 10 of a value that was a number before.
 -- Assumes nothing.
-use mathlib.Core.Path.{◌≡◌, refl}
+use mathlib.Core.Path.{◌≡◌}
 use mathlib.Core.Bool.{true, false, ◌&&◌}
 use mathlib.Core.List.{List}
 use Prim.Native.Nat.{ℕ}

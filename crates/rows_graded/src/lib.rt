@@ -1,4 +1,6 @@
 // Rows 6 to 11: values with a new and an old name (document 01, "The twelve rows").
+#![tactic(auto)]
+
 ghost use Rattle.std.specs.Prelude.{◌≡◌};
 ghost use Rattle.rows_graded.specs.GradedRows.{grade_row, graded_row, old_name_row};
 

@@ -1,5 +1,7 @@
 // The alert levels of document 01, "The twelve rows".
 // A client cites Level (level_of, Highest) and Bounds (bounds_of, graded_of, graded_number, graded_level).
+#![tactic(auto)]
+
 ghost use Rattle.std.specs.Prelude.{◌≡◌, ◌<◌, ◌^◌, get_or};
 ghost use Rattle.std.specs.Int.Signed.{mag};
 ghost use Rattle.rows_levels.specs.Level.{level_of};
@@ -8,7 +10,7 @@ ghost use Rattle.rows_levels.specs.Bounds.{bounds, first_line, second_line, boun
 use number_decimal::Reading;
 
 // The bounds of A, B and C in one row.
-#[derive(Drop)]
+#[derive(Clone, Copy)]
 pub struct Bounds {
     pub a: u64,
     pub b: u64,
@@ -16,7 +18,7 @@ pub struct Bounds {
 }
 
 // What grading a typed value finds: a level, a row that has no three bounds, or a value that is no number.
-#[derive(Drop)]
+#[derive(Clone, Copy)]
 pub enum Graded {
     Level(u8),
     NoRow,

@@ -18,7 +18,7 @@ use Rattle.formula_totals.specs.Wording.{FoundAs, formula_unread, moieties_unrea
 use Rattle.formula_totals.specs.declared.Compared.{Compared}
 use Rattle.formula_totals.proofs.Words.{found, found-only}
 use Rattle.rows_moiety.specs.MoietyRow.{totals_row, row25}
-use Rattle.rows_moiety.specs.Wording.{AtA, BothThere, Row25, formula_missing, moiety_missing, moiety_unread, total_differs, no_alert}
+use Rattle.rows_moiety.specs.Wording.{AtA, BothThere, Row25, formula_missing, moiety_missing, moiety_unread, total_differs, totals_same}
 use Rattle.rows_moiety.specs.Wording as W
 use Rattle.rows_moiety.proofs.RowCases.{no-formula, no-moiety, compared}
 
@@ -66,7 +66,7 @@ module _ (formula moiety : List ℕ) (lf : length formula ≤ line_most) (lm : l
   found-row h c (formula_unread e) = W.formula_unread h (at_a formula h.0 e)
   found-row h c (moieties_unread n) = moiety_unread h n
   found-row h c (some_differs m ms e i d) = total_differs (record { both = h; formula_read = not-at-a formula h.0 e; moiety_read = i }) d
-  found-row h c (each_same m ms e i s) = no_alert (record { both = h; formula_read = not-at-a formula h.0 e; moiety_read = i }) s
+  found-row h c (each_same m ms e i s) = totals_same (record { both = h; formula_read = not-at-a formula h.0 e; moiety_read = i }) s
 
   pub row-25-words : Row25 formula moiety (row25 formula moiety)
   row-25-words = go (missing formula) refl (missing moiety) refl
@@ -94,4 +94,4 @@ module _ (formula moiety : List ℕ) (lf : length formula ≤ line_most) (lm : l
   row-25-only (W.formula_unread h a) = row-found h _ (formula_unread (is-at-a formula h.0 a))
   row-25-only (moiety_unread h n) = row-found h _ (moieties_unread n)
   row-25-only (total_differs w d) = row-found w.both _ (some_differs _ _ (is-not-at-a formula w.both.0 w.formula_read) w.moiety_read d)
-  row-25-only (no_alert w s) = row-found w.both _ (each_same _ _ (is-not-at-a formula w.both.0 w.formula_read) w.moiety_read s)
+  row-25-only (totals_same w s) = row-found w.both _ (each_same _ _ (is-not-at-a formula w.both.0 w.formula_read) w.moiety_read s)

@@ -29,4 +29,4 @@ pub data Row25 (formula moiety : List ℕ) : Row → Type 0 where
   formula_unread : BothThere formula moiety → AtA formula → Row25 formula moiety (row_of 2 2)
   moiety_unread : BothThere formula moiety → NoMoieties (text_of moiety) → Row25 formula moiety (row_of 2 2)
   total_differs : {m : Moiety} {ms : List Moiety} → Read formula moiety m ms → SomeDiffers m ms (text_of formula) → Row25 formula moiety (row_of 3 0)
-  no_alert : {m : Moiety} {ms : List Moiety} → Read formula moiety m ms → EachSame m ms (text_of formula) → Row25 formula moiety no_alert
+  totals_same : {m : Moiety} {ms : List Moiety} → Read formula moiety m ms → EachSame m ms (text_of formula) → Row25 formula moiety no_alert

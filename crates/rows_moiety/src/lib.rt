@@ -1,4 +1,6 @@
 // Row 25: the moiety formula against the formula (document 02, No. 12).
+#![tactic(auto)]
+
 ghost use Rattle.std.specs.Prelude.{◌≡◌};
 ghost use Rattle.rows_moiety.specs.MoietyRow.{totals_row, row25};
 

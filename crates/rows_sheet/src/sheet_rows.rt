@@ -15,7 +15,7 @@ use rows_moiety::moiety_row;
 use rows_threshold::threshold_row;
 
 // Rows 1 to 5.
-#[derive(Drop)]
+#[derive(Clone, Copy)]
 struct FormulaGroup {
     first: Row,
     second: Row,
@@ -25,7 +25,7 @@ struct FormulaGroup {
 }
 
 // A row that grades and the row of the old name.
-#[derive(Drop)]
+#[derive(Clone, Copy)]
 struct GradedPair {
     graded: Row,
     general: Row,

@@ -1,4 +1,6 @@
 // Row 12: the threshold expression (document 01, "The twelve rows").
+#![tactic(auto)]
+
 ghost use Rattle.std.specs.Prelude.{◌≡◌, ◌+◌, ◌-◌, ◌≤◌, length, take, drop};
 ghost use Rattle.text.specs.Run.{has_at};
 ghost use Rattle.rows_threshold.specs.Threshold.{has_shape, multiplier_of, threshold_level, multiplier_row, threshold_row, row12};
@@ -7,7 +9,7 @@ use number_decimal::Reading;
 use rows::{Row, is_missing, make_row};
 
 // What stands for x: a number without sign and uncertainty, in millionths, or something else.
-#[derive(Drop)]
+#[derive(Clone, Copy)]
 pub enum Multiplier {
     Times(u64),
     NoMultiplier,

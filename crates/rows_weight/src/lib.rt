@@ -1,4 +1,6 @@
 // Rows 4 and 5: the given weight against the sum of the formula (document 01, "The twelve rows").
+#![tactic(auto)]
+
 ghost use Rattle.std.specs.Prelude.{◌≡◌, ◌<◌, ◌≤◌, ◌^◌, pos};
 ghost use Rattle.std.specs.Int.Signed.{mag};
 ghost use Rattle.line_quotes.specs.Quoted.{text_of};
@@ -11,14 +13,14 @@ use number_decimal::Reading;
 use rows::{Row, is_missing, make_row};
 
 // The given weight and the formula's sum, both in millionths, or that one of them cannot be had.
-#[derive(Drop)]
+#[derive(Clone, Copy)]
 pub enum Weighed {
     Both(i64, u64),
     NotBoth,
 }
 
 // Row 4 and row 5.
-#[derive(Drop)]
+#[derive(Clone, Copy)]
 pub struct WeightRows {
     pub ratio: Row,
     pub difference: Row,

@@ -1,9 +1,11 @@
 // The answers of the check of a list of symmetry operators, and their numbers (document 02, No. 5).
+#![tactic(auto)]
+
 ghost use Rattle.std.specs.Prelude.{◌≡◌};
 ghost use Rattle.symmetry_answers.specs.Number.{list_number};
 
 // The answers of the check of a list.
-#[derive(Drop)]
+#[derive(Clone, Copy)]
 pub enum ListAnswer {
     Accepted,
     NoList,

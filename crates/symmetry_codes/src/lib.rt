@@ -1,4 +1,6 @@
 // Codes of operators: whether one is there, whether all are different.
+#![tactic(auto)]
+
 ghost use Rattle.std.specs.Prelude.{◌≡◌, ◌<◌, eqb};
 ghost use Rattle.symmetry_operators.specs.Lists.{has, distinct};
 ghost use Rattle.symmetry_codes.specs.Hints.{hint_of, hints_of};

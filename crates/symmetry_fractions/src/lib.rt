@@ -1,5 +1,7 @@
 // Signs and fractions of an operator's text (document 02, No. 5).
 // A client cites Reading (is_sign, signedOf, fraction_of). That `fraction_of` is the document's wording (Grammar) is shown in proofs/Wording.antt.
+#![tactic(auto)]
+
 ghost use Rattle.std.specs.Prelude.{◌≡◌};
 ghost use Rattle.symmetry_fractions.specs.Reading.{is_sign, signed24ths, unit_of, fraction_of};
 

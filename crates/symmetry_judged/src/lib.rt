@@ -1,4 +1,6 @@
 // A list of rows whose numbers are in range, judged: determinants, identity, equal rows, products (document 02, No. 5).
+#![tactic(auto)]
+
 ghost use Rattle.std.specs.Prelude.{◌≡◌, ◌*◌, ◌≤◌, length, take};
 ghost use Rattle.text.specs.Run.{all, run_of};
 ghost use Rattle.symmetry_operators.specs.Check.{row_most, rows_from};
@@ -16,7 +18,7 @@ use symmetry_rows::residues_of;
 const IDENTITY: u64 = 4295491648;
 
 // The answer, and how many pairs were looked at.
-#[derive(Drop)]
+#[derive(Clone, Copy)]
 pub struct Checked {
     pub answer: ListAnswer,
     pub pairs: u64,

@@ -1,4 +1,6 @@
 // The check of a list of symmetry operators, lent as rows of twelve whole numbers (document 02, No. 5).
+#![tactic(auto)]
+
 ghost use Rattle.std.specs.Prelude.{◌≡◌};
 ghost use Rattle.text.specs.Run.{all};
 ghost use Rattle.symmetry_operators.specs.Operator.{fine};

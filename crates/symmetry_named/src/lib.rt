@@ -1,4 +1,6 @@
 // Operators by name, and the list of numbers that their check is lent (document 02, No. 5).
+#![tactic(auto)]
+
 ghost use Rattle.std.specs.Prelude.{◌≡◌, ◌<◌};
 ghost use Rattle.symmetry_operators.specs.Check.{row_most};
 ghost use Rattle.symmetry_judged.specs.Answer.{outcome_of};
@@ -10,14 +12,14 @@ use symmetry_list::check_list;
 use symmetry_operators::{LIST_MOST, ROW_LENGTH, ROW_MOST};
 
 // Nine factors, part by part, and three translations in 24ths.
-#[derive(Drop)]
+#[derive(Clone, Copy)]
 pub struct Operator {
     pub factors: [i8; 9],
     pub translations: [i8; 3],
 }
 
 // The numbers of 192 rows, and room for no more.
-#[derive(Drop)]
+#[derive(Clone, Copy)]
 pub struct Flat {
     pub numbers: [i8; LIST_MOST],
 }

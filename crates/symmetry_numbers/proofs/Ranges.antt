@@ -10,7 +10,7 @@ use lib.Dec.{T}
 use mir.Syntax.{w8, w16}
 use mir.Val.{SFits, Fits, to_z, of_z}
 use mir.Facts.{to_z-of_z}
-use lib.IntN.{ℤ, pos, negsuc, nat_abs, ◌-ℤ◌, ◌+ℤ◌, +ℤ_comm, -ℤ_one}
+use lib.IntN.{ℤ, pos, negsuc, nat_abs, ◌-ℤ◌, +ℤ_comm, -ℤ_one}
 use lib.Signed.{lt_z, le_z, non_neg, mag}
 use lib.ListN.{length, get_or, get_or-eq_default}
 use mathlib.Core.List.{List}

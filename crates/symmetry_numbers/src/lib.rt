@@ -1,4 +1,6 @@
 // The numbers of a list of operators by their places, where past the end stands 0: their ranges, and a number modulo 12288.
+#![tactic(auto)]
+
 ghost use Rattle.std.specs.Prelude.{◌≡◌, pos, get_or};
 ghost use Rattle.symmetry_operators.specs.Operator.{is_factor, is_translation};
 ghost use Rattle.symmetry_operators.specs.Residues.{reduced};

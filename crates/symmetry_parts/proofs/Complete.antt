@@ -17,7 +17,7 @@ use Rattle.symmetry_fractions.specs.Grammar.{sign_byte, IsFraction}
 use Rattle.symmetry_fractions.specs.Reading.{is_sign, signed24ths, fraction_of}
 use Rattle.symmetry_fractions.proofs.Wording.{fraction-taken, fraction-alone, fraction-size, fraction-length, fraction-first, begins}
 use Rattle.symmetry_parts.specs.Grammar.{Letter, letter_byte, Signed, sum_text, times_in, WithFraction, MayLackPlus, IsPart}
-use Rattle.symmetry_parts.specs.Reading.{sum, part_numbers, is_free, with_translation, last_fraction, more_of, after_first_sign, part_of}
+use Rattle.symmetry_parts.specs.Reading.{part_numbers, is_free, with_translation, last_fraction, more_of, after_first_sign, part_of}
 use Rattle.symmetry_parts.specs.declared.Sum.{Sum}
 use Rattle.symmetry_parts.specs.declared.PartReading.TheVariants.{Found}
 use Rattle.symmetry_parts.proofs.Turns.{more-letter, more-last}

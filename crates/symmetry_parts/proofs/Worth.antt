@@ -3,7 +3,7 @@
 use mathlib.Core.Path.{◌≡◌, refl, ap, ◌∙◌}
 use mathlib.Core.Bool.{Bool, true, false}
 use mathlib.Core.List.{List, [], ◌∷◌}
-use Prim.Native.Nat.{ℕ, suc, ◌%◌, ◌≤◌, ◌<◌}
+use Prim.Native.Nat.{ℕ, zero, suc, ◌%◌, ◌≤◌, ◌<◌}
 use native.Mathlib.Omega.{arith}
 use lib.IntN.{ℤ, pos}
 use Rattle.symmetry_operators.specs.Operator.{Part, part, residue}
@@ -52,6 +52,7 @@ fit-once n l h Letter.Z = omega (arith, fits-once Letter.Z (start n) l h)
 pub signed-residue : (minus : Bool) (n : ℕ) → 1 ≤ n → n < one_in24ths → signed24ths (sign_byte minus) n % one_in24ths ≡ residue (with_sign minus n)
 unfolding signed24ths
 signed-residue false n l m = refl
+signed-residue true zero l m = absurd (omega arith)
 signed-residue true (suc n) l m = omega arith
 
 pub signed-some : (minus : Bool) (n : ℕ) → 1 ≤ n → n < one_in24ths → signed24ths (sign_byte minus) n ≡ 0 → ⊥

@@ -1,12 +1,14 @@
 // Reads a part of an operator's text (document 02, No. 5).
 // A client cites Reading (part_of). That this reading is the document's wording (Grammar) is shown in proofs/Sound.antt and proofs/Complete.antt.
+#![tactic(auto)]
+
 ghost use Rattle.std.specs.Prelude.{◌≡◌, get_or};
 ghost use Rattle.symmetry_parts.specs.Reading.{is_free, with_letter, last_fraction, more_of, after_first_sign, part_of};
 
 use symmetry_fractions::FRACTION;
 
 // What is read of a part: the factors of x, y, z and the translation in 24ths, all modulo 24, so that −1 is 23; 0 for what is not there.
-#[derive(Drop)]
+#[derive(Clone, Copy)]
 pub struct Sum {
     pub x: u8,
     pub y: u8,
@@ -15,7 +17,7 @@ pub struct Sum {
 }
 
 // What reading a part finds: its numbers, or that a text is none.
-#[derive(Drop)]
+#[derive(Clone, Copy)]
 pub enum PartReading {
     Found(Sum),
     NoPart,

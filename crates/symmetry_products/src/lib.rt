@@ -1,4 +1,6 @@
 // Operators modulo 12288, as twelve residues: the determinant, and codes of products.
+#![tactic(auto)]
+
 ghost use Rattle.std.specs.Prelude.{◌≡◌, ◌||◌, ◌+◌, ◌*◌, ◌%◌, ◌≤◌, eqb};
 ghost use Rattle.symmetry_operators.specs.Operator.{part};
 ghost use Rattle.symmetry_operators.specs.Residues.{minor_n, turns_n, packed, word_after, product_code, row_from_n};

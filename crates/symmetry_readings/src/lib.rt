@@ -1,10 +1,12 @@
 // What reading an operator's text answers (document 02, No. 5).
 // A client cites Answers (reading_number, numbers).
+#![tactic(auto)]
+
 ghost use Rattle.std.specs.Prelude.{◌≡◌};
 ghost use Rattle.symmetry_readings.specs.Answers.{reading_number, numbers};
 
 // A part of a row: the factors of x, y, z, and the translation in 24ths.
-#[derive(Drop)]
+#[derive(Clone, Copy)]
 pub struct RowPart {
     pub x: i8,
     pub y: i8,
@@ -13,7 +15,7 @@ pub struct RowPart {
 }
 
 // What reading an operator's text finds: its row, or that it is none.
-#[derive(Drop)]
+#[derive(Clone, Copy)]
 pub enum Reading {
     Row(RowPart, RowPart, RowPart),
     NoOperator,

@@ -1,4 +1,6 @@
 // The row at the head of a list of numbers: whether its numbers are in range, and its residues.
+#![tactic(auto)]
+
 ghost use Rattle.std.specs.Prelude.{◌≡◌, pos, get_or};
 ghost use Rattle.symmetry_operators.specs.Operator.{part, fine_part, fine};
 ghost use Rattle.symmetry_operators.specs.Check.{row_from};

@@ -1,4 +1,6 @@
 // The check of a lent slice of operators (document 02, No. 5).
+#![tactic(auto)]
+
 ghost use Rattle.std.specs.Prelude.{◌≡◌, ◌<◌, length, get_or};
 ghost use Rattle.symmetry_judged.specs.Answer.{outcome_of};
 ghost use Rattle.symmetry_named.specs.Named.{no_operator, checked_named};

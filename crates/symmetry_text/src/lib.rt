@@ -1,5 +1,7 @@
 // Reads the text of a symmetry operator (document 02, No. 5): three parts with commas.
 // A client cites Reading (reading_of). That this reading is the document's wording (Grammar) is the theorem `agree` of proofs/Agree.antt.
+#![tactic(auto)]
+
 ghost use Rattle.std.specs.Prelude.{◌≡◌};
 ghost use Rattle.symmetry_parts.specs.Reading.{factor};
 ghost use Rattle.symmetry_text.specs.Reading.{row_part, parts_of, second_of, reading_of};

@@ -1,4 +1,6 @@
 // The readers one by one, for the comparison program alone: harness/probe.h declares them.
+#![tactic(auto)]
+
 ghost use Rattle.std.specs.Prelude.{◌≡◌};
 ghost use Rattle.number_decimal.specs.Reading.{reading_of};
 ghost use Rattle.line_items.specs.Items.{item_of};
@@ -10,14 +12,14 @@ use line_reader::line::Split;
 use number_decimal::Reading;
 
 #[repr(C)]
-#[derive(Drop)]
+#[derive(Clone, Copy)]
 pub struct ProbeNumber {
     pub millionths: i64,
     pub found: u64,
 }
 
 #[repr(C)]
-#[derive(Drop)]
+#[derive(Clone, Copy)]
 pub struct ProbeLine {
     pub found: u64,
     pub name_end: u64,

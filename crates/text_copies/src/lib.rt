@@ -1,5 +1,7 @@
 // Copies of texts into places of others. No rule of document 01 is here.
 // A client cites Copy (copied).
+#![tactic(auto)]
+
 ghost use Rattle.std.specs.Prelude.{◌≡◌, ◌+◌, ◌≤◌, length};
 ghost use Rattle.std.proofs.Math.Seq.{paste};
 ghost use Rattle.text_copies.specs.Copy.{copied};

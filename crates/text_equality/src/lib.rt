@@ -1,5 +1,7 @@
 // Comparison of texts. No rule of document 01 is here.
 // A client cites Same (same_by, same_folded, begins_folded).
+#![tactic(auto)]
+
 ghost use Rattle.std.specs.Prelude.{◌≡◌};
 ghost use Rattle.text_equality.specs.Same.{lower, exact, same_by, same_folded, begins_folded};
 

@@ -31,7 +31,7 @@ use Rattle.theorem_refusals.specs.Table.{Answers, ◌when◌}
 use Rattle.theorem_refusals.specs.Key.{HeldByAnother}
 use Rattle.theorem_refusals.proofs.Firsts.{First, this, next, answers}
 use Rattle.theorem_reader.specs.Parts.{Between, LogPart, fed}
-use Rattle.theorem_reader.specs.Table.{Comes, here, later, ComesTo, BadLength, short, long, WholeRecord, BadShape, bad_length, fault, ForeignOverwrite, EndInside, fewer_than_six, fewer_than_length, feed_table, At, Placed}
+use Rattle.theorem_reader.specs.Table.{Comes, here, later, ComesTo, BadLength, short, long, WholeRecord, BadShape, bad_length as of_bad_length, fault, ForeignOverwrite, EndInside, fewer_than_six, fewer_than_length, feed_table, At, Placed}
 use Rattle.theorem_reader.specs.Sound.{SoundReader}
 use Rattle.theorem_reader.proofs.Sounds.{reader-so}
 use Rattle.theorem_reader.proofs.Agree.{never-20, unsound-changes-nothing, reads}
@@ -128,7 +128,7 @@ module _ (last : Bool) (d : Desk) (at : ℕ) (cs : List ℕ) where
       go false e = sym (judged-shapeless at (take (length_told cs) cs) d e)
 
   gives-18 : BadShape d at cs → (read_on last d at cs).answer ≡ 18
-  gives-18 (bad_length b) = gives-bad b
+  gives-18 (of_bad_length b) = gives-bad b
   gives-18 (fault w none) = gives-fault w none
 
   gives-19 : ForeignOverwrite d at cs → (read_on last d at cs).answer ≡ 19
@@ -194,7 +194,7 @@ found-short true d at (b ∷ bs) u = record {
 module _ (last : Bool) (d : Desk) (at : ℕ) (bs : List ℕ) (six : head_length ≤ length bs) where
   found-bad : bad_length (length_told bs) ≡ true → Found last d at bs (ended 18 d at)
   found-bad e = record {
-    of_18 = λ z. at_once d at bs (bad_length (bad-so bs six e));
+    of_18 = λ z. at_once d at bs (of_bad_length (bad-so bs six e));
     of_19 = λ z. absurd (omega (arith, z));
     of_20 = λ z. absurd (omega (arith, z));
   }
