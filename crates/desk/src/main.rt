@@ -1,10 +1,16 @@
 // Plays the pairs of standard input, a bench digit and a key byte each, on a fresh desk, and prints the reports of its sheets (document 01, "Measured examples").
+#![tactic(auto)]
+
 ghost use Rattle.desk_memory.specs.Memory.{Sized, desk_of};
 ghost use Rattle.desk.specs.Run.{PlaysPart, PlaysAll};
 
 use desk_memory::{NUMBERS, TEXTS};
-use libc::{STDIN_FILENO, STDOUT_FILENO};
 use program_printing::{Printed, REPORTS_MOST};
+
+// Standard input and output.
+const STDIN: i32 = 0;
+
+const STDOUT: i32 = 1;
 
 // The bytes of the log, and of a part of the input. The second is even, so that a part that is full ends with a whole pair.
 const LOG_LENGTH: usize = 4096;
@@ -16,7 +22,7 @@ fn play_part(texts: &mut [u8], numbers: &mut [usize], log: &mut [u8]) -> bool
     ensures { PlaysPart texts.old numbers.old log.old result texts.new numbers.new log.new }
 {
     let mut part = [0u8; PART_LENGTH];
-    let n = io::read_full(STDIN_FILENO, &mut part);
+    let n = io::read_full(STDIN, &mut part);
     desk_session::play_pairs(texts, numbers, log, &part[..n]);
     n == PART_LENGTH
 }
@@ -43,7 +49,7 @@ fn print(texts: &[u8], numbers: &[usize]) {
     let Printed::Bytes(n) = program_printing::print_reports(texts, numbers, &mut out) else {
         return;
     };
-    io::write_all(STDOUT_FILENO, &out[..n]);
+    io::write_all(STDOUT, &out[..n]);
 }
 
 fn main() {

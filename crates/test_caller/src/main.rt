@@ -1,9 +1,15 @@
 // Reads calls of the library from standard input and writes what they answer, for the comparison of other builds alone: harness/src/frames.rs has their form.
+#![tactic(auto)]
+
 ghost use Rattle.std.specs.Prelude.{◌<◌};
 
 use desk_memory::{NUMBERS, TEXTS};
-use libc::{STDIN_FILENO, STDOUT_FILENO};
 use rows::ROW_COUNT;
+
+// Standard input and output.
+const STDIN: i32 = 0;
+
+const STDOUT: i32 = 1;
 
 // The bytes of a frame's head: its kind, and four numbers of four bytes of which three count.
 const HEAD: usize = 17;
@@ -16,7 +22,7 @@ const LONGEST_NAME: usize = 1024;
 const LONGEST_OUT: usize = 81920;
 
 // How many calls there are, or the row of the wall screen, and the lengths of the bytes that are lent.
-#[derive(Drop)]
+#[derive(Clone, Copy)]
 struct Lengths {
     calls: usize,
     log: usize,
@@ -47,19 +53,19 @@ fn half(a: u8, b: u8, c: u8, d: u8) -> u64
 
 fn read_wide() -> u64 {
     let mut b = [0u8; 8];
-    io::read_full(STDIN_FILENO, &mut b);
+    io::read_full(STDIN, &mut b);
     half(b[0], b[1], b[2], b[3]) + 4294967296 * half(b[4], b[5], b[6], b[7])
 }
 
 fn read_byte() -> u8 {
     let mut b = [0u8; 1];
-    io::read_full(STDIN_FILENO, &mut b);
+    io::read_full(STDIN, &mut b);
     b[0]
 }
 
 fn put_byte(byte: u8) {
     let one = [byte];
-    io::write_all(STDOUT_FILENO, &one);
+    io::write_all(STDOUT, &one);
 }
 
 fn put_wide(n: u64) {
@@ -73,7 +79,7 @@ fn put_wide(n: u64) {
         (n / 281474976710656 % 256) as u8,
         (n / 72057594037927936) as u8,
     ];
-    io::write_all(STDOUT_FILENO, &bytes);
+    io::write_all(STDOUT, &bytes);
 }
 
 fn read_numbers(numbers: &mut [usize]) {
@@ -144,10 +150,10 @@ fn file(texts: &[u8], numbers: &[usize], log: &[u8], name: &[u8], out: &mut [u8]
     let filed = export_desk::desk_file(texts, numbers, sheet as u64, name, out);
     put_wide(filed.count as u64);
     put_byte(filed.answer);
-    io::write_all(STDOUT_FILENO, out);
-    io::write_all(STDOUT_FILENO, texts);
+    io::write_all(STDOUT, out);
+    io::write_all(STDOUT, texts);
     put_numbers(numbers);
-    io::write_all(STDOUT_FILENO, log);
+    io::write_all(STDOUT, log);
 }
 
 // Makes the memory a fresh desk where the frame says so.
@@ -162,7 +168,7 @@ fn begin(kind: u8, texts: &mut [u8], numbers: &mut [usize]) {
 fn desk(kind: u8, count: usize, log: &mut [u8], name: &[u8], out: &mut [u8]) {
     let mut texts = [0u8; TEXTS];
     let mut numbers = [0usize; NUMBERS];
-    io::read_full(STDIN_FILENO, &mut texts);
+    io::read_full(STDIN, &mut texts);
     read_numbers(&mut numbers);
     begin(kind, &mut texts, &mut numbers);
     calls(count, &mut texts, &mut numbers, log);
@@ -173,14 +179,14 @@ fn wall(text: &[u8], row: u64) {
     let class = export_wall::wall_classify(text);
     let graded = export_wall::wall_grade(row, text);
     let bytes = [class, graded.answer, graded.level];
-    io::write_all(STDOUT_FILENO, &bytes);
+    io::write_all(STDOUT, &bytes);
 }
 
 // Reads what a frame lends, and answers it.
 fn frame(kind: u8, count: usize, log: &mut [u8], name: &mut [u8], out: &mut [u8]) {
-    io::read_full(STDIN_FILENO, log);
-    io::read_full(STDIN_FILENO, name);
-    io::read_full(STDIN_FILENO, out);
+    io::read_full(STDIN, log);
+    io::read_full(STDIN, name);
+    io::read_full(STDIN, out);
     if kind == WALL {
         wall(name, count as u64);
     } else {
@@ -211,7 +217,7 @@ fn answer(kind: u8, n: Lengths, log: &mut [u8], name: &mut [u8], out: &mut [u8])
 // Reads the head of a frame and answers it; false where no whole head comes.
 fn turn(log: &mut [u8], name: &mut [u8], out: &mut [u8]) -> bool {
     let mut head = [0u8; HEAD];
-    let n = io::read_full(STDIN_FILENO, &mut head);
+    let n = io::read_full(STDIN, &mut head);
     if n < HEAD {
         return false;
     }
