@@ -31,7 +31,7 @@ fn link(package: &Path) {
         println!("cargo:rustc-link-lib=static={library}");
         assert!(
             archive.is_file(),
-            "{} is missing: run 'rt staticlib {library}'",
+            "{} is missing: tools/run builds it, and so does 'rt lib' in crates/{library}_c",
             archive.display()
         );
     }

@@ -16,82 +16,64 @@ ensure_programs || exit 2
 # The proved libraries that C and Rust link.
 archives=(export_wall export_desk export_symmetry test_probe)
 
-# stale FILE [SOURCE..]: it is missing, or some file of these sources is newer; without them, of crates/ or crates.txt.
+# stale FILE [SOURCE..]: it is missing, or some file of these sources is newer; without them, of crates/ (but what rt keeps there) or crates.txt.
 stale() {
     local built=$1
     shift
     [ $# -gt 0 ] || set -- crates crates.txt
-    [ ! -e "$built" ] || [ -n "$(find "$@" -type f -newer "$built" -print -quit)" ]
+    [ ! -e "$built" ] || [ -n "$(find "$@" -type f ! -path '*/out/*' -newer "$built" -print -quit)" ]
 }
 
-# with_used NAME..: these crates and all that they use, by crates.txt.
-with_used() {
-    awk -v wanted="$*" '
-    function visit(n,    k, m, a) {
-        if (!(n in uses) || n in seen) return
-        seen[n]
-        m = split(uses[n], a, " ")
-        for (k = 1; k <= m; k++) visit(a[k])
-        print n
-    }
-    { sub(/#.*/, "") }
-    split($0, part, ":") == 2 { gsub(/[ \t]/, "", part[1]); uses[part[1]] = part[2] }
-    END {
-        m = split(wanted, a, " ")
-        for (k = 1; k <= m; k++) visit(a[k])
-    }' crates.txt
+# listed: the crates of crates.txt, in its order.
+listed() {
+    sed 's/#.*//' crates.txt | awk -F: 'NF > 1 { split($1, word, " "); print word[1] }'
 }
 
-# run_rt check NAME, run_rt staticlib NAME..: static libraries one by one, after a check of all that
-# they use, since a check takes as many crates at a time as there are processors.
-run_rt() {
-    local name used
-    [ "$1" = staticlib ] || { rt "$@"; return; }
-    shift
-    used=$(with_used "$@" | grep -vxF -f <(printf '%s\n' "$@"))
-    # shellcheck disable=SC2086
-    [ -z "$used" ] || rt check $used || return
-    for name in "$@"; do
-        rt staticlib "$name" || { echo "rt: $name NOT PROVED"; return 1; }
-    done
-}
-
-# count_proved TOTAL: reads what rt prints and tells on standard error how many crates are proved: on
-# a terminal in one line that is rewritten, otherwise at the start and at the end.
+# count_proved TOTAL: reads what `rt all check` prints and tells on standard error how many crates were
+# looked at: on a terminal in one line that is rewritten, otherwise at the start and at the end.
 count_proved() {
-    local line names=' ' number=0
+    local line number=0
     if [ -t 2 ]; then printf '%s: 0 of %d crates proved' "$tool" "$1" >&2; else echo "$tool: proving $1 crates, which takes minutes the first time; build/prove.log has what the prover says" >&2; fi
     while IFS= read -r line; do
-        [[ $line =~ ^'rt: '([a-z_0-9]+)' proved' || $line =~ ^'rt: target/staticlib/lib'([a-z_0-9]+)'.a has' ]] || continue
-        [[ $names != *" ${BASH_REMATCH[1]} "* ]] || continue
-        names+="${BASH_REMATCH[1]} "
+        [[ $line == '== '* && $line != '== summary' ]] || continue
         number=$((number + 1))
         [ ! -t 2 ] || printf '\r%s: %d of %d crates proved' "$tool" "$number" "$1" >&2
     done
     if [ -t 2 ]; then echo >&2; else echo "$tool: $number of $1 crates proved" >&2; fi
 }
 
-# prove check NAME, prove staticlib NAME..: runs rt, and tells how far it is. All that rt prints goes to
-# build/prove.log, which an error names.
+# prove: proves every crate, as many at a time as there are processors, over what earlier runs kept in
+# crates/NAME/out, and tells how far it is; not again until a file changes. All that rt prints goes to build/prove.log, which an error names.
 prove() {
-    local status name
+    stale build/proved || return 0
     mkdir -p build
-    run_rt "$@" 2>&1 | tee build/prove.log | count_proved "$(with_used "${@:2}" | wc -l)"
-    status=${PIPESTATUS[0]}
-    [ "$status" -ne 0 ] || return 0
-    name=$(sed -n '/^rt: [a-z_0-9]* \(NOT PROVED\|proved, and its run FAILED\)/{s/^rt: \([a-z_0-9]*\).*/\1/p;q;}' build/prove.log)
-    echo "$tool: ${name:-$2} was not proved; see build/prove.log" >&2
+    touch build/proving
+    rt all check --jobs "$(nproc)" 2>&1 | tee build/prove.log | count_proved "$(listed | wc -l)"
+    [ "${PIPESTATUS[0]}" -ne 0 ] || { mv build/proving build/proved; return 0; }
+    echo "$tool: $(sed -n 's/^\([a-z_0-9]*\): .*/\1/p' build/prove.log | tail -n 1) was not proved; see build/prove.log" >&2
     return 1
 }
 
-# build_archive NAME..: proved static libraries, in target/staticlib, or those of the folder PROVED_LIBS as they are.
+# in_crate NAME COMMAND..: rt in that crate's folder; what it prints goes to build/prove.log, which an error names.
+in_crate() {
+    local name=$1
+    shift
+    (cd "crates/$name" && rt "$@") >>build/prove.log 2>&1 || { echo "$tool: $name was not built; see build/prove.log" >&2; return 1; }
+}
+
+# build_archive NAME..: proved static libraries, in target/staticlib, or those of the folder PROVED_LIBS as they are. The crate NAME_c makes libNAME.a.
 build_archive() {
     local name old=()
     [ -z "${PROVED_LIBS-}" ] || return 0
     for name in "$@"; do
         ! stale "target/staticlib/lib$name.a" || old+=("$name")
     done
-    [ ${#old[@]} -eq 0 ] || prove staticlib "${old[@]}"
+    [ ${#old[@]} -gt 0 ] || return 0
+    prove || return 1
+    mkdir -p target/staticlib
+    for name in "${old[@]}"; do
+        in_crate "${name}_c" lib && cp "crates/${name}_c/out/lib${name}_c.a" "target/staticlib/lib$name.a" || return 1
+    done
 }
 
 build_archives() {
@@ -131,9 +113,10 @@ build_camp() {
         compile 'client/camp/*.c' target/bin/camp export_desk export_symmetry -lncurses -lpthread
 }
 
-# The program desk, proved, in target/bin. One that is unchanged is not built again, so its time is set.
+# The program desk, proved, in target/bin.
 build_desk() {
-    ! stale target/bin/desk || { prove check desk && touch -c target/bin/desk; }
+    stale target/bin/desk || return 0
+    prove && in_crate desk run <crates/desk/stdin && mkdir -p target/bin && cp crates/desk/out/desk target/bin/desk
 }
 
 # build STEP..: what a tool needs, by these functions; they print to standard error and read nothing.
