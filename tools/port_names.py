@@ -71,7 +71,7 @@ def main():
     check = sys.argv[1:] == ["--check"]
     if sys.argv[1:] and not check:
         print(__doc__)
-        return 2
+        return 0 if sys.argv[1:] == ["--help"] else 2
     new = names()
     if check:
         for it in sorted(new.items()):
