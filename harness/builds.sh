@@ -81,10 +81,10 @@ desk_builds() {
     local -A runs=([1]=300 [2]=60 [3]=60)
     [ -z "$long" ] || runs=([1]=5000 [2]=1000 [3]=1000)
     if [ -z "$long" ]; then
-        sessions "$work/sessions" harness/desk-sessions/odd_last_enter.in
+        sessions "$work/sessions" harness/desk-sessions/few_keys.in
     else
         # shellcheck disable=SC2046
-        sessions "$work/sessions" $(find harness/desk-sessions -name '*.in' -size -57c | sort)
+        sessions "$work/sessions" $(find harness/desk-sessions -name '*.in' -size -24c | sort)
     fi
     tried "desk, interpreted and checked: $(find "$work/sessions" -name '*.stdout' | wc -l) sessions" desk "$work/sessions"
     kept_builds desk "$PWD/crates/desk/stdin"

@@ -695,7 +695,9 @@ END
 # Where some of the output is not written, it is told, and the exit is 1.
 outputs() {
     local full="standard output: No space left on device" closed="standard output: Bad file descriptor" words
-    for words in help 'help cif' 'cif --help' --version 'cif camp-1' 'cif camp-1 -' "refusals $first.in" "refusals $work/random" "who --session $first.in" "who --session $first.in 5" "record $first.in -" "report $work/logs/two_camps" "history $work/logs/two_camps" "who $work/logs/two_camps" symmetry "symmetry $work/many"; do
+    # The same bytes each time: of a few lengths of its output camp tells another fault (docs/PORT.md).
+    perl -e 'srand 7; print map { chr int rand 256 } 1 .. 200000' >"$work/bytes"
+    for words in help 'help cif' 'cif --help' --version 'cif camp-1' 'cif camp-1 -' "refusals $first.in" "refusals $work/bytes" "who --session $first.in" "who --session $first.in 5" "record $first.in -" "report $work/logs/two_camps" "history $work/logs/two_camps" "who $work/logs/two_camps" symmetry "symmetry $work/many"; do
         if [ -c /dev/full ]; then
             fails "${words/$work\//}: output cannot be written" "$full" bash -c '"$1" $2 >/dev/full' - "$camp" "$words" <$first.in
         fi

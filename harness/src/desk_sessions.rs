@@ -79,6 +79,7 @@ pub fn scripts() -> Vec<Script> {
             [typed(b'0', R_FACTOR), typed(b'1', WR_FACTOR.trim_end()), vec![b'1']].concat(),
         ),
         ("odd_last_enter", [typed(b'3', R_FACTOR.trim_end()), vec![b'\n']].concat()),
+        ("few_keys", typed(b'3', "_a b\n")),
         ("first_bytes_4_to_9", first_bytes(b"456789")),
         ("other_first_bytes", first_bytes(NO_DIGITS)),
         ("no_keys", no_keys()),

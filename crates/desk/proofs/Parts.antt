@@ -8,7 +8,7 @@ use native.Mathlib.Omega.{arith}
 use lib.ListN.{length, length-append, length-replicate, replicate}
 use Rattle.desk_state.specs.Desks.{fresh_desk}
 use Rattle.desk_state.specs.declared.desk.Desk.{Desk}
-use Rattle.desk_memory.specs.Memory.{texts_length, numbers_length, Sized, is_desk, desk_of, used_of}
+use Rattle.desk_memory.specs.Memory.{texts_length, numbers_length, Sized, desk_of, used_of}
 use Rattle.desk_memory.proofs.Desks.{sized-desk, zeros-fresh}
 use Rattle.theorem_sequences.specs.Calls.{State, fresh_state, state_of}
 use Rattle.desk_session.specs.Play.{played}

@@ -5,7 +5,7 @@ ghost use Rattle.desk_memory.specs.Memory.{Sized, desk_of};
 ghost use Rattle.desk.specs.Run.{PlaysPart, PlaysAll};
 
 use desk_memory::{NUMBERS, TEXTS};
-use program_printing::{Printed, REPORTS_MOST};
+use program_printing::REPORTS_MOST;
 
 // Standard input and output.
 const STDIN: i32 = 0;
@@ -27,26 +27,24 @@ fn play_part(texts: &mut [u8], numbers: &mut [usize], log: &mut [u8]) -> bool
     n == PART_LENGTH
 }
 
-// Plays all of the input on a fresh desk. A proved loop has to end, and nothing says that the input does: so the loop counts its turns down, from
-// a number that no run uses up.
+// Plays all of the input on a fresh desk. A proved loop has to end, and nothing says that the input does: so the loop counts its turns, up to
+// a number that no run reaches.
 fn play_all(texts: &mut [u8], numbers: &mut [usize], log: &mut [u8])
     requires { Sized texts.old numbers.old }
     ensures { PlaysAll log.old (desk_of texts.new numbers.new) }
 {
     desk_memory::fresh(texts, numbers);
-    let mut turns = u64::MAX;
-    while 0 < turns {
+    for _ in 0..u64::MAX {
         if !play_part(texts, numbers, log) {
             return;
         }
-        turns -= 1;
     }
 }
 
 // Prints the reports. Where they cannot be written nothing is left to do.
 fn print(texts: &[u8], numbers: &[usize]) {
     let mut out = [0u8; REPORTS_MOST];
-    let Printed::Bytes(n) = program_printing::print_reports(texts, numbers, &mut out) else {
+    let Some(n) = program_printing::print_reports(texts, numbers, &mut out) else {
         return;
     };
     io::write_all(STDOUT, &out[..n]);

@@ -1,13 +1,9 @@
-// The answers of a key call and of the two questions, and their numbers (document 01, "Keys and their refusals"; document 02, No. 8, 9 and 11), and those of the file's writer (document 02, No. 1).
+// The refusals of a key call, of the two questions and of the file's writer, and their numbers (document 01, "Keys and their refusals"; document 02, No. 1, 8, 9 and 11).
 #![tactic(auto)]
 
-ghost use Rattle.std.specs.Prelude.{◌≡◌};
-ghost use Rattle.desk_answers.specs.Number.{answer_number, asked_number, file_number};
-
-// The answers of a key call.
+// The refusals of a key call.
 #[derive(Clone, Copy)]
-pub enum Answer {
-    Accepted,
+pub enum KeyRefusal {
     NoBench,
     Unsound,
     NoKey,
@@ -19,66 +15,76 @@ pub enum Answer {
     NoRoom,
 }
 
-// The number of an answer.
-pub fn answer_number(a: Answer) -> u8
-    ensures { result ≡ answer_number a }
-{
-    match a {
-        Answer::Accepted => 0,
-        Answer::NoBench => 1,
-        Answer::Unsound => 2,
-        Answer::NoKey => 3,
-        Answer::LineFull => 4,
-        Answer::BadForm => 5,
-        Answer::UnknownName => 6,
-        Answer::WrongKind => 7,
-        Answer::Owned => 9,
-        Answer::NoRoom => 8,
+// The number of a refused key call.
+impl From<KeyRefusal> for u8 {
+    ghost use Rattle.std.specs.Prelude.{◌≡◌};
+    ghost use Rattle.desk_answers.specs.Number.{key_number};
+
+    ghost from_gives = { λ refusal n. n ≡ key_number refusal };
+
+    fn from(refusal: KeyRefusal) -> u8 {
+        match refusal {
+            KeyRefusal::NoBench => 1,
+            KeyRefusal::Unsound => 2,
+            KeyRefusal::NoKey => 3,
+            KeyRefusal::LineFull => 4,
+            KeyRefusal::BadForm => 5,
+            KeyRefusal::UnknownName => 6,
+            KeyRefusal::WrongKind => 7,
+            KeyRefusal::Owned => 9,
+            KeyRefusal::NoRoom => 8,
+        }
     }
 }
 
-// The answers of a question.
+// The refusals of a question.
 #[derive(Clone, Copy)]
-pub enum Asked {
-    Answered,
+pub enum QuestionRefusal {
     NoSheet,
     NoProfile,
     Unsound,
     NoItem,
 }
 
-// The number of a question's answer.
-pub fn asked_number(a: Asked) -> u8
-    ensures { result ≡ asked_number a }
-{
-    match a {
-        Asked::Answered => 0,
-        Asked::NoSheet => 12,
-        Asked::NoProfile => 21,
-        Asked::Unsound => 2,
-        Asked::NoItem => 6,
+// The number of a refused question.
+impl From<QuestionRefusal> for u8 {
+    ghost use Rattle.std.specs.Prelude.{◌≡◌};
+    ghost use Rattle.desk_answers.specs.Number.{asked_number};
+
+    ghost from_gives = { λ refusal n. n ≡ asked_number refusal };
+
+    fn from(refusal: QuestionRefusal) -> u8 {
+        match refusal {
+            QuestionRefusal::NoSheet => 12,
+            QuestionRefusal::NoProfile => 21,
+            QuestionRefusal::Unsound => 2,
+            QuestionRefusal::NoItem => 6,
+        }
     }
 }
 
-// The answers of the file's writer.
+// The refusals of the file's writer.
 #[derive(Clone, Copy)]
-pub enum FileAnswer {
-    Written,
+pub enum FileRefusal {
     NoSheet,
     Unsound,
     BadBlockName,
     NoRoom,
 }
 
-// The number of a writer's answer.
-pub fn file_number(a: FileAnswer) -> u8
-    ensures { result ≡ file_number a }
-{
-    match a {
-        FileAnswer::Written => 0,
-        FileAnswer::NoSheet => 12,
-        FileAnswer::Unsound => 2,
-        FileAnswer::BadBlockName => 11,
-        FileAnswer::NoRoom => 10,
+// The number of a refused file.
+impl From<FileRefusal> for u8 {
+    ghost use Rattle.std.specs.Prelude.{◌≡◌};
+    ghost use Rattle.desk_answers.specs.Number.{file_number};
+
+    ghost from_gives = { λ refusal n. n ≡ file_number refusal };
+
+    fn from(refusal: FileRefusal) -> u8 {
+        match refusal {
+            FileRefusal::NoSheet => 12,
+            FileRefusal::Unsound => 2,
+            FileRefusal::BadBlockName => 11,
+            FileRefusal::NoRoom => 10,
+        }
     }
 }

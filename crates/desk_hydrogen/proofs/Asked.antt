@@ -1,5 +1,6 @@
 -- What helper and check say of lent memory, by the tests of sheet and soundness.
 -- Assumes nothing.
+use Rattle.std.specs.Prelude.{Result}
 use mathlib.Core.Path.{◌≡◌, sym, ap, ap₂, ◌∙◌}
 use mathlib.Core.Bool.{true, false, cond}
 use mathlib.Core.List.{List}
@@ -15,7 +16,7 @@ use Rattle.desk_memory.specs.Memory.{item_in, texts_of, numbers_of, desk_of}
 use Rattle.desk_memory.proofs.Desks.{item-at}
 use Rattle.desk_soundness.specs.SoundMemory.{sound_memory}
 use Rattle.desk_soundness.proofs.Memories.{by-sheet, sheet-lent}
-use Rattle.hydrogen_answers.specs.declared.Proposed.{Proposed}
+use Rattle.hydrogen_answers.specs.declared.Refusal.{Refusal}
 use Rattle.hydrogen_check.specs.Check.{check_of}
 use Rattle.hydrogen_helper.specs.Helper.{helper_of}
 use Rattle.desk_hydrogen.specs.Hydrogens.{Proposal, proposal_in, no_count, formula_on, weight_on, helper_on, check_on, helper_lent, check_lent}
@@ -45,7 +46,7 @@ module _ (t n : List ℕ) (sheet : ℕ) where
     value_lent k l {v} e =
         e ∙ ap value_in (sym (item-at a b k l)) ∙ ap (λ (s : Sheet). value_in (get_or s.items k no_item)) (sheet-lent t n sheet h x y)
 
-    pub answered : (q : List ℕ → List ℕ → Proposed) → sound_memory t n ≡ true → {v w : List ℕ} → v ≡ value_in (item_in a b 0) → w ≡ value_in (item_in a b 1)
-        → {r : Proposed} → r ≡ q v w → proposal_in r ≡ asked (proposal_in (q (formula_on (desk_of t n) sheet) (weight_on (desk_of t n) sheet)))
+    pub answered : (q : List ℕ → List ℕ → Result ℕ Refusal) → sound_memory t n ≡ true → {v w : List ℕ} → v ≡ value_in (item_in a b 0) → w ≡ value_in (item_in a b 1)
+        → {r : Result ℕ Refusal} → r ≡ q v w → proposal_in r ≡ asked (proposal_in (q (formula_on (desk_of t n) sheet) (weight_on (desk_of t n) sheet)))
     answered q e f g r =
         ap proposal_in (r ∙ ap₂ q (value_lent 0 (omega arith) f) (value_lent 1 (omega arith) g)) ∙ sym (simp (lt-ltb sheet sheet_count h, e))

@@ -1,12 +1,12 @@
 -- The hydrogen helper and the check of a count, asked of a sheet (document 02, No. 13).
 -- Assumes nothing.
-use Rattle.std.specs.Prelude.{ℕ, cond, List}
+use Rattle.std.specs.Prelude.{ℕ, cond, List, Result}
 use Rattle.desk_state.specs.Desks.{is_sheet, sheet_at}
 use Rattle.desk_state.specs.declared.desk.Desk.{Desk}
 use Rattle.desk_memory.specs.Memory.{is_desk, desk_of}
 use Rattle.desk_soundness.specs.Sound.{sound_desk}
 use Rattle.desk_state.specs.Sheets.{value_at}
-use Rattle.hydrogen_answers.specs.declared.Proposed.{Proposed}
+use Rattle.hydrogen_answers.specs.declared.Refusal.{Refusal}
 use Rattle.hydrogen_answers.specs.Number.{proposed_number, proposed_count}
 use Rattle.hydrogen_check.specs.Check.{check_of}
 use Rattle.hydrogen_helper.specs.Helper.{helper_of}
@@ -17,7 +17,7 @@ pub record Proposal : Type 0 where
   pub count : ℕ
 
 -- the functions' result
-abbrev pub proposal_in : Proposed → Proposal
+abbrev pub proposal_in : Result ℕ Refusal → Proposal
 proposal_in p = record { answer = proposed_number p; count = proposed_count p }
 
 -- "a refusal's count is 0"

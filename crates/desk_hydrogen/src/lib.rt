@@ -6,7 +6,7 @@ ghost use Rattle.desk_hydrogen.specs.Hydrogens.{proposal_in, helper_lent, check_
 
 use desk_memory::{sheet_numbers, sheet_texts, value_at};
 use desk_state::desk::SHEET_COUNT;
-use hydrogen_answers::Proposed;
+use hydrogen_answers::Refusal;
 
 // The places of the formula and of the weight in a sheet's block.
 const FORMULA: usize = 0;
@@ -14,14 +14,14 @@ const FORMULA: usize = 0;
 const WEIGHT: usize = 1;
 
 // The smallest right count for a sheet.
-pub fn propose(texts: &[u8], numbers: &[usize], sheet: u64) -> Proposed
+pub fn propose(texts: &[u8], numbers: &[usize], sheet: u64) -> Result<u64, Refusal>
     ensures { proposal_in result ≡ helper_lent texts.now numbers.now sheet }
 {
     if SHEET_COUNT as u64 <= sheet {
-        return Proposed::NoSheet;
+        return Err(Refusal::NoSheet);
     }
     if !desk_soundness::is_sound(texts, numbers) {
-        return Proposed::Unsound;
+        return Err(Refusal::Unsound);
     }
     let at = sheet as usize;
     let t = sheet_texts(texts, at);
@@ -30,14 +30,14 @@ pub fn propose(texts: &[u8], numbers: &[usize], sheet: u64) -> Proposed
 }
 
 // A proposed count for a sheet, if it is right.
-pub fn check(texts: &[u8], numbers: &[usize], sheet: u64, count: u64) -> Proposed
+pub fn check(texts: &[u8], numbers: &[usize], sheet: u64, count: u64) -> Result<u64, Refusal>
     ensures { proposal_in result ≡ check_lent texts.now numbers.now sheet count }
 {
     if SHEET_COUNT as u64 <= sheet {
-        return Proposed::NoSheet;
+        return Err(Refusal::NoSheet);
     }
     if !desk_soundness::is_sound(texts, numbers) {
-        return Proposed::Unsound;
+        return Err(Refusal::Unsound);
     }
     let at = sheet as usize;
     let t = sheet_texts(texts, at);

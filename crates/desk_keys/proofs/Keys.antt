@@ -4,6 +4,7 @@ use mathlib.Core.Path.{◌≡◌, refl, sym, ap, ◌∙◌}
 use mathlib.Core.Bool.{Bool, true, false}
 use mathlib.Core.List.{List, ◌++◌, append_assoc}
 use Prim.Native.Nat.{ℕ, ◌+◌, ◌-◌, ◌≤◌}
+use Rattle.std.specs.Prelude.{Some, None}
 use native.Mathlib.Omega.{arith}
 use borrow.Author.Tests.{leb-true}
 use borrow.Rule.Slice.PartMut.{put_mid, mid_of}
@@ -12,7 +13,6 @@ use lib.ListN.{length, take, drop, take-append-drop}
 use lib.Seq.{drop-drop, drop_at, take_at, length-take-le}
 use Rattle.line_items.specs.Typed.{line_most}
 use Rattle.desk_log.specs.Record.{head_length, record_length, record_most, head_of, record_of, with_record, has_room, written_of, free_after}
-use Rattle.desk_log.specs.declared.Written.TheVariants.{Bytes, NoRoom}
 use Rattle.desk_log.proofs.Records.{free-written, tail-back, tail-lent, wrote_none, wrote-bytes, room-left}
 use Rattle.desk_state.specs.declared.desk.Desk.{Desk}
 use Rattle.desk_keys.specs.Key.{After, refused, entered, stored}
@@ -26,7 +26,7 @@ module _ (d : Desk) (used : ℕ) (log : List ℕ) (bench item : ℕ) (v last : L
       sym (room-left used log v small) ∙ ap (λ (f : List ℕ). has_room f v) (sym (tail-lent used log)) ∙ e
 
   -- it had no room, and nothing changed
-  pub stored-none : written_of (mid_of used (length log - used) log) v ≡ NoRoom
+  pub stored-none : written_of (mid_of used (length log - used) log) v ≡ None
       → ◌≡◌ {A = After} (record { answer = 8; desk = d; used = used; log = put_mid used (length log - used) log last }) (stored d used log bench item v)
   unfolding stored free_after
   stored-none e =
@@ -36,7 +36,7 @@ module _ (d : Desk) (used : ℕ) (log : List ℕ) (bench item : ℕ) (v last : L
       simp (room false no) (ap (λ (l : List ℕ). refused 8 d used l) same)
 
   -- it had room: the record stands at the first unused byte
-  pub stored_some : (n : ℕ) (next : Desk) → next ≡ entered d bench item v → written_of (mid_of used (length log - used) log) v ≡ Bytes n
+  pub stored_some : (n : ℕ) (next : Desk) → next ≡ entered d bench item v → written_of (mid_of used (length log - used) log) v ≡ Some n
       → ◌≡◌ {A = After} (record { answer = 0; desk = next; used = used + n; log = put_mid used (length log - used) log last }) (stored d used log bench item v)
   unfolding stored
   stored_some n next e w =
@@ -50,14 +50,14 @@ module _ (d : Desk) (used : ℕ) (log : List ℕ) (bench item : ℕ) (v last : L
       let l = k.1 in
       simp (room true yes) (cc)
 
-  pub written-within : (n : ℕ) → written_of (mid_of used (length log - used) log) v ≡ Bytes n → (record_length v ≡ n) × (used + n ≤ length log)
+  pub written-within : (n : ℕ) → written_of (mid_of used (length log - used) log) v ≡ Some n → (record_length v ≡ n) × (used + n ≤ length log)
   written-within n w =
       let k = wrote-bytes (mid_of used (length log - used) log) v n w in
       let l = k.1 in
       (l, omega (arith, leb-true (record_length v) (length log - used) (room true k.0)))
 
   -- and the value stands in it, as it is lent
-  pub value_written : (n : ℕ) → written_of (mid_of used (length log - used) log) v ≡ Bytes n
+  pub value_written : (n : ℕ) → written_of (mid_of used (length log - used) log) v ≡ Some n
       → take (used + n - (used + head_length)) (drop (used + head_length) (put_mid used (length log - used) log last)) ≡ v
   value_written n w =
       let k = wrote-bytes (mid_of used (length log - used) log) v n w in

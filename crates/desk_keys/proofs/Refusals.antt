@@ -1,5 +1,6 @@
 -- A key call whose answer is not 0 changes nothing, in the definitions and in lent memory, where it leaves every byte and every number.
 -- Assumes nothing.
+use Rattle.std.specs.Prelude.{Result, Ok, Err}
 use mathlib.Core.Path.{◌≡◌, refl, ap, ◌∙◌}
 use mathlib.Core.Bool.{Bool, true, false, cond, ◌&&◌}
 use mathlib.Core.List.{List}
@@ -8,8 +9,9 @@ use lib.Dec.{ltb, leb, eqb}
 use lib.ListN.{length, drop}
 use Rattle.line_items.specs.Typed.{line_most, is_typed}
 use Rattle.line_reader.specs.Line.{class_of}
-use Rattle.line_reader.specs.declared.line.Class.{Class}
-use Rattle.line_reader.specs.declared.line.Class.TheVariants as class
+use Rattle.line_reader.specs.declared.line.LineEntry.{LineEntry}
+use Rattle.line_reader.specs.declared.line.NoEntry.{NoEntry}
+use Rattle.line_reader.specs.declared.line.NoEntry.TheVariants as no_entry
 use Rattle.desk_log.specs.Record.{record_length}
 use Rattle.desk_state.specs.Lines.{typed}
 use Rattle.desk_state.specs.Desks.{bench_count, line_at}
@@ -41,11 +43,11 @@ module _ (d : Desk) (used : ℕ) (log : List ℕ) where
     unfolding stored_if_open
     open_kept item v = either (open_to (own_item d bench item) bench) (stored-kept item v) (λ n. refl)
 
-    entered-kept : (q : Class) (t : List ℕ) → Kept (entered_as q d used log bench t)
-    entered-kept class.BadForm t = λ n. refl
-    entered-kept class.UnknownName t = λ n. refl
-    entered-kept class.WrongKind t = λ n. refl
-    entered-kept (class.Entry item start) t = open_kept item (drop start t)
+    entered-kept : (q : Result LineEntry NoEntry) (t : List ℕ) → Kept (entered_as q d used log bench t)
+    entered-kept (Err no_entry.BadForm) t = λ n. refl
+    entered-kept (Err no_entry.UnknownName) t = λ n. refl
+    entered-kept (Err no_entry.WrongKind) t = λ n. refl
+    entered-kept (Ok at) t = open_kept at.item (drop at.start t)
 
     step_kept : (byte : ℕ) → Kept (key_step d used log bench byte)
     unfolding key_step

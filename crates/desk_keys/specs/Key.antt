@@ -1,11 +1,12 @@
 -- What a key call does, for every desk, log, used number, bench number and byte (document 01, "Keys and their refusals";
 -- document 02, No. 8 and 9).
 -- Assumes nothing.
-use Rattle.std.specs.Prelude.{ℕ, ◌+◌, ◌-◌, cond, ◌&&◌, List, ltb, eqb, length, drop}
+use Rattle.std.specs.Prelude.{ℕ, ◌+◌, ◌-◌, cond, ◌&&◌, List, ltb, eqb, length, drop, Result, Ok, Err}
 use Rattle.line_items.specs.Typed.{line_most, is_typed}
 use Rattle.line_reader.specs.Line.{class_of}
-use Rattle.line_reader.specs.declared.line.Class.{Class}
-use Rattle.line_reader.specs.declared.line.Class.TheVariants as class
+use Rattle.line_reader.specs.declared.line.LineEntry.{LineEntry}
+use Rattle.line_reader.specs.declared.line.NoEntry.{NoEntry}
+use Rattle.line_reader.specs.declared.line.NoEntry.TheVariants as no_entry
 use Rattle.desk_log.specs.Record.{record_length, record_fits, with_record}
 use Rattle.desk_state.specs.Lines.{typed, empty_line, appended, erased}
 use Rattle.desk_state.specs.Desks.{bench_count, line_at, with_line}
@@ -51,11 +52,11 @@ unfoldable pub stored_if_open : Desk → ℕ → List ℕ → ℕ → ℕ → Li
 stored_if_open d used log bench item v = cond (open_to (own_item d bench item) bench) (stored d used log bench item v) (refused 9 d used log)
 
 -- Enter by what the line t is; "A refused Enter keeps the line for correction"
-abbrev pub entered_as : Class → Desk → ℕ → List ℕ → ℕ → List ℕ → After
-entered_as class.BadForm d used log bench t = refused 5 d used log
-entered_as class.UnknownName d used log bench t = refused 6 d used log
-entered_as class.WrongKind d used log bench t = refused 7 d used log
-entered_as (class.Entry item start) d used log bench t = stored_if_open d used log bench item (drop start t)
+abbrev pub entered_as : Result LineEntry NoEntry → Desk → ℕ → List ℕ → ℕ → List ℕ → After
+entered_as (Err no_entry.BadForm) d used log bench t = refused 5 d used log
+entered_as (Err no_entry.UnknownName) d used log bench t = refused 6 d used log
+entered_as (Err no_entry.WrongKind) d used log bench t = refused 7 d used log
+entered_as (Ok at) d used log bench t = stored_if_open d used log bench at.item (drop at.start t)
 
 -- the bench's Enter, with what is typed on its line
 abbrev pub enter : Desk → ℕ → List ℕ → ℕ → After

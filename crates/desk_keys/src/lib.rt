@@ -11,42 +11,46 @@ ghost use Rattle.desk_entries.specs.Lent.{takes};
 ghost use Rattle.desk_keys.specs.Key.{edited, entered, stored, stored_if_open, enter, append_key, key_step};
 ghost use Rattle.desk_keys.specs.Lent.{leaves, KeyLent, Lent};
 
-use desk_answers::Answer;
-use desk_log::{HEAD, Written};
+use desk_answers::KeyRefusal;
+use desk_log::HEAD;
 use desk_memory::USED_AT;
 use desk_state::desk::BENCH_COUNT;
 use line_items::LINE_MOST;
-use line_reader::line::Class;
+use line_reader::line::NoEntry;
 
 // A byte to append.
-fn append_byte(texts: &mut [u8], numbers: &mut [usize], bench: usize, byte: u8) -> Answer
+fn append_byte(
+    texts: &mut [u8],
+    numbers: &mut [usize],
+    bench: usize,
+    byte: u8,
+) -> Result<(), KeyRefusal>
     requires { (bench < bench_count) × Sized texts.old numbers.old }
     ensures { (log : List ℕ) → leaves (answer_number result) texts.new numbers.new log ≡ append_key (desk_of texts.old numbers.old) (used_of numbers.old) log bench byte }
 {
     let n = numbers[bench];
     if LINE_MOST <= n {
-        return Answer::LineFull;
+        return Err(KeyRefusal::LineFull);
     }
     texts[bench * LINE_MOST + n] = byte;
     numbers[bench] = n + 1;
-    Answer::Accepted
+    Ok(())
 }
 
 // The last byte of a line is erased, if it has one.
-fn erase_byte(texts: &mut [u8], numbers: &mut [usize], bench: usize) -> Answer
+fn erase_byte(texts: &mut [u8], numbers: &mut [usize], bench: usize)
     requires { (bench < bench_count) × Sized texts.old numbers.old }
-    ensures { (log : List ℕ) → leaves (answer_number result) texts.new numbers.new log ≡ edited (desk_of texts.old numbers.old) (used_of numbers.old) log bench (erased (line_at (desk_of texts.old numbers.old) bench)) }
+    ensures { (log : List ℕ) → leaves 0 texts.new numbers.new log ≡ edited (desk_of texts.old numbers.old) (used_of numbers.old) log bench (erased (line_at (desk_of texts.old numbers.old) bench)) }
 {
     let n = numbers[bench];
     if n < 1 {
-        return Answer::Accepted;
+        return;
     }
     if LINE_MOST < n {
-        return Answer::Accepted;
+        return;
     }
     texts[bench * LINE_MOST + (n - 1)] = 0;
     numbers[bench] = n - 1;
-    Answer::Accepted
 }
 
 // A line is emptied.
@@ -82,7 +86,7 @@ fn store(
     bench: usize,
     item: usize,
     start: usize,
-) -> Answer
+) -> Result<(), KeyRefusal>
     requires { (1 ≤ item) × (item ≤ item_count) × (start ≤ get_or numbers.old bench 0) × Lent texts.old numbers.old log.old bench }
     ensures { leaves (answer_number result) texts.new numbers.new log.new ≡ stored (desk_of texts.old numbers.old) (used_of numbers.old) log.old bench item (drop start (typed (line_at (desk_of texts.old numbers.old) bench))) }
 {
@@ -90,17 +94,15 @@ fn store(
     let len = numbers[bench];
     let from = bench * LINE_MOST + start;
     let end = bench * LINE_MOST + len;
-    let Written::Bytes(n) = desk_log::write_record(
+    let n = desk_log::write_record(
         &mut log[used..],
         bench as u8,
         item as u8,
         &texts[from..end],
-    ) else {
-        return Answer::NoRoom;
-    };
+    ).ok_or(KeyRefusal::NoRoom)?;
     let next = used + n;
     enter_desk(texts, numbers, bench, item, &log[used + HEAD..next], next);
-    Answer::Accepted
+    Ok(())
 }
 
 // The value is stored, as `store` says, if no other bench owns the item.
@@ -111,58 +113,77 @@ fn store_if_open(
     bench: usize,
     item: usize,
     start: usize,
-) -> Answer
+) -> Result<(), KeyRefusal>
     requires { (1 ≤ item) × (item ≤ item_count) × (start ≤ get_or numbers.old bench 0) × Lent texts.old numbers.old log.old bench }
     ensures { leaves (answer_number result) texts.new numbers.new log.new ≡ stored_if_open (desk_of texts.old numbers.old) (used_of numbers.old) log.old bench item (drop start (typed (line_at (desk_of texts.old numbers.old) bench))) }
 {
     if !desk_entries::is_open(numbers, bench, item - 1) {
-        return Answer::Owned;
+        return Err(KeyRefusal::Owned);
     }
     store(texts, numbers, log, bench, item, start)
 }
 
 // Enter, with what is typed on the bench's line.
-fn enter_line(texts: &mut [u8], numbers: &mut [usize], log: &mut [u8], bench: usize) -> Answer
+fn enter_line(
+    texts: &mut [u8],
+    numbers: &mut [usize],
+    log: &mut [u8],
+    bench: usize,
+) -> Result<(), KeyRefusal>
     requires { Lent texts.old numbers.old log.old bench }
     ensures { leaves (answer_number result) texts.new numbers.new log.new ≡ enter (desk_of texts.old numbers.old) (used_of numbers.old) log.old bench }
 {
     let at = bench * LINE_MOST;
     let end = at + numbers[bench];
-    let class = line_reader::line::classify(&texts[at..end]);
-    match class {
-        Class::BadForm => Answer::BadForm,
-        Class::UnknownName => Answer::UnknownName,
-        Class::WrongKind => Answer::WrongKind,
-        Class::Entry(item, start) => store_if_open(texts, numbers, log, bench, item, start),
+    match line_reader::line::classify(&texts[at..end]) {
+        Ok(entry) => store_if_open(texts, numbers, log, bench, entry.item, entry.start),
+        Err(NoEntry::BadForm) => Err(KeyRefusal::BadForm),
+        Err(NoEntry::UnknownName) => Err(KeyRefusal::UnknownName),
+        Err(NoEntry::WrongKind) => Err(KeyRefusal::WrongKind),
     }
 }
 
 // The key byte decides the step.
-fn step(texts: &mut [u8], numbers: &mut [usize], log: &mut [u8], bench: usize, byte: u8) -> Answer
+fn step(
+    texts: &mut [u8],
+    numbers: &mut [usize],
+    log: &mut [u8],
+    bench: usize,
+    byte: u8,
+) -> Result<(), KeyRefusal>
     requires { Lent texts.old numbers.old log.old bench }
     ensures { leaves (answer_number result) texts.new numbers.new log.new ≡ key_step (desk_of texts.old numbers.old) (used_of numbers.old) log.old bench byte }
 {
     match byte {
         32..=126 => append_byte(texts, numbers, bench, byte),
-        8 => erase_byte(texts, numbers, bench),
+        8 => {
+            erase_byte(texts, numbers, bench);
+            Ok(())
+        }
         24 => {
             clear_line(texts, numbers, bench);
-            Answer::Accepted
+            Ok(())
         }
         10 => enter_line(texts, numbers, log, bench),
-        _ => Answer::NoKey,
+        _ => Err(KeyRefusal::NoKey),
     }
 }
 
 // One key of a bench. The desk with its used number and the log are lent, and changed in place; a refused key changes nothing.
-pub fn key(texts: &mut [u8], numbers: &mut [usize], log: &mut [u8], bench: u64, byte: u8) -> Answer
+pub fn key(
+    texts: &mut [u8],
+    numbers: &mut [usize],
+    log: &mut [u8],
+    bench: u64,
+    byte: u8,
+) -> Result<(), KeyRefusal>
     ensures { KeyLent texts.old numbers.old log.old bench byte (answer_number result) texts.new numbers.new log.new }
 {
     if BENCH_COUNT as u64 <= bench {
-        return Answer::NoBench;
+        return Err(KeyRefusal::NoBench);
     }
     if !desk_soundness::is_sound_for_keys(texts, numbers, log.len()) {
-        return Answer::Unsound;
+        return Err(KeyRefusal::Unsound);
     }
     step(texts, numbers, log, bench as usize, byte)
 }

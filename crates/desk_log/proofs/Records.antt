@@ -1,6 +1,7 @@
 -- Laws of records: the head and then the value, the length, and a tail of the log that was lent and came back.
 -- Assumes nothing.
 use mathlib.Core.Path.{◌≡◌, ◌∙◌, ap}
+use Rattle.std.specs.Prelude.{Some, None}
 use mathlib.Core.Bool.{true, false, and-true, and-false}
 use mathlib.Core.List.{List, [], ◌++◌, append-nil}
 use Prim.Native.Nat.{ℕ, ◌+◌, ◌-◌, ◌≤◌, ◌<◌}
@@ -15,7 +16,6 @@ use Rattle.text_copies.specs.Copy.{copied}
 use Rattle.text.proofs.Bools.{not-holds, cond-first}
 use Rattle.text_copies.proofs.Copies.{copied-fits}
 use Rattle.desk_log.specs.Record.{head_length, record_length, record_most, head_of, record_of, has_room, written_of, free_after}
-use Rattle.desk_log.specs.declared.Written.TheVariants.{Bytes, NoRoom}
 
 pub record-length : (bench item : ℕ) (v : List ℕ) → length (record_of bench item v) ≡ record_length v
 record-length bench item v = omega arith
@@ -58,17 +58,14 @@ pub tail-lent : (used : ℕ) (log : List ℕ) → mid_of used (length log - used
 tail-lent used log = take_all (length log - used) (drop used log) (simp length-drop (omega arith))
 
 -- what the answer tells of the room
-pub wrote_none : (free v : List ℕ) → written_of free v ≡ NoRoom → has_room free v ≡ false
+pub wrote_none : (free v : List ℕ) → written_of free v ≡ None → has_room free v ≡ false
 unfolding written_of
 wrote_none free v e = not-holds (has_room free v) (λ h. let q = simp h at e in let z : ◌≡◌ {A = ℕ} 0 1 = cc in omega arith)
 
-no_bytes : (n : ℕ) → NoRoom ≡ Bytes n → ⊥
-no_bytes n e = let z : ◌≡◌ {A = ℕ} 0 1 = cc in omega arith
-
-pub wrote-bytes : (free v : List ℕ) (n : ℕ) → written_of free v ≡ Bytes n → (has_room free v ≡ true) × (record_length v ≡ n)
+pub wrote-bytes : (free v : List ℕ) (n : ℕ) → written_of free v ≡ Some n → (has_room free v ≡ true) × (record_length v ≡ n)
 unfolding written_of
 wrote-bytes free v n e =
-    let h = cond-first (has_room free v) (Bytes (record_length v)) NoRoom (Bytes n) (no_bytes n) e in
+    let h = cond-first (has_room free v) (Some (record_length v)) None (Some n) (λ q. cc) e in
     let q = h.1 in
     let l : record_length v ≡ n = cc in
     (h.0, l)

@@ -1,9 +1,7 @@
 -- A record of the log (document 01, "The log").
 -- Assumes nothing.
-use Rattle.std.specs.Prelude.{ℕ, ◌+◌, ◌*◌, Bool, cond, ◌&&◌, List, [], ◌∷◌, ◌++◌, leb, length, get_or, take, drop}
+use Rattle.std.specs.Prelude.{ℕ, ◌+◌, ◌*◌, Bool, cond, ◌&&◌, Option, Some, None, List, [], ◌∷◌, ◌++◌, leb, length, get_or, take, drop}
 use Rattle.text.specs.Little.{little}
-use Rattle.desk_log.specs.declared.Written.{Written}
-use Rattle.desk_log.specs.declared.Written.TheVariants.{Bytes, NoRoom}
 
 -- the bytes of a record before its value
 abbrev pub head_length : ℕ
@@ -51,8 +49,8 @@ unfoldable pub has_room : List ℕ → List ℕ → Bool
 has_room free value = record_fits (length free) value && leb (record_length value) record_most
 
 -- what the writer answers: how many bytes it wrote, or that it had no room
-unfoldable pub written_of : List ℕ → List ℕ → Written
-written_of free value = cond (has_room free value) (Bytes (record_length value)) NoRoom
+unfoldable pub written_of : List ℕ → List ℕ → Option ℕ
+written_of free value = cond (has_room free value) (Some (record_length value)) None
 
 -- the free part with the record at its first byte
 unfoldable pub free_after : List ℕ → ℕ → ℕ → List ℕ → List ℕ

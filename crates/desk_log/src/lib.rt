@@ -4,13 +4,6 @@
 ghost use Rattle.std.specs.Prelude.{◌≡◌, ◌++◌, ◌+◌, ◌≤◌, length, drop};
 ghost use Rattle.desk_log.specs.Record.{head_length, record_most, head_of, written_of, free_after};
 
-// How many bytes a record took, or that there was no room for it.
-#[derive(Clone, Copy)]
-pub enum Written {
-    Bytes(usize),
-    NoRoom,
-}
-
 // The bytes of a record before its value, and the longest record.
 pub const HEAD: usize = 6;
 
@@ -21,27 +14,27 @@ fn put_head(free: &mut [u8], n: usize, bench: u8, item: u8)
     requires { (head_length + n ≤ record_most) × (head_length ≤ length free.old) }
     ensures { free.new ≡ head_of n bench item ++ drop head_length free.old }
 {
-    let all = HEAD + n;
-    free[0] = (all % 256) as u8;
-    free[1] = (all / 256 % 256) as u8;
+    let length = ((HEAD + n) as u16).to_le_bytes();
+    free[0] = length[0];
+    free[1] = length[1];
     free[2] = 1;
     free[3] = 0;
     free[4] = bench;
     free[5] = item;
 }
 
-// Writes the record of an entry at the start of the free part of the log; with no room, nothing.
-pub fn write_record(free: &mut [u8], bench: u8, item: u8, value: &[u8]) -> Written
+// Writes the record of an entry at the start of the free part of the log and says how many bytes it took; with no room, nothing.
+pub fn write_record(free: &mut [u8], bench: u8, item: u8, value: &[u8]) -> Option<usize>
     ensures { (result ≡ written_of free.old value.now) × (free.new ≡ free_after free.old bench item value.now) }
 {
     let n = value.len();
     if RECORD_MOST - HEAD < n {
-        return Written::NoRoom;
+        return None;
     }
     if free.len() < HEAD + n {
-        return Written::NoRoom;
+        return None;
     }
     put_head(free, n, bench, item);
     text_copies::copy_in(free, HEAD, value);
-    Written::Bytes(HEAD + n)
+    Some(HEAD + n)
 }

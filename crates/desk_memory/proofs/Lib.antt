@@ -3,5 +3,4 @@ pub mod Slots
 pub mod Eachs
 pub mod Desks
 pub mod Whole
-pub mod Pastes
 pub mod Gets

@@ -127,17 +127,6 @@ pub fn value_at<'a>(texts: &'a [u8], numbers: &[usize], k: usize) -> &'a [u8]
     text_at(texts, k, number_at(numbers, k, LEN_AT))
 }
 
-fn clear_fitting(t: &mut [u8], from: usize, n: usize)
-    requires { from + n ≤ length t.old }
-    ensures { t.new ≡ copied t.old from (replicate n 0) }
-{
-    let mut j = 0;
-    while j < n {
-        t[from + j] = 0;
-        j += 1;
-    }
-}
-
 // Makes n bytes zero, where there are so many; else nothing.
 pub fn clear(t: &mut [u8], from: usize, n: usize)
     ensures { t.new ≡ copied t.old from (replicate n 0) }
@@ -148,17 +137,13 @@ pub fn clear(t: &mut [u8], from: usize, n: usize)
     if t.len() - from < n {
         return;
     }
-    clear_fitting(t, from, n);
+    t[from..from + n].fill(0);
 }
 
 // Makes memory zero: if it has a desk's lengths, it is a fresh desk.
 pub fn fresh(texts: &mut [u8], numbers: &mut [usize])
     ensures { (texts.new ≡ replicate (length texts.old) 0) × (numbers.new ≡ replicate (length numbers.old) 0) }
 {
-    clear(texts, 0, texts.len());
-    let mut j = 0;
-    while j < numbers.len() {
-        numbers[j] = 0;
-        j += 1;
-    }
+    texts.fill(0);
+    numbers.fill(0);
 }

@@ -1,6 +1,6 @@
 -- The report of a sheet (document 01, "Keys and their refusals", "Two questions"; document 02, No. 9: "the questions .. name a sheet"; No. 11: profiles).
 -- Assumes nothing.
-use Rattle.std.specs.Prelude.{ℕ, cond, List}
+use Rattle.std.specs.Prelude.{ℕ, cond, Result, Ok, Err, List}
 use Rattle.desk_soundness.specs.Sound.{sound_desk}
 use Rattle.desk_state.specs.Desks.{is_sheet, sheet_at}
 use Rattle.desk_state.specs.declared.desk.Desk.{Desk}
@@ -9,7 +9,7 @@ use Rattle.rows.specs.Rows.{is_profile, no_rows}
 use Rattle.rows_sheet.specs.Sheet.{rows_of}
 use Rattle.rows.specs.declared.Rows.{Rows}
 use Rattle.desk_answers.specs.Number.{asked_number}
-use Rattle.desk_questions.specs.declared.report.Reported.{Reported}
+use Rattle.desk_answers.specs.declared.QuestionRefusal.{QuestionRefusal}
 
 -- a report: the number of its answer, and rows
 pub record Report : Type 0 where
@@ -19,9 +19,10 @@ pub record Report : Type 0 where
 abbrev pub reported_as : ℕ → Rows → Report
 reported_as a rows = record { answer = a; rows = rows }
 
--- the function's result
-abbrev pub report_in : Reported → Report
-report_in r = reported_as (asked_number r.answer) r.rows
+-- the function's result; with a refusal the rows are all level 0, reason 0
+abbrev pub report_in : Result Rows QuestionRefusal → Report
+report_in (Ok rows) = reported_as 0 rows
+report_in (Err refusal) = reported_as (asked_number refusal) no_rows
 
 -- "Report gives twelve rows; on an unsound desk it gives 2 and rows all level 0, reason 0"; document 02, No. 9: "12, no such sheet, before 2, with the report
 -- as with 2"; No. 11: "21, no such profile, after 12 and before 2; with 21 too the report is as with 2"

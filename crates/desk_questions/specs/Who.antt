@@ -1,6 +1,6 @@
 -- Who typed an item of a sheet (document 01, "Keys and their refusals", "Two questions"; document 02, No. 9: "the questions .. name a sheet").
 -- Assumes nothing.
-use Rattle.std.specs.Prelude.{ℕ, cond, List, eqb}
+use Rattle.std.specs.Prelude.{ℕ, cond, Option, Some, None, Result, Ok, Err, List, eqb}
 use Rattle.line_items.specs.Items.{is_item}
 use Rattle.desk_state.specs.Desks.{no_bench, is_sheet, sheet_at}
 use Rattle.desk_state.specs.Sheets.{item_at}
@@ -9,7 +9,8 @@ use Rattle.desk_soundness.specs.Sound.{sound_desk}
 use Rattle.desk_state.specs.declared.sheet.Item.{Item}
 use Rattle.desk_state.specs.declared.desk.Desk.{Desk}
 use Rattle.desk_answers.specs.Number.{asked_number}
-use Rattle.desk_questions.specs.declared.who.Told.{Told}
+use Rattle.desk_answers.specs.declared.QuestionRefusal.{QuestionRefusal}
+use Rattle.desk_questions.specs.declared.who.LastEntry.{LastEntry}
 
 -- what Who tells: the number of its answer, the item's last entry and its bench, and how many accepted entries named it
 pub record Who : Type 0 where
@@ -18,13 +19,15 @@ pub record Who : Type 0 where
   pub bench : ℕ
   pub times : ℕ
 
--- the function's result
-abbrev pub who_in : Told → Who
-who_in t = record { answer = asked_number t.answer; entry = t.entry; bench = t.bench; times = t.times }
-
 -- "For an empty item, and with any refusal, bench is 255 and entry 0"; document 02, No. 7: "Who tells it too, 0 for empty items and refusals"
 abbrev pub nobody : ℕ → Who
 nobody a = record { answer = a; entry = 0; bench = no_bench; times = 0 }
+
+-- the function's result
+abbrev pub who_in : Result (Option LastEntry) QuestionRefusal → Who
+who_in (Ok (Some last)) = record { answer = 0; entry = last.entry; bench = last.bench; times = last.times }
+who_in (Ok None) = nobody 0
+who_in (Err refusal) = nobody (asked_number refusal)
 
 -- "bench and entry number" of an item, and "the number of accepted entries that named it"
 unfoldable pub told_of : Item → Who

@@ -7,7 +7,7 @@ ghost use Rattle.desk_session.specs.Lent.{PlayLent};
 
 use desk_state::desk::{BENCH_COUNT, NO_BENCH};
 
-// The bench of any other byte.
+// The bench of any other byte, a number and no Option: the key call takes any number for a bench, and `bench_of` in the clauses of a session says this one.
 const NONE: u64 = NO_BENCH as u64;
 
 // The digits of the benches.
@@ -32,12 +32,9 @@ fn bench_of(first: u8) -> u64
 pub fn play_pairs(texts: &mut [u8], numbers: &mut [usize], log: &mut [u8], input: &[u8])
     ensures { PlayLent texts.old numbers.old log.old input.now texts.new numbers.new log.new }
 {
-    let pairs = input.len() / 2;
-    let mut i = 0;
-    while i < pairs {
+    for i in 0..input.len() / 2 {
         let bench = bench_of(input[2 * i]);
         let byte = input[2 * i + 1];
-        desk_keys::key(texts, numbers, log, bench, byte);
-        i += 1;
+        let _ = desk_keys::key(texts, numbers, log, bench, byte);
     }
 }

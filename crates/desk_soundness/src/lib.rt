@@ -35,14 +35,12 @@ fn are_sound_lines(texts: &[u8], numbers: &[usize]) -> bool
     requires { Sized texts.now numbers.now }
     ensures { result ≡ sound_lines (desk_of texts.now numbers.now) }
 {
-    let mut i = 0;
-    while i < BENCH_COUNT {
+    for i in 0..BENCH_COUNT {
         let at = i * LINE_MOST;
         let end = at + LINE_MOST;
         if !is_sound_line(&texts[at..end], numbers[i]) {
             return false;
         }
-        i += 1;
     }
     true
 }
@@ -53,8 +51,7 @@ fn is_sound_sheet(sheet: usize, texts: &[u8], numbers: &[usize]) -> bool
     ensures { result ≡ sound_sheet sheet (sheet_from texts.now numbers.now) }
 {
     let count = numbers[COUNT_AT];
-    let mut i = 0;
-    while i < ITEM_COUNT {
+    for i in 0..ITEM_COUNT {
         let at = i * LINE_MOST;
         let end = at + LINE_MOST;
         let from = i * ITEM_NUMBERS;
@@ -62,7 +59,6 @@ fn is_sound_sheet(sheet: usize, texts: &[u8], numbers: &[usize]) -> bool
         if !desk_items::is_sound_item(sheet, count, i, &texts[at..end], &numbers[from..to]) {
             return false;
         }
-        i += 1;
     }
     true
 }
@@ -71,12 +67,10 @@ fn are_sound_sheets(texts: &[u8], numbers: &[usize]) -> bool
     requires { Sized texts.now numbers.now }
     ensures { result ≡ sound_sheets (desk_of texts.now numbers.now) }
 {
-    let mut s = 0;
-    while s < SHEET_COUNT {
+    for s in 0..SHEET_COUNT {
         if !is_sound_sheet(s, sheet_texts(texts, s), sheet_numbers(numbers, s)) {
             return false;
         }
-        s += 1;
     }
     true
 }
@@ -101,14 +95,12 @@ fn are_counted(numbers: &[usize], used: usize) -> bool
     ensures { (t : List ℕ) → result ≡ leb (6 * entry_count (desk_of t numbers.now)) used }
 {
     let mut left = used / RECORD_LEAST;
-    let mut s = 0;
-    while s < SHEET_COUNT {
+    for s in 0..SHEET_COUNT {
         let count = numbers[BENCH_COUNT + s * SHEET_NUMBERS + COUNT_AT];
         if left < count {
             return false;
         }
         left -= count;
-        s += 1;
     }
     true
 }

@@ -3,9 +3,10 @@ ghost use Rattle.std.specs.Prelude.{◌≡◌};
 ghost use Rattle.desk_hydrogen.specs.Hydrogens.{proposal_in, helper_lent, check_lent};
 ghost use Rattle.export_desk.specs.Told.{proposal_told};
 
-use hydrogen_answers::Proposed;
+use hydrogen_answers::Refusal;
 
 // The count of hydrogens, and the number of the answer.
+// The answer is a number and no enum, since C reads it.
 #[repr(C)]
 #[derive(Clone, Copy)]
 pub struct DeskProposed {
@@ -13,7 +14,7 @@ pub struct DeskProposed {
     pub answer: u8,
 }
 
-fn told(p: Proposed) -> DeskProposed
+fn told(p: Result<u64, Refusal>) -> DeskProposed
     ensures { proposal_told result ≡ proposal_in p }
 {
     let count = hydrogen_answers::proposed_count(p);

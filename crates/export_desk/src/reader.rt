@@ -3,6 +3,7 @@ ghost use Rattle.std.specs.Prelude.{not, eqb};
 ghost use Rattle.reader_feed.specs.Feed.{FeedLent};
 
 // The byte where the refused record starts, else 0, and the number of the answer.
+// The answer is a number and no enum, since C reads it.
 #[repr(C)]
 #[derive(Clone, Copy)]
 pub struct DeskFed {
@@ -22,10 +23,14 @@ pub extern "C" fn desk_feed(
 ) -> DeskFed
     ensures { FeedLent texts.old numbers.old kept.old state.old part.now (not (eqb last 0)) result.answer result.place texts.new numbers.new kept.new state.new }
 {
-    let fed = reader_feed::feed(texts, numbers, kept, state, part, last != 0);
-    let answer = fed.answer;
-    DeskFed {
-        place: fed.place,
-        answer: reader_answers::feed_number(answer),
+    match reader_feed::feed(texts, numbers, kept, state, part, last != 0) {
+        Ok(()) => DeskFed {
+            place: 0,
+            answer: reader_answers::feed_number(Ok(())),
+        },
+        Err(refused) => DeskFed {
+            place: refused.place,
+            answer: reader_answers::feed_number(Err(refused.refusal)),
+        },
     }
 }

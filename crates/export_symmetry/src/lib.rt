@@ -8,11 +8,13 @@ ghost use Rattle.symmetry_text.specs.Reading.{reading_of};
 ghost use Rattle.export_symmetry.specs.Told.{checked_told};
 
 use symmetry_answers::list_number;
+use symmetry_judged::pairs_looked;
 use symmetry_list::check_list;
 use symmetry_readings::{NUMBERS, reading_number, reading_row};
 use symmetry_text::read_operator;
 
 // The number of the answer, and the twelve numbers of the row: zeros where there is none.
+// The answer is a number and no enum, since C reads it.
 #[repr(C)]
 #[derive(Clone, Copy)]
 pub struct SymmetryOperator {
@@ -33,6 +35,7 @@ pub extern "C" fn symmetry_read(text: &[u8]) -> SymmetryOperator
 }
 
 // How many pairs were looked at, and the number of the answer.
+// The answer is a number and no enum, since C reads it.
 #[repr(C)]
 #[derive(Clone, Copy)]
 pub struct SymmetryChecked {
@@ -45,10 +48,9 @@ pub struct SymmetryChecked {
 pub extern "C" fn symmetry_check(rows: &[i8]) -> SymmetryChecked
     ensures { checked_told result ≡ checked rows.now }
 {
-    let told = check_list(rows);
-    let answer = told.answer;
+    let checked = check_list(rows);
     SymmetryChecked {
-        pairs: told.pairs,
-        answer: list_number(answer),
+        pairs: pairs_looked(checked),
+        answer: list_number(checked),
     }
 }

@@ -4,9 +4,10 @@
 ghost use Rattle.std.specs.Prelude.{◌≡◌};
 ghost use Rattle.export_wall.specs.Wall.{line_number, wall_answer, wall_grade};
 
-use rows_levels::Graded;
+use rows_levels::Ungraded;
 
 // The answer's number, and the level that goes with it.
+// The answer is a number and no enum, since C reads it.
 #[repr(C)]
 #[derive(Clone, Copy)]
 pub struct WallGraded {
@@ -22,16 +23,16 @@ pub extern "C" fn wall_classify(line: &[u8]) -> u8
     line_reader::line::class_number(line_reader::line::classify(line))
 }
 
-fn tell(g: Graded) -> WallGraded
+fn tell(g: Result<u8, Ungraded>) -> WallGraded
     ensures { result ≡ wall_answer g }
 {
     match g {
-        Graded::Level(level) => WallGraded { answer: 0, level },
-        Graded::NoRow => WallGraded {
+        Ok(level) => WallGraded { answer: 0, level },
+        Err(Ungraded::NoRow) => WallGraded {
             answer: 6,
             level: 0,
         },
-        Graded::NoNumber => WallGraded {
+        Err(Ungraded::NoNumber) => WallGraded {
             answer: 7,
             level: 0,
         },

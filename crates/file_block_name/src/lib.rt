@@ -8,19 +8,14 @@ ghost use Rattle.file_block_name.specs.Block.{is_block_byte, is_block_name};
 pub const BLOCK_MOST: usize = 32;
 
 // Whether a byte can stand in a block's name.
+#[tactic(auto, unfolding(crate::specs::Block::is_block_byte))]
 fn is_block_byte(b: u8) -> bool
     ensures { result ≡ is_block_byte b }
 {
-    if text::is_between(b, b'A', b'Z') {
-        return true;
-    }
-    if text::is_between(b, b'a', b'z') {
-        return true;
-    }
-    if text::is_between(b, b'0', b'9') {
-        return true;
-    }
-    b == b'-'
+    text::is_between(b, b'A', b'Z')
+        || text::is_between(b, b'a', b'z')
+        || text::is_between(b, b'0', b'9')
+        || b == b'-'
 }
 
 // Whether a text is a block's name.
@@ -33,12 +28,5 @@ pub fn is_block_name(name: &[u8]) -> bool
     if BLOCK_MOST < name.len() {
         return false;
     }
-    let mut i = 0;
-    while i < name.len() {
-        if !is_block_byte(name[i]) {
-            return false;
-        }
-        i += 1;
-    }
-    true
+    name.iter().all(|b| is_block_byte(*b))
 }

@@ -1,6 +1,6 @@
 -- What writing the file of a sheet answers and leaves, for every desk, sheet number, block name and lent bytes (document 02, No. 1 and 9).
 -- Assumes nothing.
-use Rattle.std.specs.Prelude.{ℕ, cond, List, ◌++◌, leb, length, drop}
+use Rattle.std.specs.Prelude.{ℕ, cond, Result, Ok, Err, List, ◌++◌, leb, length, drop}
 use Rattle.desk_soundness.specs.Sound.{sound_desk}
 use Rattle.desk_state.specs.Desks.{is_sheet, sheet_at}
 use Rattle.desk_state.specs.declared.desk.Desk.{Desk}
@@ -8,7 +8,7 @@ use Rattle.desk_memory.specs.Memory.{is_desk, desk_of}
 use Rattle.file_block_name.specs.Block.{is_block_name}
 use Rattle.file_cif.specs.File.{file_of}
 use Rattle.desk_answers.specs.Number.{file_number}
-use Rattle.file_cif.specs.declared.file.Filed.{Filed}
+use Rattle.desk_answers.specs.declared.FileRefusal.{FileRefusal}
 
 -- everything that writing leaves: the answer's number, "how many bytes it wrote", and the whole of the lent bytes
 pub record Filing : Type 0 where
@@ -16,13 +16,14 @@ pub record Filing : Type 0 where
   pub count : ℕ
   pub out : List ℕ
 
--- the function's result and what the lent bytes then hold
-abbrev pub filing_of : Filed → List ℕ → Filing
-filing_of r out = record { answer = file_number r.answer; count = r.count; out = out }
-
 -- "with a refusal, 0 and none at all"
 abbrev pub no_file : ℕ → List ℕ → Filing
 no_file a out = record { answer = a; count = 0; out = out }
+
+-- the function's result and what the lent bytes then hold
+abbrev pub filing_of : Result ℕ FileRefusal → List ℕ → Filing
+filing_of (Ok count) out = record { answer = 0; count = count; out = out }
+filing_of (Err refusal) out = no_file (file_number refusal) out
 
 -- "It says how many bytes it wrote and touches none after them"
 abbrev pub whole_file : List ℕ → List ℕ → Filing

@@ -8,29 +8,16 @@ ghost use Rattle.file_cif.specs.File.{ended_line, item_text, item_line, file_of}
 ghost use Rattle.file_cif.specs.Answers.{filing_of, file_lent};
 
 use crate::length::lines_length;
-use desk_answers::FileAnswer;
+use desk_answers::FileRefusal;
 use desk_memory::LEN_AT;
 use desk_state::desk::SHEET_COUNT;
 use line_items::ITEM_COUNT;
-
-// The answer, and how many bytes were written.
-#[derive(Clone, Copy)]
-pub struct Filed {
-    pub answer: FileAnswer,
-    pub count: usize,
-}
 
 // The first line but for the name and the end byte.
 const HEADING: [u8; 5] = *b"data_";
 
 // The first line's bytes beside the name.
 const HEAD: usize = 6;
-
-fn refuse(answer: FileAnswer) -> Filed
-    ensures { (result.answer ≡ answer) × (result.count ≡ 0) }
-{
-    Filed { answer, count: 0 }
-}
 
 // Writes the line of item k + 1 with that value from a place on, and says where it ends.
 fn put_filled(out: &mut [u8], at: usize, k: usize, value: &[u8]) -> usize
@@ -64,10 +51,8 @@ fn put_items(out: &mut [u8], start: usize, texts: &[u8], numbers: &[usize])
     ensures { out.new ≡ copied out.old start (lines_from item_line 1 (sheet_from texts.now numbers.now).items) }
 {
     let mut at = start;
-    let mut i = 0;
-    while i < ITEM_COUNT {
+    for i in 0..ITEM_COUNT {
         at = put_item(out, at, texts, numbers, i);
-        i += 1;
     }
 }
 
@@ -84,28 +69,31 @@ fn put_file(out: &mut [u8], name: &[u8], texts: &[u8], numbers: &[usize])
 }
 
 // Writes a sheet of the desk in memory as a CIF file at the start of out and says how many bytes it is; with a refusal, nothing.
-pub fn write_file(texts: &[u8], numbers: &[usize], sheet: u64, name: &[u8], out: &mut [u8]) -> Filed
+pub fn write_file(
+    texts: &[u8],
+    numbers: &[usize],
+    sheet: u64,
+    name: &[u8],
+    out: &mut [u8],
+) -> Result<usize, FileRefusal>
     ensures { filing_of result out.new ≡ file_lent texts.now numbers.now sheet name.now out.old }
 {
     if SHEET_COUNT as u64 <= sheet {
-        return refuse(FileAnswer::NoSheet);
+        return Err(FileRefusal::NoSheet);
     }
     if !desk_soundness::is_sound(texts, numbers) {
-        return refuse(FileAnswer::Unsound);
+        return Err(FileRefusal::Unsound);
     }
     if !file_block_name::is_block_name(name) {
-        return refuse(FileAnswer::BadBlockName);
+        return Err(FileRefusal::BadBlockName);
     }
     let at = sheet as usize;
     let sheet_texts = desk_memory::sheet_texts(texts, at);
     let sheet_numbers = desk_memory::sheet_numbers(numbers, at);
     let count = HEAD + name.len() + lines_length(sheet_texts, sheet_numbers);
     if out.len() < count {
-        return refuse(FileAnswer::NoRoom);
+        return Err(FileRefusal::NoRoom);
     }
     put_file(out, name, sheet_texts, sheet_numbers);
-    Filed {
-        answer: FileAnswer::Written,
-        count,
-    }
+    Ok(count)
 }

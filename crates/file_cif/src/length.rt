@@ -25,10 +25,8 @@ pub(crate) fn lines_length(texts: &[u8], numbers: &[usize]) -> usize
     ensures { (result ≡ length (lines_from item_line 1 (sheet_from texts.now numbers.now).items)) × (result ≤ item_line_most * item_count) }
 {
     let mut n = 0;
-    let mut i = 0;
-    while i < ITEM_COUNT {
+    for i in 0..ITEM_COUNT {
         n += line_length(texts, numbers, i);
-        i += 1;
     }
     n
 }

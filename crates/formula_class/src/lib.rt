@@ -4,6 +4,7 @@
 ghost use Rattle.std.specs.Prelude.{◌≡◌};
 ghost use Rattle.formula_class.specs.Class.{formula_class};
 
+use formula_elements::{CARBON, HYDROGEN};
 use formula_symbols::{Wanted, has_term};
 use line_categories::Class;
 
@@ -11,10 +12,10 @@ use line_categories::Class;
 pub fn class_of(s: &[u8]) -> Class
     ensures { result ≡ formula_class s.now }
 {
-    if !has_term(s, Wanted::Symbol(b'C', b' ')) {
+    if !has_term(s, Wanted::Element(CARBON)) {
         return Class::Inorganic;
     }
-    if !has_term(s, Wanted::Symbol(b'H', b' ')) {
+    if !has_term(s, Wanted::Element(HYDROGEN)) {
         return Class::Inorganic;
     }
     if has_term(s, Wanted::AnyMetal) {

@@ -1,5 +1,6 @@
 -- The code's tables of weights: the symbols in one, the weights in another. That they are the table of weights is a test that antt computes.
 -- Assumes nothing.
+use Rattle.std.specs.Prelude.{Option, Some, None}
 use mathlib.Core.Path.{◌≡◌, refl, sym, ap, subst, ◌∙◌}
 use mathlib.Core.Bool.{Bool, true, false, cond, ◌&&◌}
 use mathlib.Core.List.{List, [], ◌∷◌}
@@ -9,10 +10,6 @@ use lib.Dec.{leb, eqb}
 use lib.ListN.{get_or}
 use Rattle.text.proofs.Bools.{and_both}
 use Rattle.formula_elements.specs.Elements.{same_symbol, next_place, place_of, symbols, element_of, is_element, WeightRow, weights, weight_in, weight_of, heaviest}
-use Rattle.formula_elements.specs.declared.Place.{Place}
-use Rattle.formula_elements.specs.declared.Place.TheVariants.{At, Nowhere}
-use Rattle.formula_elements.specs.declared.Weight.{Weight}
-use Rattle.formula_elements.specs.declared.Weight.TheVariants.{Thousandths, NoWeight}
 
 -- the symbols of a table of weights, two bytes each
 unfoldable pub symbols_in : List WeightRow → List ℕ
@@ -25,15 +22,15 @@ values_in [] = []
 values_in (w ∷ ws) = w.thousandths ∷ values_in ws
 
 -- the weight at a place
-abbrev pub weight_at : List ℕ → Place → Weight
-weight_at vs (At k) = Thousandths (get_or vs k 0)
-weight_at vs Nowhere = NoWeight
+abbrev pub weight_at : List ℕ → Option ℕ → Option ℕ
+weight_at vs (Some k) = Some (get_or vs k 0)
+weight_at vs None = None
 
-weight-after : (v : ℕ) (vs : List ℕ) (p : Place) → weight_at vs p ≡ weight_at (v ∷ vs) (next_place p)
-weight-after v vs (At k) = refl
-weight-after v vs Nowhere = refl
+weight-after : (v : ℕ) (vs : List ℕ) (p : Option ℕ) → weight_at vs p ≡ weight_at (v ∷ vs) (next_place p)
+weight-after v vs (Some k) = refl
+weight-after v vs None = refl
 
-found-by : (v : ℕ) (vs : List ℕ) (p : Place) (u : Weight) (t : Bool) → u ≡ weight_at vs p → cond t (Thousandths v) u ≡ weight_at (v ∷ vs) (cond t (At 0) (next_place p))
+found-by : (v : ℕ) (vs : List ℕ) (p : Option ℕ) (u : Option ℕ) (t : Bool) → u ≡ weight_at vs p → cond t (Some v) u ≡ weight_at (v ∷ vs) (cond t (Some 0) (next_place p))
 found-by v vs p u true e = refl
 found-by v vs p u false e = e ∙ weight-after v vs p
 
@@ -46,15 +43,15 @@ weight-place (w ∷ ws) a b =
     (same_symbol (get_or w.symbol 0 0) (get_or w.symbol 1 0) a b) (weight-place ws a b)
 
 -- no weight is above the heaviest
-abbrev pub Light : Weight → Type 0
-Light (Thousandths w) = w ≤ heaviest
-Light NoWeight = Unit {0}
+abbrev pub Light : Option ℕ → Type 0
+Light (Some w) = w ≤ heaviest
+Light None = Unit {0}
 
 all_light : List WeightRow → Bool
 all_light [] = true
 all_light (w ∷ ws) = leb w.thousandths heaviest && all_light ws
 
-light-by : (v : ℕ) (u : Weight) (t : Bool) → v ≤ heaviest → Light u → Light (cond t (Thousandths v) u)
+light-by : (v : ℕ) (u : Option ℕ) (t : Bool) → v ≤ heaviest → Light u → Light (cond t (Some v) u)
 light-by v u true h l = h
 light-by v u false h l = l
 
@@ -70,9 +67,9 @@ unfolding weight_of weights all_light
 weight-light a b = light weights a b refl
 
 -- a symbol with a weight is recognised
-Known : ℕ → ℕ → Weight → Type 0
-Known a b (Thousandths w) = is_element a b ≡ true
-Known a b NoWeight = Unit {0}
+Known : ℕ → ℕ → Option ℕ → Type 0
+Known a b (Some w) = is_element a b ≡ true
+Known a b None = Unit {0}
 
 all_known : List WeightRow → Bool
 all_known [] = true
@@ -86,7 +83,7 @@ same_known x y a b e h =
     let ey = eqb-true y b s.1 in
     ap (λ (u : ℕ). is_element u b) (sym ex) ∙ ap (is_element x) (sym ey) ∙ h
 
-known_by : (x y a b v : ℕ) (u : Weight) (t : Bool) → same_symbol x y a b ≡ t → is_element x y ≡ true → Known a b u → Known a b (cond t (Thousandths v) u)
+known_by : (x y a b v : ℕ) (u : Option ℕ) (t : Bool) → same_symbol x y a b ≡ t → is_element x y ≡ true → Known a b u → Known a b (cond t (Some v) u)
 unfolding Known
 known_by x y a b v u true e h l = same_known x y a b e h
 known_by x y a b v u false e h l = l
@@ -104,6 +101,6 @@ weights-known : all_known weights ≡ true
 unfolding all_known weights is_element element_of place_of same_symbol symbols
 weights-known = refl
 
-pub weight-known : (a b w : ℕ) → weight_of a b ≡ Thousandths w → is_element a b ≡ true
+pub weight-known : (a b w : ℕ) → weight_of a b ≡ Some w → is_element a b ≡ true
 unfolding weight_of Known
 weight-known a b w e = subst (Known a b) e (known weights a b weights-known)

@@ -1,23 +1,25 @@
 // The tables of document 01: the symbols of the elements, those that are no metals, and the weights.
-// A symbol is two bytes, a space after a single letter.
 #![tactic(auto)]
 
 ghost use Rattle.std.specs.Prelude.{◌≡◌};
-ghost use Rattle.formula_elements.specs.Elements.{same_symbol, place_of, element_of, is_element, is_metal, weight_of};
+ghost use Rattle.formula_elements.specs.Elements.{place_of, element_of, is_element, is_metal, weight_of};
 
-// Where a table has a symbol, counted from 0.
-#[derive(Clone, Copy)]
-pub enum Place {
-    At(usize),
-    Nowhere,
+// A symbol of an element: two bytes, a space after a single letter.
+#[derive(Clone, Copy, PartialEq, Eq)]
+pub struct Symbol {
+    pub first: u8,
+    pub second: u8,
 }
 
-// A weight in thousandths, or none.
-#[derive(Clone, Copy)]
-pub enum Weight {
-    Thousandths(u64),
-    NoWeight,
-}
+pub const CARBON: Symbol = Symbol {
+    first: b'C',
+    second: b' ',
+};
+
+pub const HYDROGEN: Symbol = Symbol {
+    first: b'H',
+    second: b' ',
+};
 
 // How many elements there are.
 pub const ELEMENT_COUNT: usize = 118;
@@ -39,69 +41,47 @@ const WEIGHTS: [u64; 25] = [
     39098, 40078, 54938, 55845, 58933, 58693, 63546, 65380, 79904, 107870, 126900, 207200,
 ];
 
-// Whether the symbols x y and a b are the same.
-pub fn same_symbol(x: u8, y: u8, a: u8, b: u8) -> bool
-    ensures { result ≡ same_symbol x y a b }
+// Where a table has a symbol.
+fn find(table: &[u8], symbol: Symbol) -> Option<usize>
+    ensures { result ≡ place_of table.now symbol.first symbol.second }
 {
-    if x != a {
-        return false;
-    }
-    y == b
-}
-
-// Where a table has the symbol a b.
-fn find(table: &[u8], a: u8, b: u8) -> Place
-    ensures { result ≡ place_of table.now a b }
-{
-    let mut k = 0;
-    while 2 * k + 1 < table.len() {
-        if same_symbol(table[2 * k], table[2 * k + 1], a, b) {
-            return Place::At(k);
+    for k in 0..table.len() / 2 {
+        let here = Symbol {
+            first: table[2 * k],
+            second: table[2 * k + 1],
+        };
+        if here == symbol {
+            return Some(k);
         }
-        k += 1;
     }
-    Place::Nowhere
+    None
 }
 
 // The element of a symbol, counted from 0 in the order of the periodic table.
-pub fn find_element(a: u8, b: u8) -> Place
-    ensures { result ≡ element_of a b }
+pub fn find_element(symbol: Symbol) -> Option<usize>
+    ensures { result ≡ element_of symbol.first symbol.second }
 {
-    find(&SYMBOLS, a, b)
+    find(&SYMBOLS, symbol)
 }
 
 // Whether a symbol is recognised. One that has a weight is; all 118 are searched for the others alone.
-pub fn is_element(a: u8, b: u8) -> bool
-    ensures { result ≡ is_element a b }
+pub fn is_element(symbol: Symbol) -> bool
+    ensures { result ≡ is_element symbol.first symbol.second }
 {
-    if let Weight::Thousandths(_) = weight_of(a, b) {
-        return true;
-    }
-    let Place::At(_) = find_element(a, b) else {
-        return false;
-    };
-    true
+    weight_of(symbol).is_some() || find_element(symbol).is_some()
 }
 
 // Whether a symbol is recognised and is that of a metal.
-pub fn is_metal(a: u8, b: u8) -> bool
-    ensures { result ≡ is_metal a b }
+pub fn is_metal(symbol: Symbol) -> bool
+    ensures { result ≡ is_metal symbol.first symbol.second }
 {
-    if !is_element(a, b) {
-        return false;
-    }
-    let Place::At(_) = find(&NOT_METALS, a, b) else {
-        return true;
-    };
-    false
+    is_element(symbol) && find(&NOT_METALS, symbol).is_none()
 }
 
 // The weight of a symbol.
-pub fn weight_of(a: u8, b: u8) -> Weight
-    ensures { result ≡ weight_of a b }
+pub fn weight_of(symbol: Symbol) -> Option<u64>
+    ensures { result ≡ weight_of symbol.first symbol.second }
 {
-    let Place::At(k) = find(&WEIGHED, a, b) else {
-        return Weight::NoWeight;
-    };
-    Weight::Thousandths(WEIGHTS[k])
+    let k = find(&WEIGHED, symbol)?;
+    Some(WEIGHTS[k])
 }

@@ -1,6 +1,7 @@
 -- What a text can stand for: the total of an element is at most 9999 times 99 to the fourth for each byte. So within 4,096 bytes, and no line
 -- has more, every total is below 10 ^ 16 (`total-small`), far below what a machine number holds.
 -- Assumes nothing.
+use Rattle.std.specs.Prelude.{Option, Some, None}
 use Prim.Native.Nat.{ℕ, zero, suc, ◌+◌, ◌-◌, ◌*◌, ◌^◌, ◌≤◌, ◌<◌}
 use mathlib.Core.Path.{◌≡◌, refl, subst}
 use mathlib.Core.Bool.{Bool, true, false, cond, false≢true}
@@ -17,20 +18,19 @@ use Rattle.formula_sum.specs.Sum.{SmallCount, most_summed}
 use Rattle.formula_sum.proofs.Sums.{term-small}
 use Rattle.formula_elements.specs.Elements.{element_of}
 use Rattle.formula_terms.specs.declared.term.Term.{Term}
-use Rattle.formula_terms.specs.declared.term.Term.TheVariants.{Well, Ill}
 use Rattle.formula_moiety.specs.Amounts.{is_place, amount}
 use Rattle.formula_moiety.specs.Grammar.{most_times, Part, Moiety, shown_part, shown, shown_all, most_deep, IsTimes, IsPart, IsMoiety, is_term, is_group, is_one, is_more, AreMoieties, none, next, IsText}
 use Rattle.formula_moiety.specs.Totals.{count_number, total_part, total, total_all, most}
 use Rattle.formula_moiety.proofs.Leaves.{leaf-read}
 
 -- a term has at most 9999 of an element
-pub amount-small : (k : ℕ) (t : Term) → SmallCount t → amount k t ≤ most_count
-amount-small k (Well a b n) h = go (is_place k (element_of a b))
+pub amount-small : (k : ℕ) (t : Option Term) → SmallCount t → amount k t ≤ most_count
+amount-small k (Some t) h = go (is_place k (element_of t.symbol.first t.symbol.second))
   where
-    go : (x : Bool) → cond x n 0 ≤ most_count
+    go : (x : Bool) → cond x t.count 0 ≤ most_count
     go true = h
     go false = omega arith
-amount-small k Ill h = omega arith
+amount-small k None h = omega arith
 
 few-times : (c : List ℕ) → IsTimes c → count_number (count_of c) ≤ most_times
 few-times c t = rw (count-of t.is) t.few

@@ -1,10 +1,8 @@
 -- A moiety formula by stages, as the code goes (document 02, No. 12). `Agree` (proofs) shows that it is the request's wording.
 -- Assumes nothing.
-use Rattle.std.specs.Prelude.{ℕ, zero, suc, ◌+◌, ◌-◌, ◌*◌, Bool, false, cond, ◌&&◌, List, [], ◌∷◌, leb, eqb, length, take, drop}
+use Rattle.std.specs.Prelude.{ℕ, zero, suc, ◌+◌, ◌-◌, ◌*◌, Bool, false, cond, ◌&&◌, List, [], ◌∷◌, leb, eqb, length, take, drop, Option, Some, None}
 use Rattle.text.specs.Run.{run_of, other, has_at}
 use Rattle.formula_terms.specs.Term.{count_of, term_of}
-use Rattle.formula_terms.specs.declared.term.Count.{Count}
-use Rattle.formula_terms.specs.declared.term.Count.TheVariants.{Times, NoCount}
 use Rattle.formula_sum.specs.Recognised.{is_recognised}
 use Rattle.formula_moiety.specs.Grammar.{Part, Moiety, term, group, one, more, most_times, most_deep, IsText}
 
@@ -25,16 +23,16 @@ abbrev pub past : List ℕ → List ℕ
 past t = drop (run_of in_word t) t
 
 -- a word is a count after a bracket: "1 to 99"
-abbrev pub few_times : Count → Bool
-few_times (Times n) = leb n most_times
-few_times NoCount = false
+abbrev pub few_times : Option ℕ → Bool
+few_times (Some n) = leb n most_times
+few_times None = false
 
 abbrev pub is_times : List ℕ → Bool
 is_times c = few_times (count_of c)
 
 -- the count after a bracket that a word is
-unfoldable pub bracket_count : List ℕ → Count
-bracket_count c = cond (is_times c) (count_of c) NoCount
+unfoldable pub bracket_count : List ℕ → Option ℕ
+bracket_count c = cond (is_times c) (count_of c) None
 
 -- the term that a text begins with
 unfoldable pub word_part : List ℕ → Got Part

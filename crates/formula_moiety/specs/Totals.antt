@@ -1,16 +1,14 @@
 -- How much of each element a tree has (document 02, No. 12: "some element's total"): the sum over its terms, "a bracketed moiety" as often as its count says.
 -- Assumes nothing.
-use Rattle.std.specs.Prelude.{ℕ, zero, suc, ◌+◌, ◌*◌, List, [], ◌∷◌}
+use Rattle.std.specs.Prelude.{ℕ, zero, suc, ◌+◌, ◌*◌, List, [], ◌∷◌, Option, Some, None}
 use Rattle.formula_terms.specs.Term.{most_count, count_of, term_of}
-use Rattle.formula_terms.specs.declared.term.Count.{Count}
-use Rattle.formula_terms.specs.declared.term.Count.TheVariants.{Times, NoCount}
 use Rattle.formula_moiety.specs.Amounts.{amount}
 use Rattle.formula_moiety.specs.Grammar.{Part, Moiety, term, group, one, more, most_times}
 
 -- the number that a count is
-abbrev pub count_number : Count → ℕ
-count_number (Times n) = n
-count_number NoCount = 0
+abbrev pub count_number : Option ℕ → ℕ
+count_number (Some n) = n
+count_number None = 0
 
 -- the total of the element k in a part, and in a moiety
 unfoldable mutual

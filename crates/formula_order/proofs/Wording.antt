@@ -1,6 +1,8 @@
 -- Row 2's order is that of the documents' words: `in_order` holds exactly where each symbol of the well-formed terms stands before every later one, with C among
 -- them and without.
 -- Assumes nothing.
+use Rattle.formula_symbols.specs.declared.Wanted.TheVariants.{Element}
+use Rattle.std.specs.Prelude.{Option, Some, None}
 use mathlib.Core.Path.{◌≡◌, refl, sym, ap, subst, ◌∙◌}
 use mathlib.Core.Bool.{Bool, true, false, false≢true}
 use mathlib.Core.Logic.{⊎_elim}
@@ -17,12 +19,12 @@ use Rattle.formula_terms.specs.Term.{term_of}
 use Rattle.formula_terms.specs.Terms.{cut, terms_of, some}
 use Rattle.formula_terms.specs.Grammar.{SymbolText, capital, capital_small}
 use Rattle.formula_terms.specs.declared.term.Term.{Term}
-use Rattle.formula_terms.specs.declared.term.Term.TheVariants.{Well, Ill}
 use Rattle.formula_terms.proofs.Wording.{term_is}
 use Rattle.formula_symbols.specs.Symbols.{is_wanted, has_term, has_carbon}
-use Rattle.formula_symbols.specs.declared.Wanted.TheVariants as wanted
 use Rattle.formula_order.specs.Order.{rank, order_key, order_keys, rising, in_order}
-use Rattle.formula_order.specs.Wording.{Symbol, carbon, hydrogen, Other, Rises, first_rises, second_rises, Before, symbols_of, Ordered, InOrder}
+use Rattle.formula_elements.specs.declared.Symbol.{Symbol}
+use Rattle.formula_elements.specs.Elements.{carbon, hydrogen}
+use Rattle.formula_order.specs.Wording.{Other, Rises, first_rises, second_rises, Before, symbols_of, Ordered, InOrder}
 
 -- "none twice": no symbol stands before itself
 pub rises-other : (x : Symbol) → Rises x x → ⊥
@@ -124,7 +126,7 @@ no-rank x y = refl
 -- ---- either way
 
 -- every symbol's second byte is above 0 and below 256
-abbrev Bytes : List Term → Type 0
+abbrev Bytes : List (Option Term) → Type 0
 Bytes ts = (y : Symbol) → Memᴰ y (symbols_of ts) → (1 ≤ y.second) × (y.second < 256)
 
 symbol-byte : {t : List ℕ} {a b : ℕ} → SymbolText t a b → (1 ≤ b) × (b < 256)
@@ -132,9 +134,12 @@ unfolding between
 symbol-byte (capital a up) = (omega arith, omega arith)
 symbol-byte (capital_small a b up low) = let h = and_both (leb 97 b) (leb b 122) low in (omega (arith, leb-true 97 b h.0), omega (arith, leb-true b 122 h.1))
 
-bytes-by : (c : List ℕ) (t : Term) (ts : List Term) → term_of c ≡ t → Bytes ts → Bytes (t ∷ ts)
-bytes-by c Ill ts e b y m = b y m
-bytes-by c (Well a d n) ts e b y m =
+bytes-by : (c : List ℕ) (t : Option Term) (ts : List (Option Term)) → term_of c ≡ t → Bytes ts → Bytes (t ∷ ts)
+bytes-by c None ts e b y m = b y m
+bytes-by c (Some t) ts e b y m =
+    let a = t.symbol.first in
+    let d = t.symbol.second in
+    let n = t.count in
     let k = symbol-byte (term_is c a d n e).is_symbol in
     ⊎_elim (λ q. let s = ap (λ (z : Symbol). z.second) q in (omega arith, omega arith)) (b y) (Memᴰ.cases_cons m)
 
@@ -145,16 +150,19 @@ bytes_of (c ∷ cs) y m = bytes-by c (term_of c) (map term_of cs) refl (bytes_of
 -- symbols ordered by R, where R is that the order key is smaller
 module _ (carbon : Bool) (R : Symbol → Symbol → Type 0) where
   -- every symbol's order key is above a number
-  abbrev Above : ℕ → List Term → Type 0
+  abbrev Above : ℕ → List (Option Term) → Type 0
   Above low ts = (y : Symbol) → Memᴰ y (symbols_of ts) → low < order_of carbon y
 
   -- order keys that rise from above a number are above it, and their symbols ordered
-  rising-ordered : ((x y : Symbol) → y.second < 256 → order_of carbon x < order_of carbon y → R x y) → (low : ℕ) (ts : List Term) → Bytes ts
+  rising-ordered : ((x y : Symbol) → y.second < 256 → order_of carbon x < order_of carbon y → R x y) → (low : ℕ) (ts : List (Option Term)) → Bytes ts
       → rising low (order_keys carbon ts) ≡ true → Above low ts × Ordered R (symbols_of ts)
   unfolding rising
   rising-ordered r low [] b e = (λ y m. absurd (Memᴰ.not-nil m), Ordered.none)
-  rising-ordered r low (Ill ∷ ts) b e = rising-ordered r low ts b e
-  rising-ordered r low (Well a c n ∷ ts) b e =
+  rising-ordered r low (None ∷ ts) b e = rising-ordered r low ts b e
+  rising-ordered r low (Some u ∷ ts) b e =
+      let a = u.symbol.first in
+      let c = u.symbol.second in
+      let n = u.count in
       let x : Symbol = record { first = a; second = c } in
       let p = and_both (ltb low (order_of carbon x)) (rising (order_of carbon x) (order_keys carbon ts)) e in
       let l = ltb-true low (order_of carbon x) p.0 in
@@ -163,31 +171,40 @@ module _ (carbon : Bool) (R : Symbol → Symbol → Type 0) where
       (λ y m. ⊎_elim (λ q. omega (arith, ap (order_of carbon) q)) (λ k. omega (arith, h.0 y k)) (Memᴰ.cases_cons m), Ordered.next x (symbols_of ts) before h.1)
 
   -- and the other way
-  ordered-rising : ((x y : Symbol) → R x y → x.second < 256 → order_of carbon x < order_of carbon y) → (low : ℕ) (ts : List Term) → Bytes ts
+  ordered-rising : ((x y : Symbol) → R x y → x.second < 256 → order_of carbon x < order_of carbon y) → (low : ℕ) (ts : List (Option Term)) → Bytes ts
       → Above low ts → Ordered R (symbols_of ts) → rising low (order_keys carbon ts) ≡ true
   unfolding rising
   ordered-rising r low [] b h o = refl
-  ordered-rising r low (Ill ∷ ts) b h o = ordered-rising r low ts b h o
-  ordered-rising r low (Well a c n ∷ ts) b h (Ordered.next x later f o) =
+  ordered-rising r low (None ∷ ts) b h o = ordered-rising r low ts b h o
+  ordered-rising r low (Some u ∷ ts) b h (Ordered.next x later f o) =
+      let a = u.symbol.first in
+      let c = u.symbol.second in
+      let n = u.count in
       rw (lt-ltb low (order_of carbon x) (h x (Memᴰ.head refl)))
       (ordered-rising r (order_of carbon x) ts (λ y m. b y (Memᴰ.tail m)) (λ y m. r x y (f y m) (b x (Memᴰ.head refl)).1) o)
 
 -- ---- C among the symbols
 
 -- a term of the symbol C is looked for exactly where C is among the symbols
-some-among : (ts : List Term) → some (is_wanted (wanted.Symbol 67 32)) ts ≡ true → Memᴰ carbon (symbols_of ts)
+some-among : (ts : List (Option Term)) → some (is_wanted (Element carbon)) ts ≡ true → Memᴰ carbon (symbols_of ts)
 unfolding some
 some-among [] e = absurd (false≢true e)
-some-among (Ill ∷ ts) e = some-among ts e
-some-among (Well a b n ∷ ts) e =
+some-among (None ∷ ts) e = some-among ts e
+some-among (Some u ∷ ts) e =
+    let a = u.symbol.first in
+    let b = u.symbol.second in
+    let n = u.count in
     let x : Symbol = record { first = a; second = b } in
-    ⊎_elim (λ h. Memᴰ.head (sym (same-is x carbon h))) (λ h. Memᴰ.tail (some-among ts h)) (or-either (same x carbon) (some (is_wanted (wanted.Symbol 67 32)) ts) e)
+    ⊎_elim (λ h. Memᴰ.head (sym (same-is x carbon h))) (λ h. Memᴰ.tail (some-among ts h)) (or-either (same x carbon) (some (is_wanted (Element carbon)) ts) e)
 
-among-some : (ts : List Term) → Memᴰ carbon (symbols_of ts) → some (is_wanted (wanted.Symbol 67 32)) ts ≡ true
+among-some : (ts : List (Option Term)) → Memᴰ carbon (symbols_of ts) → some (is_wanted (Element carbon)) ts ≡ true
 unfolding some
 among-some [] m = absurd (Memᴰ.not-nil m)
-among-some (Ill ∷ ts) m = among-some ts m
-among-some (Well a b n ∷ ts) m =
+among-some (None ∷ ts) m = among-some ts m
+among-some (Some u ∷ ts) m =
+    let a = u.symbol.first in
+    let b = u.symbol.second in
+    let n = u.count in
     let x : Symbol = record { first = a; second = b } in
     ⊎_elim (λ q. rw (is_same x carbon (sym q)) refl) (λ k. or_right (same x carbon) _ (among-some ts k)) (Memᴰ.cases_cons m)
 

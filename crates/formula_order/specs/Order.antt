@@ -1,11 +1,10 @@
 -- Row 2's order by stages, as the code goes (document 01, "The twelve rows", 2, and document 02, No. 2). `Wording` (proofs) shows that it is the documents'
 -- wording.
 -- Assumes nothing.
-use Rattle.std.specs.Prelude.{ℕ, ◌+◌, ◌*◌, Bool, true, cond, ◌&&◌, List, [], ◌∷◌, ltb}
+use Rattle.std.specs.Prelude.{ℕ, ◌+◌, ◌*◌, Bool, true, cond, ◌&&◌, List, [], ◌∷◌, ltb, Option, Some, None}
 use Rattle.formula_terms.specs.Terms.{terms_of}
 use Rattle.formula_elements.specs.Elements.{same_symbol}
 use Rattle.formula_terms.specs.declared.term.Term.{Term}
-use Rattle.formula_terms.specs.declared.term.Term.TheVariants.{Well, Ill}
 use Rattle.formula_symbols.specs.Symbols.{has_carbon}
 
 -- with C among the symbols "C first, then H, then the others"; "without C" none goes first
@@ -17,10 +16,10 @@ unfoldable pub order_key : Bool → ℕ → ℕ → ℕ
 order_key carbon a b = (rank carbon a b * 256 + a) * 256 + b
 
 -- the order keys of the symbols of the well-formed terms, in order
-abbrev pub order_keys : Bool → List Term → List ℕ
+abbrev pub order_keys : Bool → List (Option Term) → List ℕ
 order_keys carbon [] = []
-order_keys carbon (Well a b n ∷ ts) = order_key carbon a b ∷ order_keys carbon ts
-order_keys carbon (Ill ∷ ts) = order_keys carbon ts
+order_keys carbon (Some u ∷ ts) = order_key carbon u.symbol.first u.symbol.second ∷ order_keys carbon ts
+order_keys carbon (None ∷ ts) = order_keys carbon ts
 
 -- numbers rise, from above a first one, none twice
 unfoldable pub rising : ℕ → List ℕ → Bool

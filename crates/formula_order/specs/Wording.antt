@@ -1,22 +1,10 @@
 -- Row 2's order in the words of document 01 ("The twelve rows", 2) and of document 02 (No. 2). `Wording` (proofs) shows that `in_order` is it.
 -- Assumes nothing.
-use Rattle.std.specs.Prelude.{ℕ, ◌<◌, ◌≤◌, ◌≡◌}
+use Rattle.std.specs.Prelude.{◌<◌, ◌≡◌, Option, Some, None}
 use mathlib.Core.List.{List, [], ◌∷◌, Memᴰ}
+use Rattle.formula_elements.specs.Elements.{carbon, hydrogen}
+use Rattle.formula_elements.specs.declared.Symbol.{Symbol}
 use Rattle.formula_terms.specs.declared.term.Term.{Term}
-use Rattle.formula_terms.specs.declared.term.Term.TheVariants.{Well, Ill}
-
--- the two bytes of a symbol; after a single letter the second is a space, 32
-pub record Symbol : Type 0 where
-  pub first : ℕ
-  pub second : ℕ
-
--- C
-abbrev pub carbon : Symbol
-carbon = record { first = 67; second = 32 }
-
--- H
-abbrev pub hydrogen : Symbol
-hydrogen = record { first = 72; second = 32 }
 
 -- "the others": neither C nor H
 abbrev pub Other : Symbol → Type 0
@@ -37,10 +25,10 @@ pub data Before : Symbol → Symbol → Type 0 where
   others_rise : (x y : Symbol) → Other x → Other y → Rises x y → Before x y
 
 -- "the symbols of well-formed terms", in the order of the terms
-abbrev pub symbols_of : List Term → List Symbol
+abbrev pub symbols_of : List (Option Term) → List Symbol
 symbols_of [] = []
-symbols_of (Well a b n ∷ ts) = record { first = a; second = b } ∷ symbols_of ts
-symbols_of (Ill ∷ ts) = symbols_of ts
+symbols_of (Some u ∷ ts) = u.symbol ∷ symbols_of ts
+symbols_of (None ∷ ts) = symbols_of ts
 
 -- each symbol stands before every later one, as R says; "none twice", where none stands before itself
 pub data Ordered (R : Symbol → Symbol → Type 0) : List Symbol → Type 0 where

@@ -1,5 +1,6 @@
 -- The sum of a formula's weights is far below what a machine number holds.
 -- Assumes nothing.
+use Rattle.std.specs.Prelude.{Option, Some, None}
 use mathlib.Core.Path.{◌≡◌, subst}
 use mathlib.Core.Bool.{Bool, true, false, cond}
 use mathlib.Core.List.{List, [], ◌∷◌, map}
@@ -14,30 +15,27 @@ use Rattle.formula_terms.specs.Terms.{attach, cut, terms_of}
 use Rattle.formula_elements.specs.Elements.{weight_of, heaviest}
 use Rattle.formula_sum.specs.Sum.{most_summed, times, plus, term_weight, total_weight, sum_of, SmallCount, SmallWeight}
 use Rattle.formula_terms.specs.declared.term.Term.{Term}
-use Rattle.formula_terms.specs.declared.term.Term.TheVariants.{Well, Ill}
-use Rattle.formula_elements.specs.declared.Weight.{Weight}
-use Rattle.formula_elements.specs.declared.Weight.TheVariants.{Thousandths, NoWeight}
 use Rattle.formula_sum.proofs.Sums.{term-small, product_small, no-sum}
 use Rattle.formula_elements.proofs.Weights.{Light, weight-light}
 
-times-small : (n : ℕ) (w : Weight) → n ≤ most_count → Light w → SmallWeight (times n w)
-times-small n (Thousandths w) h l = product_small n w h l
-times-small n NoWeight h l = tt
+times-small : (n : ℕ) (w : Option ℕ) → n ≤ most_count → Light w → SmallWeight (times n w)
+times-small n (Some w) h l = product_small n w h l
+times-small n None h l = tt
 
-weight-small : (t : Term) → SmallCount t → SmallWeight (term_weight t)
-weight-small (Well a b n) h = times-small n (weight_of a b) h (weight-light a b)
-weight-small Ill h = tt
+weight-small : (t : Option Term) → SmallCount t → SmallWeight (term_weight t)
+weight-small (Some t) h = times-small t.count (weight_of t.symbol.first t.symbol.second) h (weight-light t.symbol.first t.symbol.second)
+weight-small None h = tt
 
 -- at most so many times the heaviest term
-AtMost : ℕ → Weight → Type 0
-AtMost k (Thousandths w) = w ≤ k * (most_count * heaviest)
-AtMost k NoWeight = Unit {0}
+AtMost : ℕ → Option ℕ → Type 0
+AtMost k (Some w) = w ≤ k * (most_count * heaviest)
+AtMost k None = Unit {0}
 
-plus-small : (k : ℕ) (u v : Weight) → SmallWeight u → AtMost k v → AtMost (suc k) (plus u v)
+plus-small : (k : ℕ) (u v : Option ℕ) → SmallWeight u → AtMost k v → AtMost (suc k) (plus u v)
 unfolding AtMost
-plus-small k (Thousandths u) (Thousandths v) h l = omega arith
-plus-small k (Thousandths u) NoWeight h l = tt
-plus-small k NoWeight v h l = tt
+plus-small k (Some u) (Some v) h l = omega arith
+plus-small k (Some u) None h l = tt
+plus-small k None v h l = tt
 
 total-small : (ts : List (List ℕ)) → AtMost (length ts) (total_weight (map term_of ts))
 unfolding total_weight AtMost
@@ -58,10 +56,10 @@ unfolding cut
 cut-length [] = omega arith
 cut-length (b ∷ bs) = cut_by (eqb b 32) b (suc (length bs)) (cut bs) (cut-length bs)
 
-pub sum-small : (s : List ℕ) (n : ℕ) → sum_of s ≡ Thousandths n → n < 10 ^ 13
+pub sum-small : (s : List ℕ) (n : ℕ) → sum_of s ≡ Some n → n < 10 ^ 13
 unfolding sum_of AtMost
 sum-small s n e =
-    let h = cond-first (leb (length s) most_summed) (total_weight (terms_of s)) NoWeight (Thousandths n) (no-sum n) e in
+    let h = cond-first (leb (length s) most_summed) (total_weight (terms_of s)) None (Some n) (no-sum n) e in
     let short = leb-true (length s) most_summed h.0 in
     let terms = cut-length s in
     let small : n ≤ length (cut s) * (most_count * heaviest) = subst (AtMost (length (cut s))) h.1 (total-small (cut s)) in

@@ -2,16 +2,15 @@
 ghost use Rattle.std.specs.Prelude.{◌≡◌};
 ghost use Rattle.formula_sum.specs.Recognised.{is_recognised, all_recognised};
 
-use formula_terms::Step;
-use formula_terms::term::Term;
+use formula_terms::term::{Term, read_term};
 
 // Whether a term is well formed and its symbol recognised.
-fn is_recognised(t: Term) -> bool
-    ensures { result ≡ is_recognised t }
+fn is_recognised(term: Option<Term>) -> bool
+    ensures { result ≡ is_recognised term }
 {
-    match t {
-        Term::Well(a, b, _) => formula_elements::is_element(a, b),
-        Term::Ill => false,
+    match term {
+        Some(t) => formula_elements::is_element(t.symbol),
+        None => false,
     }
 }
 
@@ -19,14 +18,5 @@ fn is_recognised(t: Term) -> bool
 pub fn all_recognised(s: &[u8]) -> bool
     ensures { result ≡ all_recognised s.now }
 {
-    let mut from = 0;
-    loop {
-        let Step::Next(term, next) = formula_terms::step_at(s, from) else {
-            return true;
-        };
-        if !is_recognised(term) {
-            return false;
-        }
-        from = next;
-    }
+    formula_terms::cut(s).all(|word| is_recognised(read_term(word)))
 }

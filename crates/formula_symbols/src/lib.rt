@@ -4,26 +4,26 @@
 ghost use Rattle.std.specs.Prelude.{◌≡◌};
 ghost use Rattle.formula_symbols.specs.Symbols.{is_wanted, has_term};
 
-use formula_terms::Step;
-use formula_terms::term::Term;
+use formula_elements::Symbol;
+use formula_terms::term::{Term, read_term};
 
-// What is looked for among the terms of a formula: a symbol, or that of any metal.
+// What is looked for among the terms of a formula: the symbol of an element, or that of any metal.
 #[derive(Clone, Copy)]
 pub enum Wanted {
-    Symbol(u8, u8),
+    Element(Symbol),
     AnyMetal,
 }
 
 // Whether a term is well formed and is one that is looked for.
-fn is_wanted(t: Term, w: Wanted) -> bool
-    ensures { result ≡ is_wanted w t }
+fn is_wanted(term: Option<Term>, w: Wanted) -> bool
+    ensures { result ≡ is_wanted w term }
 {
-    let Term::Well(x, y, _) = t else {
+    let Some(t) = term else {
         return false;
     };
     match w {
-        Wanted::Symbol(a, b) => formula_elements::same_symbol(x, y, a, b),
-        Wanted::AnyMetal => formula_elements::is_metal(x, y),
+        Wanted::Element(symbol) => t.symbol == symbol,
+        Wanted::AnyMetal => formula_elements::is_metal(t.symbol),
     }
 }
 
@@ -31,14 +31,5 @@ fn is_wanted(t: Term, w: Wanted) -> bool
 pub fn has_term(s: &[u8], w: Wanted) -> bool
     ensures { result ≡ has_term w s.now }
 {
-    let mut from = 0;
-    loop {
-        let Step::Next(term, next) = formula_terms::step_at(s, from) else {
-            return false;
-        };
-        if is_wanted(term, w) {
-            return true;
-        }
-        from = next;
-    }
+    formula_terms::cut(s).any(|word| is_wanted(read_term(word), w))
 }

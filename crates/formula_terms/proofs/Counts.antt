@@ -1,5 +1,6 @@
 -- Laws of `count_of`: what the digits that were read, or not, are as a count.
 -- Assumes nothing.
+use Rattle.std.specs.Prelude.{Some, None}
 use mathlib.Core.Path.{◌≡◌, refl}
 use mathlib.Core.Bool.{Bool, true, false, not, and-false}
 use mathlib.Core.List.{List, [], ◌∷◌}
@@ -12,10 +13,8 @@ use lib.ListN.{length, get_or}
 use Rattle.text.specs.Run.{all, is_digit}
 use Rattle.number_decimal.specs.Digits.{value_from, value_of}
 use Rattle.number_decimal.specs.Reading.{whole_of}
-use Rattle.number_decimal.specs.declared.Whole.TheVariants.{Worth, NoDigits}
 use Rattle.number_decimal.proofs.Digits.{first-digit, whole_is, whole-none}
 use Rattle.formula_terms.specs.Term.{most_count, is_count, count_of}
-use Rattle.formula_terms.specs.declared.term.Count.TheVariants.{Times, NoCount}
 
 -- digits after acc write no less than acc
 pub value-over : (acc : ℕ) (ds : List ℕ) → acc ≤ value_from acc ds
@@ -33,7 +32,7 @@ value-positive (d ∷ ds) a z l =
     omega (arith, n, value-over (0 * 10 + (d - 48)) ds)
 
 -- a text that is no count
-pub no-count : (s : List ℕ) → (length s ≡ 0 → ⊥) → is_count s ≡ false → count_of s ≡ NoCount
+pub no-count : (s : List ℕ) → (length s ≡ 0 → ⊥) → is_count s ≡ false → count_of s ≡ None
 unfolding count_of
 no-count s l e = simp (ne_eqb (length s) 0 l, e)
 
@@ -66,20 +65,20 @@ module _ (s : List ℕ) where
   too_large m =
       rw (lt-leb (value_of s) most_count m, and-false (leb 1 (value_of s)), and-false (not (eqb (get_or s 0 0) 48))) (and-false (all is_digit s))
 
-  unread-by : (t : Bool) → all is_digit s ≡ t → (length s ≡ 0 → ⊥) → (get_or s 0 0 ≡ 48 → ⊥) → whole_of s ≡ NoDigits → is_count s ≡ false
+  unread-by : (t : Bool) → all is_digit s ≡ t → (length s ≡ 0 → ⊥) → (get_or s 0 0 ≡ 48 → ⊥) → whole_of s ≡ None → is_count s ≡ false
   unfolding is_count
   unread-by false a l z e = simp a
   unread-by true a l z e = let many = whole-none s (omega (arith, l)) a e in too_large (long-large s a z (omega arith))
 
   module _ (l : length s ≡ 0 → ⊥) (z : get_or s 0 0 ≡ 48 → ⊥) where
     -- no digits, or more than nine
-    pub unread : whole_of s ≡ NoDigits → count_of s ≡ NoCount
+    pub unread : whole_of s ≡ None → count_of s ≡ None
     unread e = no-count s l (unread-by (all is_digit s) refl l z e)
 
-    pub over : (n : ℕ) → whole_of s ≡ Worth n → most_count < n → count_of s ≡ NoCount
+    pub over : (n : ℕ) → whole_of s ≡ Some n → most_count < n → count_of s ≡ None
     over n e m = let k = whole_is s n e in no-count s l (too_large (omega (arith, k.1)))
 
-    pub read : (n : ℕ) → whole_of s ≡ Worth n → n ≤ most_count → count_of s ≡ Times n
+    pub read : (n : ℕ) → whole_of s ≡ Some n → n ≤ most_count → count_of s ≡ Some n
     unfolding count_of is_count
     read n e m =
         let k = whole_is s n e in

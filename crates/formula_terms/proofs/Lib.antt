@@ -1,5 +1,5 @@
 pub mod Counts
 pub mod TermCases
-pub mod Words
-pub mod Steps
+pub mod Cuts
 pub mod Wording
+pub mod Steps

@@ -1,5 +1,6 @@
 -- The cases of `term_of`.
 -- Assumes nothing.
+use Rattle.std.specs.Prelude.{None}
 use mathlib.Core.Path.{◌≡◌}
 use mathlib.Core.Bool.{Bool, true, false}
 use mathlib.Core.List.{List}
@@ -10,7 +11,6 @@ use lib.ListN.{length, get_or, drop}
 use Rattle.text.specs.Run.{is_capital, is_small, kind_at}
 use Rattle.text.proofs.Bools.{and_both}
 use Rattle.formula_terms.specs.Term.{count_of, with_count, term_of}
-use Rattle.formula_terms.specs.declared.term.Term.TheVariants.{Ill}
 
 pub kind-within : (p : ℕ → Bool) (s : List ℕ) (at : ℕ) → kind_at p s at ≡ true → at < length s
 unfolding kind_at
@@ -21,7 +21,7 @@ unfolding kind_at
 kind-byte p s at e = (and_both (ltb at (length s)) _ e).1
 
 module _ (t : List ℕ) where
-  pub no-capital : kind_at is_capital t 0 ≡ false → term_of t ≡ Ill
+  pub no-capital : kind_at is_capital t 0 ≡ false → term_of t ≡ None
   unfolding term_of
   no-capital e = rw e
 

@@ -1,5 +1,6 @@
 -- `term_of` and `cut` are the wording of document 01: a text is read as a term exactly when it is one, and is cut exactly at its spaces.
 -- Assumes nothing.
+use Rattle.std.specs.Prelude.{Option, Some, None}
 use mathlib.Core.Path.{◌≡◌, refl, sym, ap, subst, ◌∙◌}
 use mathlib.Core.Bool.{Bool, true, false, cond, ◌&&◌, not, and-false}
 use mathlib.Core.List.{List, [], ◌∷◌, ◌++◌}
@@ -14,23 +15,21 @@ use Rattle.text.proofs.Bools.{and_both}
 use Rattle.text.proofs.Runs.{run-all}
 use Rattle.number_decimal.specs.Digits.{value_from, value_of}
 use Rattle.number_decimal.proofs.Digits.{first-digit}
-use Rattle.formula_terms.specs.Term.{most_count, is_count, count_of, with_count, term_of}
+use Rattle.formula_terms.specs.Term.{most_count, is_count, count_of, with_count, term_of, well}
+use Rattle.formula_terms.specs.declared.term.Term.{Term}
 use Rattle.formula_terms.specs.Terms.{attach, cut}
 use Rattle.formula_terms.specs.Grammar.{SymbolText, capital, capital_small, CountText, none, written, IsTerm, joined, spaceless}
-use Rattle.formula_terms.specs.declared.term.Count.{Count}
-use Rattle.formula_terms.specs.declared.term.Count.TheVariants.{Times, NoCount}
-use Rattle.formula_terms.specs.declared.term.Term.TheVariants.{Well, Ill}
 use Rattle.formula_terms.proofs.TermCases.{kind-within, kind-byte, no-capital, two-letters, one-letter}
-use Rattle.formula_terms.proofs.Words.{cut-last}
+use Rattle.formula_terms.proofs.Cuts.{cut-last}
 
 -- a text that is a count is read as that count
-written_of : (ds : List ℕ) → all is_digit ds ≡ true → (get_or ds 0 0 ≡ 48 → ⊥) → 1 ≤ value_of ds → value_of ds ≤ most_count → count_of ds ≡ Times (value_of ds)
+written_of : (ds : List ℕ) → all is_digit ds ≡ true → (get_or ds 0 0 ≡ 48 → ⊥) → 1 ≤ value_of ds → value_of ds ≤ most_count → count_of ds ≡ Some (value_of ds)
 unfolding count_of is_count value_from
 written_of [] a z l m = absurd (omega arith)
 written_of (d ∷ ds) a z l m =
     simp (ne_eqb (suc (length ds)) 0 (suc-ne-zero (length ds)), a, ne_eqb d 48 z, le-leb 1 (value_of (d ∷ ds)) l, le-leb (value_of (d ∷ ds)) most_count m)
 
-pub count-of : {ds : List ℕ} {n : ℕ} → CountText ds n → count_of ds ≡ Times n
+pub count-of : {ds : List ℕ} {n : ℕ} → CountText ds n → count_of ds ≡ Some n
 unfolding count_of
 count-of none = refl
 count-of (written ds a z l m) = written_of ds a z l m
@@ -58,7 +57,7 @@ kind-not : (p : ℕ → Bool) (s : List ℕ) (at : ℕ) → p (get_or s at 0) �
 unfolding kind_at
 kind-not p s at e = ap (λ (x : Bool). ltb at (length s) && x) e ∙ and-false (ltb at (length s))
 
-from_parts : {symbol : List ℕ} {a b n : ℕ} (count : List ℕ) → SymbolText symbol a b → CountText count n → term_of (symbol ++ count) ≡ Well a b n
+from_parts : {symbol : List ℕ} {a b n : ℕ} (count : List ℕ) → SymbolText symbol a b → CountText count n → term_of (symbol ++ count) ≡ well a b n
 from_parts count (capital a up) k =
     one-letter (a ∷ count) (kind-here is_capital (a ∷ count) 0 (omega arith) up) (kind-not is_small (a ∷ count) 1 (count-not-small k))
     ∙ ap (with_count a 32) (count-of k)
@@ -67,11 +66,11 @@ from_parts count (capital_small a b up low) k =
     ∙ ap (with_count a b) (count-of k)
 
 -- a text of the document's form is read as that term
-pub term-of : (t : List ℕ) (a b n : ℕ) → IsTerm t a b n → term_of t ≡ Well a b n
+pub term-of : (t : List ℕ) (a b n : ℕ) → IsTerm t a b n → term_of t ≡ well a b n
 term-of t a b n h = ap term_of h.text ∙ from_parts h.count h.is_symbol h.is_count
 
 -- a text that is read as a count is one
-count_by : (ds : List ℕ) (n : ℕ) (t : Bool) → is_count ds ≡ t → cond t (Times (value_of ds)) NoCount ≡ Times n → CountText ds n
+count_by : (ds : List ℕ) (n : ℕ) (t : Bool) → is_count ds ≡ t → cond t (Some (value_of ds)) None ≡ Some n → CountText ds n
 unfolding is_count
 count_by ds n true e q =
     let a = and_both (all is_digit ds) _ e in
@@ -81,7 +80,7 @@ count_by ds n true e q =
     subst (CountText ds) worth (written ds a.0 (eqb-false _ _ (not-true _ b.0)) (leb-true _ _ c.0) (leb-true _ _ c.1))
 count_by ds n false e q = let z : ◌≡◌ {A = ℕ} 0 1 = cc in absurd (omega arith)
 
-pub count-is : (ds : List ℕ) (n : ℕ) → count_of ds ≡ Times n → CountText ds n
+pub count-is : (ds : List ℕ) (n : ℕ) → count_of ds ≡ Some n → CountText ds n
 unfolding count_of
 count-is [] n e = let worth : 1 ≡ n = cc in subst (CountText []) worth none
 count-is (d ∷ ds) n e =
@@ -89,20 +88,22 @@ count-is (d ∷ ds) n e =
     count_by (d ∷ ds) n (is_count (d ∷ ds)) refl (rw some at e)
 
 -- a symbol and a count that were put together are those of the term
-record Counted (x y a b n : ℕ) (c : Count) : Type 0 where
+record Counted (x y a b n : ℕ) (c : Option ℕ) : Type 0 where
   first : x ≡ a
   second : y ≡ b
-  count : c ≡ Times n
+  count : c ≡ Some n
 
-counted_is : (x y a b n : ℕ) (c : Count) → with_count x y c ≡ Well a b n → Counted x y a b n c
-counted_is x y a b n (Times m) e = record { first = cc; second = cc; count = let q : m ≡ n = cc in ap Times q }
-counted_is x y a b n NoCount e = let z : ◌≡◌ {A = ℕ} 0 1 = cc in absurd (omega arith)
+counted_is : (x y a b n : ℕ) (c : Option ℕ) → with_count x y c ≡ well a b n → Counted x y a b n c
+counted_is x y a b n (Some m) e =
+    let q : ◌≡◌ {A = Term} (record { symbol = record { first = x; second = y }; count = m }) (record { symbol = record { first = a; second = b }; count = n }) = cc in
+    record { first = ap (λ (t : Term). t.symbol.first) q; second = ap (λ (t : Term). t.symbol.second) q; count = ap (λ (t : Term). Some t.count) q }
+counted_is x y a b n None e = let z : ◌≡◌ {A = ℕ} 0 1 = cc in absurd (omega arith)
 
-not-term : (t : List ℕ) (a b n : ℕ) → term_of t ≡ Ill → term_of t ≡ Well a b n → ⊥
+not-term : (t : List ℕ) (a b n : ℕ) → term_of t ≡ None → term_of t ≡ well a b n → ⊥
 not-term t a b n i e = let z : ◌≡◌ {A = ℕ} 0 1 = cc in omega arith
 
 -- a symbol of a capital alone, or of two letters
-one-is : (x : ℕ) (r : List ℕ) (a b n : ℕ) → is_capital x ≡ true → with_count x 32 (count_of r) ≡ Well a b n → IsTerm (x ∷ r) a b n
+one-is : (x : ℕ) (r : List ℕ) (a b n : ℕ) → is_capital x ≡ true → with_count x 32 (count_of r) ≡ well a b n → IsTerm (x ∷ r) a b n
 one-is x r a b n up e =
     let h = counted_is x 32 a b n (count_of r) e in
     record {
@@ -113,7 +114,7 @@ one-is x r a b n up e =
       is_count = count-is r n h.count;
     }
 
-two_is : (x y : ℕ) (r : List ℕ) (a b n : ℕ) → is_capital x ≡ true → is_small y ≡ true → with_count x y (count_of r) ≡ Well a b n → IsTerm (x ∷ (y ∷ r)) a b n
+two_is : (x y : ℕ) (r : List ℕ) (a b n : ℕ) → is_capital x ≡ true → is_small y ≡ true → with_count x y (count_of r) ≡ well a b n → IsTerm (x ∷ (y ∷ r)) a b n
 two_is x y r a b n up low e =
     let h = counted_is x y a b n (count_of r) e in
     record {
@@ -124,19 +125,19 @@ two_is x y r a b n up low e =
       is_count = count-is r n h.count;
     }
 
-second_is : (x : ℕ) (r : List ℕ) (a b n : ℕ) (t : Bool) → kind_at is_capital (x ∷ r) 0 ≡ true → kind_at is_small (x ∷ r) 1 ≡ t → term_of (x ∷ r) ≡ Well a b n → IsTerm (x ∷ r) a b n
+second_is : (x : ℕ) (r : List ℕ) (a b n : ℕ) (t : Bool) → kind_at is_capital (x ∷ r) 0 ≡ true → kind_at is_small (x ∷ r) 1 ≡ t → term_of (x ∷ r) ≡ well a b n → IsTerm (x ∷ r) a b n
 second_is x r a b n false up low e = one-is x r a b n (kind-byte is_capital (x ∷ r) 0 up) (sym (one-letter (x ∷ r) up low) ∙ e)
 second_is x [] a b n true up low e = let h = kind-within is_small (x ∷ []) 1 low in absurd (omega arith)
 second_is x (y ∷ r) a b n true up low e =
     two_is x y r a b n (kind-byte is_capital (x ∷ (y ∷ r)) 0 up) (kind-byte is_small (x ∷ (y ∷ r)) 1 low) (sym (two-letters (x ∷ (y ∷ r)) up low) ∙ e)
 
-first-is : (t : List ℕ) (a b n : ℕ) (x : Bool) → kind_at is_capital t 0 ≡ x → term_of t ≡ Well a b n → IsTerm t a b n
+first-is : (t : List ℕ) (a b n : ℕ) (x : Bool) → kind_at is_capital t 0 ≡ x → term_of t ≡ well a b n → IsTerm t a b n
 first-is t a b n false up e = absurd (not-term t a b n (no-capital t up) e)
 first-is [] a b n true up e = let h = kind-within is_capital [] 0 up in absurd (omega arith)
 first-is (x ∷ r) a b n true up e = second_is x r a b n (kind_at is_small (x ∷ r) 1) up refl e
 
 -- a text that is read as a term has the document's form
-pub term_is : (t : List ℕ) (a b n : ℕ) → term_of t ≡ Well a b n → IsTerm t a b n
+pub term_is : (t : List ℕ) (a b n : ℕ) → term_of t ≡ well a b n → IsTerm t a b n
 term_is t a b n e = first-is t a b n (kind_at is_capital t 0) refl e
 
 -- the terms of a text with a space between each two are the text

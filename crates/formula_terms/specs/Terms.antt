@@ -1,11 +1,10 @@
 -- The terms of a formula's text (document 01, "The twelve rows").
 -- Assumes nothing.
-use Rattle.std.specs.Prelude.{ℕ, ◌+◌, Bool, false, cond, ◌||◌, List, [], ◌∷◌, map, leb, eqb, length, take, drop}
-use Rattle.text.specs.Run.{run_of, other}
+use Rattle.std.specs.Prelude.{Option, Some, None, ℕ, Bool, false, cond, ◌||◌, List, [], ◌∷◌, map, eqb}
 use Rattle.formula_terms.specs.Term.{term_of}
 use Rattle.formula_terms.specs.declared.term.Term.{Term}
-use Rattle.formula_terms.specs.declared.Step.{Step}
-use Rattle.formula_terms.specs.declared.Step.TheVariants.{Next, End}
+use Rattle.formula_terms.specs.declared.Words.{Words}
+use Rattle.std.specs.Borrow.{Bor}
 
 -- a byte before the first of some texts
 abbrev pub attach : ℕ → List (List ℕ) → List (List ℕ)
@@ -18,17 +17,19 @@ cut [] = [] ∷ []
 cut (b ∷ bs) = cond (eqb b 32) ([] ∷ cut bs) (attach b (cut bs))
 
 -- the terms of a text, in order
-abbrev pub terms_of : List ℕ → List Term
+abbrev pub terms_of : List ℕ → List (Option Term)
 terms_of s = map term_of (cut s)
 
 -- some term is of the kind p
-unfoldable pub some : (Term → Bool) → List Term → Bool
+unfoldable pub some : (Option Term → Bool) → List (Option Term) → Bool
 some p [] = false
 some p (t ∷ ts) = p t || some p ts
 
--- the term that begins at a place of a text and the place after the space that ends it; past the text's end there is none
-unfoldable pub step_of : List ℕ → ℕ → Step
-step_of s from =
-    cond (leb from (length s))
-    (Next (term_of (take (run_of (other 32) (drop from s)) (drop from s))) (from + run_of (other 32) (drop from s) + 1))
-    End
+-- the terms of what is left of a text, if anything is
+abbrev pub words_of_rest : Option (Bor (List ℕ)) → List (List ℕ)
+words_of_rest None = []
+words_of_rest (Some rest) = cut rest.now
+
+-- the terms that are still to come
+abbrev pub words_left : Words → List (List ℕ)
+words_left w = words_of_rest w.rest

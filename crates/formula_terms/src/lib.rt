@@ -2,26 +2,39 @@
 #![tactic(auto)]
 
 ghost use Rattle.std.specs.Prelude.{◌≡◌};
-ghost use Rattle.formula_terms.specs.Terms.{step_of};
-
-use crate::term::Term;
+ghost use Rattle.std.specs.Iterator.{YieldsFirstRef, item_count};
+ghost use Rattle.formula_terms.specs.Terms.{cut, words_left};
 
 pub mod term;
 
-// What stands at a place of a text: a term, with the place where the next one begins, or none, past the text's end.
+// The terms that are left of a text, as they are written. After the last one nothing is left.
 #[derive(Clone, Copy)]
-pub enum Step {
-    Next(Term, usize),
-    End,
+pub struct Words<'a> {
+    rest: Option<&'a [u8]>,
 }
 
-// The term that begins at a place. The first begins at 0.
-pub fn step_at(s: &[u8], from: usize) -> Step
-    ensures { result ≡ step_of s.now from }
+// The terms of a text, as they are written: it is cut at every single space.
+pub fn cut(s: &[u8]) -> Words<'_>
+    ensures { words_left result ≡ cut s.now }
 {
-    if s.len() < from {
-        return Step::End;
+    Words { rest: Some(s) }
+}
+
+impl<'a> Iterator for Words<'a> {
+    type Item = &'a [u8];
+
+    ghost next_gives = { YieldsFirstRef words_left };
+
+    ghost remaining = { item_count words_left };
+
+    fn next(&mut self) -> Option<&'a [u8]> {
+        let rest = self.rest?;
+        let n = text::run::run_other(rest, b' ');
+        self.rest = if n < rest.len() {
+            Some(&rest[n + 1..])
+        } else {
+            None
+        };
+        Some(&rest[..n])
     }
-    let end = from + text::run::run_other(&s[from..], b' ');
-    Step::Next(crate::term::read_term(&s[from..end]), end + 1)
 }

@@ -3,20 +3,12 @@ ghost use Rattle.std.specs.Prelude.{◌≡◌};
 ghost use Rattle.text.specs.Run.{between, kind_at};
 ghost use Rattle.formula_terms.specs.Term.{count_of, with_count, term_of};
 
-use number_decimal::Whole;
-
-// What the text after a symbol counts: so many, or that it is no count.
+use formula_elements::Symbol;
+// A term: a symbol and its count.
 #[derive(Clone, Copy)]
-pub enum Count {
-    Times(u64),
-    NoCount,
-}
-
-// What a term is: the two bytes of its symbol, a space after a single letter, with its count; or ill formed.
-#[derive(Clone, Copy)]
-pub enum Term {
-    Well(u8, u8, u64),
-    Ill,
+pub struct Term {
+    pub symbol: Symbol,
+    pub count: u64,
 }
 
 // The largest count.
@@ -37,43 +29,49 @@ fn between_at(s: &[u8], at: usize, lo: u8, hi: u8) -> bool
 }
 
 // The count that s writes; no text means 1.
-pub fn read_count(s: &[u8]) -> Count
+pub fn read_count(s: &[u8]) -> Option<u64>
     ensures { result ≡ count_of s.now }
 {
     if s.len() == 0 {
-        return Count::Times(1);
+        return Some(1);
     }
     if s[0] == b'0' {
-        return Count::NoCount;
+        return None;
     }
-    let Whole::Worth(n) = number_decimal::read_digits(s) else {
-        return Count::NoCount;
-    };
+    let n = number_decimal::read_digits(s)?;
     if MOST_COUNT < n {
-        return Count::NoCount;
+        return None;
     }
-    Count::Times(n)
+    Some(n)
 }
 
 // The term of a symbol and what was read after it.
-fn with_count(a: u8, b: u8, c: Count) -> Term
-    ensures { result ≡ with_count a b c }
+fn with_count(symbol: Symbol, count: Option<u64>) -> Option<Term>
+    ensures { result ≡ with_count symbol.first symbol.second count }
 {
-    match c {
-        Count::Times(n) => Term::Well(a, b, n),
-        Count::NoCount => Term::Ill,
-    }
+    Some(Term {
+        symbol,
+        count: count?,
+    })
 }
 
 // The term that s is.
-pub fn read_term(s: &[u8]) -> Term
+pub fn read_term(s: &[u8]) -> Option<Term>
     ensures { result ≡ term_of s.now }
 {
     if !between_at(s, 0, b'A', b'Z') {
-        return Term::Ill;
+        return None;
     }
     if between_at(s, 1, b'a', b'z') {
-        return with_count(s[0], s[1], read_count(&s[2..]));
+        let symbol = Symbol {
+            first: s[0],
+            second: s[1],
+        };
+        return with_count(symbol, read_count(&s[2..]));
     }
-    with_count(s[0], b' ', read_count(&s[1..]))
+    let symbol = Symbol {
+        first: s[0],
+        second: b' ',
+    };
+    with_count(symbol, read_count(&s[1..]))
 }

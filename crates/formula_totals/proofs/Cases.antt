@@ -1,5 +1,6 @@
 -- The cases of the readers that call each other and of the reader of a whole text, one for each return of the code.
 -- Assumes nothing.
+use Rattle.std.specs.Prelude.{Option, Some, None}
 use Prim.Native.Nat.{ℕ, zero, suc, ◌+◌, ◌-◌, ◌*◌, ◌≤◌, ◌<◌}
 use mathlib.Core.Path.{◌≡◌, refl, sym, ap, subst, ◌∙◌}
 use mathlib.Core.Bool.{Bool, true, false, false≢true}
@@ -18,18 +19,16 @@ use Rattle.formula_moiety.specs.Reading.{Got, got, none, word_part, closed, in_b
 use Rattle.formula_moiety.specs.Totals.{total_part, total, total_all}
 use Rattle.formula_totals.specs.Counters.{Added}
 use Rattle.formula_totals.specs.Left.{GotLeft, CloseLeft, PartLeft, MoietyLeft, AllLeft, WholeLeft}
-use Rattle.formula_totals.specs.declared.moieties.Taken.{Taken}
-use Rattle.formula_totals.specs.declared.moieties.Taken.TheVariants.{Bytes, Nothing}
 
 -- i bytes more
-abbrev pub shift : ℕ → Taken → Taken
-shift i (Bytes n) = Bytes (i + n)
-shift i Nothing = Nothing
+abbrev pub shift : ℕ → Option ℕ → Option ℕ
+shift i (Some n) = Some (i + n)
+shift i None = None
 
-pub no_bytes : (n : ℕ) → Nothing ≡ Bytes n → ⊥
+pub no_bytes : (n : ℕ) → None ≡ Some n → ⊥
 no_bytes n e = let z : ◌≡◌ {A = ℕ} 0 1 = cc in omega arith
 
-pub same_bytes : (m n : ℕ) → Bytes m ≡ Bytes n → m ≡ n
+pub same_bytes : (m n : ℕ) → Some m ≡ Some n → m ≡ n
 same_bytes m n e = cc
 
 has-drop : (s : List ℕ) (n b : ℕ) → has_at (drop n s) 0 b ≡ has_at s n b
@@ -49,7 +48,7 @@ has-drop s n b = go (has_at s n b) refl
         false≢true (sym e ∙ has_here s n b l at)) ∙ sym e
 
 -- what was read of the text from i on was read of the text
-pub later : {A : Type 0} (amounts : A → ℕ → ℕ) (s before after : List ℕ) (i : ℕ) (r : Taken) → i ≤ length s → (g : Got A)
+pub later : {A : Type 0} (amounts : A → ℕ → ℕ) (s before after : List ℕ) (i : ℕ) (r : Option ℕ) → i ≤ length s → (g : Got A)
     → GotLeft amounts (drop i s) before after r g → GotLeft amounts s before after (shift i r) g
 later amounts s before after i r l (got x rest) h =
     record {
@@ -64,13 +63,13 @@ later amounts s before after i r l none h = ap (shift i) h
 
 -- a part
 module _ (s : List ℕ) (d : ℕ) (before : List ℕ) where
-  pub part-word : (after : List ℕ) (r : Taken) → has_at s 0 40 ≡ false → GotLeft total_part s before after r (word_part s) → PartLeft s d before after r
+  pub part-word : (after : List ℕ) (r : Option ℕ) → has_at s 0 40 ≡ false → GotLeft total_part s before after r (word_part s) → PartLeft s d before after r
   unfolding PartLeft part_of
   part-word after r h x zero l = absurd (omega arith)
   part-word after r h x (suc f) l = rw h x
 
   module _ (h : has_at s 0 40 ≡ true) where
-    pub part-deep : (after : List ℕ) → d ≡ 0 → PartLeft s d before after Nothing
+    pub part-deep : (after : List ℕ) → d ≡ 0 → PartLeft s d before after None
     unfolding PartLeft part_of
     part-deep after e zero l = absurd (omega arith)
     part-deep after e (suc f) l = rw (h, eq-eqb d 0 e)
@@ -79,22 +78,22 @@ module _ (s : List ℕ) (d : ℕ) (before : List ℕ) where
       shorter : (f : ℕ) → 2 * length s < suc f → 2 * length (drop 1 s) + 1 < f
       shorter f l = let u = has_within s 0 40 h in omega (arith, length-drop 1 s)
 
-      pub part-inner : (after : List ℕ) → MoietyLeft (drop 1 s) (d - 1) zeros inner Nothing → PartLeft s d before after Nothing
+      pub part-inner : (after : List ℕ) → MoietyLeft (drop 1 s) (d - 1) zeros inner None → PartLeft s d before after None
       unfolding PartLeft MoietyLeft part_of
       part-inner after m zero l = absurd (omega arith)
       part-inner after m (suc f) l = rw (h, ne_eqb d 0 n) (go (moiety_of f (d - 1) (drop 1 s)) (m f (shorter f l)))
         where
-          go : (g : Got Moiety) → GotLeft total (drop 1 s) zeros inner Nothing g → GotLeft total_part s before after Nothing (in_brackets g)
+          go : (g : Got Moiety) → GotLeft total (drop 1 s) zeros inner None g → GotLeft total_part s before after None (in_brackets g)
           go (got x r) t = absurd (no_bytes t.n t.is)
           go none t = refl
 
-      pub part-closes : (after : List ℕ) (i : ℕ) (r : Taken) → ((k : ℕ) → get_or zeros k 0 ≡ 0) → MoietyLeft (drop 1 s) (d - 1) zeros inner (Bytes i) → CloseLeft (drop (1 + i) s) inner before after r
+      pub part-closes : (after : List ℕ) (i : ℕ) (r : Option ℕ) → ((k : ℕ) → get_or zeros k 0 ≡ 0) → MoietyLeft (drop 1 s) (d - 1) zeros inner (Some i) → CloseLeft (drop (1 + i) s) inner before after r
           → PartLeft s d before after (shift (1 + i) r)
       unfolding PartLeft MoietyLeft CloseLeft part_of
       part-closes after i r z m c zero l = absurd (omega arith)
       part-closes after i r z m c (suc f) l = rw (h, ne_eqb d 0 n) (go (moiety_of f (d - 1) (drop 1 s)) (m f (shorter f l)))
         where
-          go : (g : Got Moiety) → GotLeft total (drop 1 s) zeros inner (Bytes i) g → GotLeft total_part s before after (shift (1 + i) r) (in_brackets g)
+          go : (g : Got Moiety) → GotLeft total (drop 1 s) zeros inner (Some i) g → GotLeft total_part s before after (shift (1 + i) r) (in_brackets g)
           go (got x rest) t =
               let e = same_bytes i t.n t.is in
               let u : 1 + i ≤ length s = omega (arith, t.within, length-drop 1 s, has_within s 0 40 h) in
@@ -105,29 +104,29 @@ module _ (s : List ℕ) (d : ℕ) (before : List ℕ) where
 
 -- a moiety
 module _ (s : List ℕ) (d : ℕ) (before after : List ℕ) where
-  pub moiety-none : (last : List ℕ) → PartLeft s d before after Nothing → MoietyLeft s d before last Nothing
+  pub moiety-none : (last : List ℕ) → PartLeft s d before after None → MoietyLeft s d before last None
   unfolding PartLeft MoietyLeft part_of
   moiety-none last p zero l = absurd (omega arith)
   moiety-none last p (suc f) l = let u : 2 * length s < f = omega arith in go (part_of f d s) (p f u)
     where
-      go : (g : Got Part) → GotLeft total_part s before after Nothing g → GotLeft total s before last Nothing (goes_on g (moiety_of f d))
+      go : (g : Got Part) → GotLeft total_part s before after None g → GotLeft total s before last None (goes_on g (moiety_of f d))
       go (got x r) t = absurd (no_bytes t.n t.is)
       go none t = refl
 
-  module _ (n : ℕ) (p : PartLeft s d before after (Bytes n)) where
-    pub moiety-one : has_at s n 32 ≡ false → MoietyLeft s d before after (Bytes n)
+  module _ (n : ℕ) (p : PartLeft s d before after (Some n)) where
+    pub moiety-one : has_at s n 32 ≡ false → MoietyLeft s d before after (Some n)
     unfolding PartLeft MoietyLeft part_of total
     moiety-one h zero l = absurd (omega arith)
     moiety-one h (suc f) l = let u : 2 * length s < f = omega arith in go (part_of f d s) (p f u)
       where
-        go : (g : Got Part) → GotLeft total_part s before after (Bytes n) g → GotLeft total s before after (Bytes n) (goes_on g (moiety_of f d))
+        go : (g : Got Part) → GotLeft total_part s before after (Some n) g → GotLeft total s before after (Some n) (goes_on g (moiety_of f d))
         go (got x r) t =
             let e = same_bytes n t.n t.is in
             let no : has_at r 0 32 ≡ false = ap (λ (y : List ℕ). has_at y 0 32) t.follows ∙ has-drop s t.n 32 ∙ ap (λ (j : ℕ). has_at s j 32) (sym e) ∙ h in
             rw no (record { n = t.n; is = t.is; some = t.some; within = t.within; follows = t.follows; adds = t.adds })
         go none t = absurd (no_bytes n (sym t))
 
-    pub moiety-more : (last : List ℕ) (r : Taken) → has_at s n 32 ≡ true → MoietyLeft (drop (n + 1) s) d after last r → MoietyLeft s d before last (shift (n + 1) r)
+    pub moiety-more : (last : List ℕ) (r : Option ℕ) → has_at s n 32 ≡ true → MoietyLeft (drop (n + 1) s) d after last r → MoietyLeft s d before last (shift (n + 1) r)
     unfolding PartLeft MoietyLeft part_of total
     moiety-more last r h m zero l = absurd (omega arith)
     moiety-more last r h m (suc f) l = let u : 2 * length s < f = omega arith in go (part_of f d s) (p f u)
@@ -147,7 +146,7 @@ module _ (s : List ℕ) (d : ℕ) (before after : List ℕ) where
             }
         add-up x a none t = t
 
-        go : (g : Got Part) → GotLeft total_part s before after (Bytes n) g → GotLeft total s before last (shift (n + 1) r) (goes_on g (moiety_of f d))
+        go : (g : Got Part) → GotLeft total_part s before after (Some n) g → GotLeft total s before last (shift (n + 1) r) (goes_on g (moiety_of f d))
         go (got x rest) t =
             let e = same_bytes n t.n t.is in
             let at : rest ≡ drop n s = t.follows ∙ ap (λ (j : ℕ). drop j s) (sym e) in
@@ -159,23 +158,23 @@ module _ (s : List ℕ) (d : ℕ) (before after : List ℕ) where
 
 -- a whole text
 module _ (s before after : List ℕ) where
-  pub whole-none : MoietyLeft s most_deep before after Nothing → WholeLeft s before after false
+  pub whole-none : MoietyLeft s most_deep before after None → WholeLeft s before after None
   unfolding MoietyLeft WholeLeft whole_text_of
   whole-none p zero l = absurd (omega arith)
   whole-none p (suc f) l = go (moiety_of (enough s) most_deep s) (p (enough s) (omega arith))
     where
-      go : (g : Got Moiety) → GotLeft total s before after Nothing g → AllLeft before after false (further g (whole_text_of f))
+      go : (g : Got Moiety) → GotLeft total s before after None g → AllLeft before after None (further g (whole_text_of f))
       go (got x r) t = absurd (no_bytes t.n t.is)
       go none t = refl
 
-  module _ (n : ℕ) (p : MoietyLeft s most_deep before after (Bytes n)) where
+  module _ (n : ℕ) (p : MoietyLeft s most_deep before after (Some n)) where
     -- the case that the moiety was read, by the text that follows it
-    whole_by : (last : List ℕ) (r : Bool) (f : ℕ) → ((m : Moiety) → n ≤ length s → Added before after (total m) → AllLeft before last r (further (got m (drop n s)) (whole_text_of f)))
+    whole_by : (last : List ℕ) (r : Option Unit) (f : ℕ) → ((m : Moiety) → n ≤ length s → Added before after (total m) → AllLeft before last r (further (got m (drop n s)) (whole_text_of f)))
         → AllLeft before last r (further (moiety_of (enough s) most_deep s) (whole_text_of f))
     unfolding MoietyLeft
     whole_by last r f h = go (moiety_of (enough s) most_deep s) (p (enough s) (omega arith))
       where
-        go : (g : Got Moiety) → GotLeft total s before after (Bytes n) g → AllLeft before last r (further g (whole_text_of f))
+        go : (g : Got Moiety) → GotLeft total s before after (Some n) g → AllLeft before last r (further g (whole_text_of f))
         go (got x rest) t =
             let e = same_bytes n t.n t.is in
             let at : rest ≡ drop n s = t.follows ∙ ap (λ (j : ℕ). drop j s) (sym e) in
@@ -183,31 +182,31 @@ module _ (s before after : List ℕ) where
             subst (λ (y : List ℕ). AllLeft before last r (further (got x y) (whole_text_of f))) (sym at) (h x l t.adds)
         go none t = absurd (no_bytes n (sym t))
 
-    pub whole-end : n ≡ length s → WholeLeft s before after true
+    pub whole-end : n ≡ length s → WholeLeft s before after (Some tt)
     unfolding WholeLeft whole_text_of total_all
     whole-end e zero l = absurd (omega arith)
     whole-end e (suc f) l =
-        whole_by after true f (λ m w a. let z : length (drop n s) ≡ 0 = rw length-drop (omega arith) in rw (eq-eqb (length (drop n s)) 0 z) (refl, a))
+        whole_by after (Some tt) f (λ m w a. let z : length (drop n s) ≡ 0 = rw length-drop (omega arith) in rw (eq-eqb (length (drop n s)) 0 z) (refl, a))
 
     module _ (ne : n ≡ length s → ⊥) where
       left : n ≤ length s → eqb (length (drop n s)) 0 ≡ false
       left w = ne_eqb (length (drop n s)) 0 (λ z. ne (omega (arith, length-drop n s)))
 
-      pub whole-no-comma : has_at s n 44 ≡ false → WholeLeft s before after false
+      pub whole-no-comma : has_at s n 44 ≡ false → WholeLeft s before after None
       unfolding WholeLeft whole_text_of
       whole-no-comma h zero l = absurd (omega arith)
-      whole-no-comma h (suc f) l = whole_by after false f (λ m w a. rw (left w, has-drop s n 44, h))
+      whole-no-comma h (suc f) l = whole_by after None f (λ m w a. rw (left w, has-drop s n 44, h))
 
       has-second : has_at (drop n s) 1 32 ≡ has_at s (n + 1) 32
       has-second = sym (has-drop (drop n s) 1 32) ∙ ap (λ (x : List ℕ). has_at x 0 32) (drop-drop 1 n s) ∙ has-drop s (n + 1) 32
 
       module _ (h : has_at s n 44 ≡ true) where
-        pub whole-no-space : has_at s (n + 1) 32 ≡ false → WholeLeft s before after false
+        pub whole-no-space : has_at s (n + 1) 32 ≡ false → WholeLeft s before after None
         unfolding WholeLeft whole_text_of
         whole-no-space k zero l = absurd (omega arith)
-        whole-no-space k (suc f) l = whole_by after false f (λ m w a. rw (left w, has-drop s n 44, h, has-second, k))
+        whole-no-space k (suc f) l = whole_by after None f (λ m w a. rw (left w, has-drop s n 44, h, has-second, k))
 
-        pub whole-more : (last : List ℕ) (r : Bool) → has_at s (n + 1) 32 ≡ true → WholeLeft (drop (n + 2) s) after last r → WholeLeft s before last r
+        pub whole-more : (last : List ℕ) (r : Option Unit) → has_at s (n + 1) 32 ≡ true → WholeLeft (drop (n + 2) s) after last r → WholeLeft s before last r
         unfolding WholeLeft whole_text_of total_all
         whole-more last r k rest zero l = absurd (omega arith)
         whole-more last r k rest (suc f) l =

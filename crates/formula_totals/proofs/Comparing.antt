@@ -1,8 +1,10 @@
 -- The cases of the comparison, one for each return of the code.
 -- Assumes nothing.
+use Rattle.std.specs.Prelude.{Option, Some, None}
+use Rattle.std.specs.Option.{is_some}
 use Prim.Native.Nat.{ℕ, ◌+◌, ◌≤◌, ◌<◌}
 use mathlib.Core.Path.{◌≡◌, refl, sym, ap, ◌∙◌}
-use mathlib.Core.Bool.{Bool, true, false, cond, false≢true}
+use mathlib.Core.Bool.{Bool, true, false, cond, not}
 use mathlib.Core.List.{List}
 use native.Mathlib.Omega.{arith}
 use native.Mathlib.Nat.{zero-add}
@@ -38,24 +40,44 @@ formula-room s h = record { long = refl; room = λ k. omega (arith, zero-at elem
 counted : (have : List ℕ) (total : ℕ → ℕ) → Added zeros have total → (k : ℕ) → get_or have k 0 ≡ total k
 counted have total a k = a k ∙ ap (λ (x : ℕ). x + total k) (zero-at element_count k) ∙ zero-add (total k)
 
+none-some : ◌≡◌ {A = Option (Unit {0})} None (Some tt) → ⊥
+none-some e = cc
+
+-- what `is_none` says of what was counted
+pub uncounted : (x : Option (Unit {0})) (b : Bool) → is_some x ≡ not b → b ≡ true → x ≡ None
+uncounted x true e q = go x e
+  where
+    go : (x : Option (Unit {0})) → is_some x ≡ false → x ≡ None
+    go (Some u) e = cc
+    go None e = refl
+uncounted x false e q = cc
+
+pub were-counted : (x : Option (Unit {0})) (b : Bool) → is_some x ≡ not b → b ≡ false → x ≡ Some tt
+were-counted x true e q = cc
+were-counted x false e q = go x e
+  where
+    go : (x : Option (Unit {0})) → is_some x ≡ true → x ≡ Some tt
+    go (Some u) e = refl
+    go None e = cc
+
 module _ (m have : List ℕ) where
-  against-unread : (s : List ℕ) → WholeLeft m zeros have false → against s (moieties_of m) ≡ Unread
+  against-unread : (s : List ℕ) → WholeLeft m zeros have None → against s (moieties_of m) ≡ Unread
   unfolding WholeLeft moieties_of
   against-unread s w = go (whole_text_of (length m + 1) m) (w (length m + 1) (omega arith))
     where
-      go : (x : Whole) → AllLeft zeros have false x → against s x ≡ Unread
-      go (whole n ns) t = absurd (false≢true t.0)
+      go : (x : Whole) → AllLeft zeros have None x → against s x ≡ Unread
+      go (whole n ns) t = absurd (none-some t.0)
       go unread t = refl
 
-  against-counts : (s : List ℕ) → WholeLeft m zeros have true → against s (moieties_of m) ≡ cond (every_below element_count (λ (k : ℕ). eqb (get_or have k 0) (formula_total s k))) Same Differs
+  against-counts : (s : List ℕ) → WholeLeft m zeros have (Some tt) → against s (moieties_of m) ≡ cond (every_below element_count (λ (k : ℕ). eqb (get_or have k 0) (formula_total s k))) Same Differs
   unfolding WholeLeft moieties_of
   against-counts s w = go (whole_text_of (length m + 1) m) (w (length m + 1) (omega arith))
     where
-      go : (x : Whole) → AllLeft zeros have true x → against s x ≡ cond (every_below element_count (λ (k : ℕ). eqb (get_or have k 0) (formula_total s k))) Same Differs
+      go : (x : Whole) → AllLeft zeros have (Some tt) x → against s x ≡ cond (every_below element_count (λ (k : ℕ). eqb (get_or have k 0) (formula_total s k))) Same Differs
       go (whole n ns) t =
           ap (λ (b : Bool). cond b Same Differs)
           (every-same element_count (same_total n ns s) (λ (k : ℕ). eqb (get_or have k 0) (formula_total s k)) (λ k. ap (λ (x : ℕ). eqb x (formula_total s k)) (sym (counted have (total_all n ns) t.1 k))))
-      go unread t = absurd (false≢true (sym t))
+      go unread t = absurd (none-some (sym t))
 
 module _ (m s : List ℕ) where
   pub long-moiety : most_summed < length m → compared_of m s ≡ Unread
@@ -68,16 +90,16 @@ module _ (m s : List ℕ) where
     long-formula h = rw (le-leb (length m) most_summed a, lt-leb (length s) most_summed h)
 
     module _ (b : length s ≤ most_summed) where
-      pub bad-formula : (want : List ℕ) → FormulaLeft s zeros want false → compared_of m s ≡ Unread
+      pub bad-formula : (want : List ℕ) → FormulaLeft s zeros want None → compared_of m s ≡ Unread
       unfolding compared_of
       bad-formula want f = rw (le-leb (length m) most_summed a, le-leb (length s) most_summed b, ← f.all)
 
-      module _ (want have : List ℕ) (f : FormulaLeft s zeros want true) where
-        pub bad-moiety : WholeLeft m zeros have false → compared_of m s ≡ Unread
+      module _ (want have : List ℕ) (f : FormulaLeft s zeros want (Some tt)) where
+        pub bad-moiety : WholeLeft m zeros have None → compared_of m s ≡ Unread
         unfolding compared_of
         bad-moiety w = rw (le-leb (length m) most_summed a, le-leb (length s) most_summed b, ← f.all) (against-unread m have s w)
 
-        pub both_read : WholeLeft m zeros have true → compared_of m s ≡ cond (every_below element_count (λ (k : ℕ). eqb (get_or have k 0) (get_or want k 0))) Same Differs
+        pub both_read : WholeLeft m zeros have (Some tt) → compared_of m s ≡ cond (every_below element_count (λ (k : ℕ). eqb (get_or have k 0) (get_or want k 0))) Same Differs
         unfolding compared_of
         both_read w =
             rw (le-leb (length m) most_summed a, le-leb (length s) most_summed b, ← f.all)

@@ -1,5 +1,6 @@
 -- What adding a term, or so many times other counters, does to the counters.
 -- Assumes nothing.
+use Rattle.std.specs.Prelude.{Some, None, Option}
 use Prim.Native.Nat.{ℕ, zero, suc, ◌+◌, ◌*◌, ◌≤◌, ◌<◌}
 use mathlib.Core.Path.{◌≡◌, refl, sym, ap, subst, ◌∙◌}
 use mathlib.Core.Bool.{Bool, true, false, cond}
@@ -12,9 +13,7 @@ use lib.ListN.{length, get_or, set, length-set, replicate, get_or-eq_default}
 use lib.Seq.{get_or-set_same, get_or-set_other}
 use Rattle.formula_terms.specs.Term.{most_count}
 use Rattle.formula_terms.specs.declared.term.Term.{Term}
-use Rattle.formula_terms.specs.declared.term.Term.TheVariants.{Well}
 use Rattle.formula_elements.specs.Elements.{element_of, is_element}
-use Rattle.formula_elements.specs.declared.Place.TheVariants.{At, Nowhere}
 use Rattle.formula_sum.specs.Recognised.{is_recognised}
 use Rattle.formula_sum.specs.Sum.{SmallCount}
 use Rattle.formula_moiety.specs.Amounts.{amount}
@@ -27,24 +26,24 @@ zero-at zero k = refl
 zero-at (suc n) zero = refl
 zero-at (suc n) (suc k) = zero-at n k
 
-module _ (t : Term) (a b n : ℕ) (e : t ≡ Well a b n) where
-  pub not-element : element_of a b ≡ Nowhere → is_recognised t ≡ false
+module _ (x : Option Term) (t : Term) (e : x ≡ Some t) where
+  pub not-element : element_of t.symbol.first t.symbol.second ≡ None → is_recognised x ≡ false
   unfolding is_element
   not-element h = rw (e, h)
 
-  pub is-element : (k : ℕ) → element_of a b ≡ At k → is_recognised t ≡ true
+  pub is-element : (k : ℕ) → element_of t.symbol.first t.symbol.second ≡ Some k → is_recognised x ≡ true
   unfolding is_element
   is-element k h = rw (e, h)
 
-  pub few : SmallCount t → n ≤ most_count
+  pub few : SmallCount x → t.count ≤ most_count
   few h = subst SmallCount e h
 
-  pub term-added : (before : List ℕ) (k : ℕ) → element_of a b ≡ At k → k < length before → Added before (set before k (get_or before k 0 + n)) (λ (j : ℕ). amount j t)
+  pub term-added : (before : List ℕ) (k : ℕ) → element_of t.symbol.first t.symbol.second ≡ Some k → k < length before → Added before (set before k (get_or before k 0 + t.count)) (λ (j : ℕ). amount j x)
   term-added before k h l j = rw (e, h) (go (eqb k j) refl)
     where
-      go : (x : Bool) → eqb k j ≡ x → get_or (set before k (get_or before k 0 + n)) j 0 ≡ get_or before j 0 + cond x n 0
-      go true q = let z : k ≡ j = eqb-true k j q in subst (λ (i : ℕ). get_or (set before k (get_or before k 0 + n)) i 0 ≡ get_or before i 0 + n) z (get_or-set_same before k (get_or before k 0 + n) 0 l)
-      go false q = get_or-set_other before k j (get_or before k 0 + n) 0 (λ z. eqb-false k j q (sym z)) ∙ sym (add-zero (get_or before j 0))
+      go : (y : Bool) → eqb k j ≡ y → get_or (set before k (get_or before k 0 + t.count)) j 0 ≡ get_or before j 0 + cond y t.count 0
+      go true q = let z : k ≡ j = eqb-true k j q in subst (λ (i : ℕ). get_or (set before k (get_or before k 0 + t.count)) i 0 ≡ get_or before i 0 + t.count) z (get_or-set_same before k (get_or before k 0 + t.count) 0 l)
+      go false q = get_or-set_other before k j (get_or before k 0 + t.count) 0 (λ z. eqb-false k j q (sym z)) ∙ sym (add-zero (get_or before j 0))
 
 -- the first i counters have grown
 pub record Half (from : List ℕ) (n : ℕ) (before now : List ℕ) (i : ℕ) : Type 0 where

@@ -1,5 +1,6 @@
 -- No counter goes above the limit: what a reader took adds at most what its bytes can stand for, so the room that is left is enough for the rest.
 -- Assumes nothing.
+use Rattle.std.specs.Prelude.{Some}
 use Prim.Native.Nat.{ℕ, ◌+◌, ◌-◌, ◌*◌, ◌≤◌}
 use mathlib.Core.Path.{◌≡◌, refl, sym, ap, ◌∙◌}
 use mathlib.Core.List.{List, ◌++◌}
@@ -14,7 +15,6 @@ use Rattle.formula_moiety.proofs.Sound.{Sound, part_sound, moiety-sound}
 use Rattle.formula_moiety.proofs.Bounds.{most-up, part-most, moiety-most}
 use Rattle.formula_totals.specs.Counters.{limit, AllBelow}
 use Rattle.formula_totals.specs.Left.{GotLeft, PartLeft, MoietyLeft, Room}
-use Rattle.formula_totals.specs.declared.moieties.Taken.TheVariants.{Bytes}
 use Rattle.formula_totals.proofs.Counters.{zero-at}
 use Rattle.formula_totals.proofs.Cases.{no_bytes, same_bytes}
 
@@ -26,7 +26,7 @@ read_length s text rest n e f h =
     omega arith
 
 module _ {A : Type 0} (Is : A → Type 0) (text : A → List ℕ) (amounts : A → ℕ → ℕ) (w : ℕ) (small : (x : A) → Is x → (k : ℕ) → amounts x k ≤ length (text x) * w) where
-  grown-by : (s before after : List ℕ) (n : ℕ) (g : Got A) → Sound Is text s g → GotLeft amounts s before after (Bytes n) g → (n ≤ length s) × ((k : ℕ) → get_or after k 0 ≤ get_or before k 0 + n * w)
+  grown-by : (s before after : List ℕ) (n : ℕ) (g : Got A) → Sound Is text s g → GotLeft amounts s before after (Some n) g → (n ≤ length s) × ((k : ℕ) → get_or after k 0 ≤ get_or before k 0 + n * w)
   grown-by s before after n (got x rest) is t =
       let e = same_bytes n t.n t.is in
       let l : length (text x) ≡ n = read_length s (text x) rest t.n is.1 t.follows t.within ∙ sym e in
@@ -34,13 +34,13 @@ module _ {A : Type 0} (Is : A → Type 0) (text : A → List ℕ) (amounts : A �
   grown-by s before after n none is t = absurd (no_bytes n (sym t))
 
 module _ (s : List ℕ) (d : ℕ) (before after : List ℕ) (n : ℕ) where
-  pub part-grown : PartLeft s d before after (Bytes n) → (n ≤ length s) × ((k : ℕ) → get_or after k 0 ≤ get_or before k 0 + n * most d)
+  pub part-grown : PartLeft s d before after (Some n) → (n ≤ length s) × ((k : ℕ) → get_or after k 0 ≤ get_or before k 0 + n * most d)
   unfolding PartLeft
   part-grown p =
       let f = 2 * length s + 1 in
       grown-by (IsPart d) shown_part total_part (most d) (λ x is k. part-most is k) s before after n (part_of f d s) (part_sound f d s) (p f (omega arith))
 
-  pub moiety-grown : MoietyLeft s d before after (Bytes n) → (n ≤ length s) × ((k : ℕ) → get_or after k 0 ≤ get_or before k 0 + n * most d)
+  pub moiety-grown : MoietyLeft s d before after (Some n) → (n ≤ length s) × ((k : ℕ) → get_or after k 0 ≤ get_or before k 0 + n * most d)
   unfolding MoietyLeft
   moiety-grown p =
       let f = 2 * length s + 2 in
@@ -62,13 +62,13 @@ module _ (d : ℕ) (s before : List ℕ) (h : Room d s before) where
         let r = length-drop i s in
         record { long = long; room = λ k. fits_on (get_or before k 0) n (length (drop i s)) (length s) (most d) (get_or after k 0) (h.room k) (omega (arith, g.0)) (g.1 k) }
 
-    pub part_room : PartLeft s d before after (Bytes n) → Room d (drop (n + 1) s) after
+    pub part_room : PartLeft s d before after (Some n) → Room d (drop (n + 1) s) after
     part_room p = grown-room (part-grown s d before after n p) (n + 1) (omega arith)
 
-    pub moiety-room : MoietyLeft s d before after (Bytes n) → Room d (drop (n + 2) s) after
+    pub moiety-room : MoietyLeft s d before after (Some n) → Room d (drop (n + 2) s) after
     moiety-room p = grown-room (moiety-grown s d before after n p) (n + 2) (omega arith)
 
-    pub moiety-below : MoietyLeft s d before after (Bytes n) → AllBelow after
+    pub moiety-below : MoietyLeft s d before after (Some n) → AllBelow after
     moiety-below p = let r = moiety-room p in record { long = long; below = λ k. omega (arith, r.room k) }
 
 -- the inside of a bracket has room

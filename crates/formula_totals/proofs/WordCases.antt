@@ -1,5 +1,6 @@
 -- The cases of a term and of the end of a bracket, one for each return of the code.
 -- Assumes nothing.
+use Rattle.std.specs.Prelude.{Option, Some, None}
 use Prim.Native.Nat.{ℕ, zero, suc, ◌+◌, ◌*◌, ◌≤◌}
 use mathlib.Core.Path.{◌≡◌, refl, sym, ap, ◌∙◌}
 use mathlib.Core.Bool.{true, false, false≢true}
@@ -10,22 +11,19 @@ use lib.Seq.{drop-drop}
 use Rattle.text.specs.Run.{run_of, kind_at, has_at}
 use Rattle.text.proofs.Runs.{has_within, run_short}
 use Rattle.formula_terms.specs.Term.{count_of, term_of}
-use Rattle.formula_terms.specs.declared.term.Count.{Count}
-use Rattle.formula_terms.specs.declared.term.Count.TheVariants.{Times}
 use Rattle.formula_sum.specs.Recognised.{is_recognised}
 use Rattle.formula_totals.specs.Counters.{Added, TermLeft}
 use Rattle.formula_moiety.specs.Reading.{is_times, in_word, word_part, closed}
 use Rattle.formula_moiety.specs.Totals.{count_number, total_part, total}
 use Rattle.formula_totals.specs.Left.{GotLeft, CloseLeft}
-use Rattle.formula_totals.specs.declared.moieties.Taken.TheVariants.{Bytes, Nothing}
 
 -- a term
 module _ (s before after : List ℕ) (n : ℕ) (e : n ≡ run_of in_word s) where
-  pub word-fails : TermLeft (term_of (take n s)) before after false → GotLeft total_part s before after Nothing (word_part s)
+  pub word-fails : TermLeft (term_of (take n s)) before after None → GotLeft total_part s before after None (word_part s)
   unfolding word_part
   word-fails h = rw (← e, h)
 
-  pub word-takes : n ≤ length s → TermLeft (term_of (take n s)) before after true → GotLeft total_part s before after (Bytes n) (word_part s)
+  pub word-takes : n ≤ length s → TermLeft (term_of (take n s)) before after (Some tt) → GotLeft total_part s before after (Some n) (word_part s)
   unfolding word_part total_part term_of kind_at
   word-takes l h =
       rw (← e, h.0) (record { n = n; is = refl; some = some n h.0; within = l; follows = refl; adds = h.1 })
@@ -36,17 +34,17 @@ module _ (s before after : List ℕ) (n : ℕ) (e : n ≡ run_of in_word s) wher
 
 -- the end of a bracket
 module _ (s inner before after : List ℕ) where
-  pub close-none : has_at s 0 41 ≡ false → CloseLeft s inner before after Nothing
+  pub close-none : has_at s 0 41 ≡ false → CloseLeft s inner before after None
   unfolding CloseLeft closed
   close-none h m t = rw h
 
   module _ (h : has_at s 0 41 ≡ true) (n : ℕ) (e : n ≡ run_of in_word (drop 1 s)) where
-    pub close-no-count : is_times (take n (drop 1 s)) ≡ false → CloseLeft s inner before after Nothing
+    pub close-no-count : is_times (take n (drop 1 s)) ≡ false → CloseLeft s inner before after None
     unfolding CloseLeft closed
     close-no-count c m t = rw (h, ← e, c)
 
-    pub close-takes : (c : ℕ) → is_times (take n (drop 1 s)) ≡ true → count_of (take n (drop 1 s)) ≡ Times c → Added before after (λ (k : ℕ). c * get_or inner k 0)
-        → CloseLeft s inner before after (Bytes (1 + n))
+    pub close-takes : (c : ℕ) → is_times (take n (drop 1 s)) ≡ true → count_of (take n (drop 1 s)) ≡ Some c → Added before after (λ (k : ℕ). c * get_or inner k 0)
+        → CloseLeft s inner before after (Some (1 + n))
     unfolding CloseLeft closed total_part
     close-takes c q w a m t =
         let l = has_within s 0 41 h in
@@ -58,5 +56,5 @@ module _ (s inner before after : List ℕ) where
           some = omega arith;
           within = omega (arith, length-drop 1 s);
           follows = drop-drop n 1 s;
-          adds = λ k. a k ∙ ap (λ (x : ℕ). get_or before k 0 + c * x) (t k) ∙ ap (λ (x : Count). get_or before k 0 + count_number x * total m k) (sym w);
+          adds = λ k. a k ∙ ap (λ (x : ℕ). get_or before k 0 + c * x) (t k) ∙ ap (λ (x : Option ℕ). get_or before k 0 + count_number x * total m k) (sym w);
         })

@@ -1,6 +1,6 @@
 -- What counting leaves in the counters, and what it asks of them. The counter of the element k is `get_or counts k 0`.
 -- Assumes nothing.
-use Rattle.std.specs.Prelude.{ℕ, ◌+◌, ◌^◌, ◌≤◌, ◌≡◌, Bool, true, false, List, length, get_or}
+use Rattle.std.specs.Prelude.{ℕ, ◌+◌, ◌^◌, ◌≤◌, ◌≡◌, true, false, List, length, get_or, Option, Some, None}
 use Rattle.formula_elements.specs.Elements.{element_count}
 use Rattle.formula_terms.specs.declared.term.Term.{Term}
 use Rattle.formula_sum.specs.Recognised.{is_recognised}
@@ -20,6 +20,6 @@ pub record AllBelow (counts : List ℕ) : Type 0 where
   pub below : (k : ℕ) → get_or counts k 0 ≤ limit
 
 -- a term was added, or it is ill formed or not recognised; then nothing is said of the counters
-abbrev pub TermLeft : Term → List ℕ → List ℕ → Bool → Type 0
-TermLeft t before after true = (is_recognised t ≡ true) × Added before after (λ (k : ℕ). amount k t)
-TermLeft t before after false = is_recognised t ≡ false
+abbrev pub TermLeft : Option Term → List ℕ → List ℕ → Option Unit → Type 0
+TermLeft t before after (Some u) = (is_recognised t ≡ true) × Added before after (λ (k : ℕ). amount k t)
+TermLeft t before after None = is_recognised t ≡ false

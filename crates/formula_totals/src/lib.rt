@@ -8,7 +8,7 @@ ghost use Rattle.formula_totals.specs.Counting.{TermRoom, FormulaLeft};
 
 use formula_elements::ELEMENT_COUNT;
 use formula_sum::sum::MOST_SUMMED;
-use formula_terms::Step;
+use formula_terms::term::read_term;
 
 mod counts;
 mod moieties;
@@ -21,21 +21,15 @@ pub enum Compared {
     Unread,
 }
 
-// Counts the elements of a formula's text. False where a term is ill formed or not recognised.
-fn count_formula(s: &[u8], counts: &mut [u64]) -> bool
+// Counts the elements of a formula's text, if every term is well formed and recognised.
+fn count_formula(s: &[u8], counts: &mut [u64]) -> Option<()>
     requires { TermRoom s.now counts.old }
     ensures { FormulaLeft s.now counts.old counts.new result }
 {
-    let mut from = 0;
-    loop {
-        let Step::Next(term, next) = formula_terms::step_at(s, from) else {
-            return true;
-        };
-        if !crate::counts::add_term(term, counts) {
-            return false;
-        }
-        from = next;
+    for word in formula_terms::cut(s) {
+        crate::counts::add_term(read_term(word), counts)?;
     }
+    Some(())
 }
 
 // Compares the totals of each element in the text m of a moiety formula and in the text s of a formula. A text that is longer than any line,
@@ -50,11 +44,11 @@ pub fn compare(m: &[u8], s: &[u8]) -> Compared
         return Compared::Unread;
     }
     let mut want = [0u64; ELEMENT_COUNT];
-    if !count_formula(s, &mut want) {
+    if count_formula(s, &mut want).is_none() {
         return Compared::Unread;
     }
     let mut have = [0u64; ELEMENT_COUNT];
-    if !crate::moieties::read_moieties(m, &mut have) {
+    if crate::moieties::read_moieties(m, &mut have).is_none() {
         return Compared::Unread;
     }
     if crate::counts::same_counts(&have, &want) {

@@ -7,49 +7,37 @@ ghost use Rattle.formula_totals.specs.Left.{GotLeft, CloseLeft, PartLeft, Moiety
 
 use crate::counts::{add_term, add_times};
 use formula_elements::ELEMENT_COUNT;
-use formula_terms::term::Count;
 
 // The most brackets that are open at once.
 const MOST_DEEP: usize = 4;
 
-// How many bytes a reader took, or that it read nothing.
-#[derive(Clone, Copy)]
-pub enum Taken {
-    Bytes(usize),
-    Nothing,
-}
-
 // The term that s begins with, which is added to the counters.
-fn read_word(s: &[u8], counts: &mut [u64]) -> Taken
+fn read_word(s: &[u8], counts: &mut [u64]) -> Option<usize>
     requires { AllBelow counts.old }
     ensures { GotLeft total_part s.now counts.old counts.new result (word_part s.now) }
 {
     let n = formula_words::word_run(s);
-    if !add_term(formula_terms::term::read_term(&s[..n]), counts) {
-        return Taken::Nothing;
-    }
-    Taken::Bytes(n)
+    add_term(formula_terms::term::read_term(&s[..n]), counts)?;
+    Some(n)
 }
 
 // The end of a bracket that s begins with: the bracket that closes and its count. What the bracket holds, which `inner` counts, is added so often.
-fn close_bracket(s: &[u8], inner: &[u64], counts: &mut [u64]) -> Taken
+fn close_bracket(s: &[u8], inner: &[u64], counts: &mut [u64]) -> Option<usize>
     requires { AllBelow inner.now × AllBelow counts.old }
     ensures { CloseLeft s.now inner.now counts.old counts.new result }
 {
     if !text::has(s, 0, b')') {
-        return Taken::Nothing;
+        return None;
     }
     let n = formula_words::word_run(&s[1..]);
-    let Count::Times(c) = formula_words::read_times(&s[1..1 + n]) else {
-        return Taken::Nothing;
-    };
+    let c = formula_words::read_times(&s[1..1 + n])?;
     add_times(inner, c, counts);
-    Taken::Bytes(1 + n)
+    Some(1 + n)
 }
 
 // The part that s begins with, inside at most depth more brackets.
 #[cycle(read_moiety_read_part)]
-fn read_part(s: &[u8], depth: usize, counts: &mut [u64]) -> Taken
+fn read_part(s: &[u8], depth: usize, counts: &mut [u64]) -> Option<usize>
     requires { Room depth s.now counts.old }
     ensures { PartLeft s.now depth counts.old counts.new result }
 {
@@ -57,52 +45,42 @@ fn read_part(s: &[u8], depth: usize, counts: &mut [u64]) -> Taken
         return read_word(s, counts);
     }
     if depth == 0 {
-        return Taken::Nothing;
+        return None;
     }
     let mut inner = [0u64; ELEMENT_COUNT];
-    let Taken::Bytes(n) = read_moiety(&s[1..], depth - 1, &mut inner) else {
-        return Taken::Nothing;
-    };
-    let Taken::Bytes(m) = close_bracket(&s[1 + n..], &inner, counts) else {
-        return Taken::Nothing;
-    };
-    Taken::Bytes(1 + n + m)
+    let n = read_moiety(&s[1..], depth - 1, &mut inner)?;
+    let m = close_bracket(&s[1 + n..], &inner, counts)?;
+    Some(1 + n + m)
 }
 
 // The moiety that s begins with, inside at most depth more brackets.
 #[cycle(read_moiety_read_part)]
-fn read_moiety(s: &[u8], depth: usize, counts: &mut [u64]) -> Taken
+fn read_moiety(s: &[u8], depth: usize, counts: &mut [u64]) -> Option<usize>
     requires { Room depth s.now counts.old }
     ensures { MoietyLeft s.now depth counts.old counts.new result }
 {
-    let Taken::Bytes(n) = read_part(s, depth, counts) else {
-        return Taken::Nothing;
-    };
+    let n = read_part(s, depth, counts)?;
     if !text::has(s, n, b' ') {
-        return Taken::Bytes(n);
+        return Some(n);
     }
-    let Taken::Bytes(m) = read_moiety(&s[n + 1..], depth, counts) else {
-        return Taken::Nothing;
-    };
-    Taken::Bytes(n + 1 + m)
+    let m = read_moiety(&s[n + 1..], depth, counts)?;
+    Some(n + 1 + m)
 }
 
-// Reads the moieties that s is, and counts their elements. False where s is no moiety formula of the house subset.
-pub(crate) fn read_moieties(s: &[u8], counts: &mut [u64]) -> bool
+// Reads the moieties that s is, and counts their elements, if s is a moiety formula of the house subset.
+pub(crate) fn read_moieties(s: &[u8], counts: &mut [u64]) -> Option<()>
     requires { Room most_deep s.now counts.old }
     ensures { WholeLeft s.now counts.old counts.new result }
 {
-    let Taken::Bytes(n) = read_moiety(s, MOST_DEEP, counts) else {
-        return false;
-    };
+    let n = read_moiety(s, MOST_DEEP, counts)?;
     if n == s.len() {
-        return true;
+        return Some(());
     }
     if !text::has(s, n, b',') {
-        return false;
+        return None;
     }
     if !text::has(s, n + 1, b' ') {
-        return false;
+        return None;
     }
     read_moieties(&s[n + 2..], counts)
 }

@@ -5,8 +5,6 @@ ghost use Rattle.std.specs.Prelude.{◌≡◌, ◌≤◌, length};
 ghost use Rattle.text.specs.Run.{run_of};
 ghost use Rattle.formula_moiety.specs.Reading.{in_word, bracket_count};
 
-use formula_terms::term::Count;
-
 // The largest count after a bracket.
 const MOST_TIMES: u64 = 99;
 
@@ -14,32 +12,21 @@ const MOST_TIMES: u64 = 99;
 pub fn word_run(s: &[u8]) -> usize
     ensures { (result ≡ run_of in_word s.now) × (result ≤ length s.now) }
 {
-    let mut i = 0;
-    while i < s.len() {
-        let b = s[i];
-        if b == b' ' {
+    for (i, b) in s.iter().enumerate() {
+        if *b == b' ' || *b == b')' || *b == b',' {
             return i;
         }
-        if b == b')' {
-            return i;
-        }
-        if b == b',' {
-            return i;
-        }
-        i += 1;
     }
-    i
+    s.len()
 }
 
 // The count after a bracket that s is; no text means 1.
-pub fn read_times(s: &[u8]) -> Count
+pub fn read_times(s: &[u8]) -> Option<u64>
     ensures { result ≡ bracket_count s.now }
 {
-    let Count::Times(n) = formula_terms::term::read_count(s) else {
-        return Count::NoCount;
-    };
+    let n = formula_terms::term::read_count(s)?;
     if MOST_TIMES < n {
-        return Count::NoCount;
+        return None;
     }
-    Count::Times(n)
+    Some(n)
 }

@@ -5,7 +5,7 @@ ghost use Rattle.std.specs.Prelude.{◌≡◌};
 ghost use Rattle.hydrogen_right.specs.Stages.{rows_pass, is_right};
 ghost use Rattle.hydrogen_check.specs.Check.{check_of};
 
-use hydrogen_answers::Proposed;
+use hydrogen_answers::Refusal;
 
 // The largest count.
 const MOST_HYDROGENS: u64 = 9999;
@@ -37,23 +37,22 @@ pub fn is_right(formula: &[u8], weight: &[u8], n: u64) -> bool
         return false;
     }
     let typed = hydrogen_writer::typed_with(line_quotes::text_of(formula), n);
-    let length = typed.length;
-    if length == 0 {
+    let text = typed.written();
+    if text.len() == 0 {
         return false;
     }
-    let bytes = typed.bytes;
-    rows_pass(&bytes[0..length], weight)
+    rows_pass(text, weight)
 }
 
 // The check: the count, if it is right.
-pub fn check(formula: &[u8], weight: &[u8], n: u64) -> Proposed
+pub fn check(formula: &[u8], weight: &[u8], n: u64) -> Result<u64, Refusal>
     ensures { result ≡ check_of formula.now weight.now n }
 {
     if !hydrogen_start::is_start(formula, weight) {
-        return Proposed::NoStart;
+        return Err(Refusal::NoStart);
     }
     if !is_right(formula, weight, n) {
-        return Proposed::NotRight;
+        return Err(Refusal::NotRight);
     }
-    Proposed::Count(n)
+    Ok(n)
 }

@@ -1,5 +1,6 @@
 -- The two weights that the closed form starts from: of the other terms, and as it was given.
 -- Assumes nothing.
+use Rattle.std.specs.Prelude.{Some, None}
 use Prim.Native.Nat.{ℕ, ◌+◌, ◌*◌, ◌^◌, ◌≤◌, ◌<◌}
 use mathlib.Core.Path.{◌≡◌, refl, sym, ap, ◌∙◌}
 use mathlib.Core.Bool.{true}
@@ -11,7 +12,6 @@ use lib.Signed.{mag}
 use lib.ListN.{length}
 use Rattle.text.specs.Run.{all, kind_at}
 use Rattle.line_quotes.specs.Quoted.{text_of}
-use Rattle.formula_elements.specs.declared.Weight.TheVariants.{Thousandths, NoWeight}
 use Rattle.formula_terms.specs.Term.{term_of}
 use Rattle.formula_terms.specs.Terms.{cut}
 use Rattle.formula_terms.specs.Grammar.{joined}
@@ -44,7 +44,7 @@ unfolding all
 plain = refl
 
 -- the empty text has no sum
-empty-sum : sum_of [] ≡ NoWeight
+empty-sum : sum_of [] ≡ None
 unfolding sum_of total_weight cut term_of kind_at
 empty-sum = refl
 
@@ -61,7 +61,7 @@ module _ (s : List ℕ) (short : length (new_text 0 s) ≤ most_text_bytes) wher
       ap (λ (t : List ℕ). weight_or (sum_of (text_of t))) (typed-short ∙ ap in_quotes empty) ∙ ap (λ (t : List ℕ). weight_or (sum_of t)) (typed-text [] plain) ∙ ap weight_or empty-sum
 
   -- with others it is the sum of the text without hydrogen
-  some-others : (b : ℕ) → all_recognised s ≡ true → in_order s ≡ true → total_weight (map term_of (other_words (cut s))) ≡ Thousandths b → (new_words 0 s ≡ [] → ⊥) → other_weight s ≡ b
+  some-others : (b : ℕ) → all_recognised s ≡ true → in_order s ≡ true → total_weight (map term_of (other_words (cut s))) ≡ Some b → (new_words 0 s ≡ [] → ⊥) → other_weight s ≡ b
   unfolding other_weight
   some-others b known order sum left =
       let rows = new-rows s b 0 (omega arith) left known order sum in
@@ -76,9 +76,9 @@ pub base-is : (f w : List ℕ) → Start f w → Base (text_of f) (other_weight 
 unfolding with_hydrogens total_weight
 base-is f w start short =
     let k = start-sum f w start in
-    k.is ∙ ap Thousandths (go k (other_words (cut (text_of f))) refl)
+    k.is ∙ ap Some (go k (other_words (cut (text_of f))) refl)
   where
-    nothing : (b : ℕ) → Thousandths 0 ≡ Thousandths b → b ≡ 0
+    nothing : (b : ℕ) → Some 0 ≡ Some b → b ≡ 0
     nothing b e = cc
 
     go : (k : Summed (other_words (cut (text_of f)))) (ws : List (List ℕ)) → other_words (cut (text_of f)) ≡ ws → k.sum ≡ other_weight (text_of f)

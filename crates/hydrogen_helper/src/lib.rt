@@ -4,9 +4,7 @@
 ghost use Rattle.std.specs.Prelude.{◌≡◌, ◌<◌, ◌^◌};
 ghost use Rattle.hydrogen_helper.specs.Helper.{other_weight, given_weight, first_count, helper_of};
 
-use formula_elements::Weight;
-use hydrogen_answers::Proposed;
-use number_decimal::Reading;
+use hydrogen_answers::Refusal;
 
 // Row 4 is at level 0 up to 1.01 of the sum: 100 times a weight in millionths is at most so many times a sum in thousandths.
 const HIGHEST: u64 = 101000;
@@ -22,23 +20,17 @@ fn other_weight(s: &[u8]) -> u64
     ensures { (result ≡ other_weight s.now) × (result < 10 ^ 13) }
 {
     let typed = hydrogen_writer::typed_with(s, 0);
-    let length = typed.length;
-    let bytes = typed.bytes;
-    let Weight::Thousandths(sum) = formula_sum::sum::sum_of(line_quotes::text_of(&bytes[0..length]))
-    else {
-        return 0;
-    };
-    sum
+    formula_sum::sum::sum_of(line_quotes::text_of(typed.written())).unwrap_or(0)
 }
 
 // The given weight without its sign, in millionths; 0 where it is no number.
 fn given_weight(weight: &[u8]) -> u64
     ensures { (result ≡ given_weight weight.now) × (result < 10 ^ 16) }
 {
-    let Reading::Number(given) = number_decimal::read_number(weight) else {
-        return 0;
-    };
-    number_signed::magnitude(given)
+    match number_decimal::read_number(weight) {
+        Some(given) => number_signed::magnitude(given),
+        None => 0,
+    }
 }
 
 // The first count at which the given weight is at most 1.01 of the sum.
@@ -54,16 +46,16 @@ fn first_count(base: u64, given: u64) -> u64
 }
 
 // The helper: the smallest right count.
-pub fn propose(formula: &[u8], weight: &[u8]) -> Proposed
+pub fn propose(formula: &[u8], weight: &[u8]) -> Result<u64, Refusal>
     ensures { result ≡ helper_of formula.now weight.now }
 {
     if !hydrogen_start::is_start(formula, weight) {
-        return Proposed::NoStart;
+        return Err(Refusal::NoStart);
     }
     let base = other_weight(line_quotes::text_of(formula));
     let n = first_count(base, given_weight(weight));
     if !hydrogen_check::is_right(formula, weight, n) {
-        return Proposed::NoneRight;
+        return Err(Refusal::NoneRight);
     }
-    Proposed::Count(n)
+    Ok(n)
 }

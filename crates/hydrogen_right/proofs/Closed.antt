@@ -1,6 +1,7 @@
 -- The smallest right count in closed form. With b thousandths of other terms and a weight of g millionths row 4 is at level 0 where
 -- 99000 * (b + 1008 * n) ≤ 100 * g ≤ 101000 * (b + 1008 * n). From the first n with 100 * g ≤ 101000 * (b + 1008 * n) on, a larger count only makes the other
 -- bound and the length worse: so that count is right if any is. Assumes nothing.
+use Rattle.std.specs.Prelude.{Some}
 use Prim.Native.Nat.{ℕ, ◌+◌, ◌-◌, ◌*◌, ◌/◌, ◌≤◌, ◌<◌}
 use mathlib.Core.Path.{◌≡◌, refl, sym, ap, ◌∙◌}
 use mathlib.Core.Bool.{Bool, true, false}
@@ -13,9 +14,7 @@ use lib.IntN.{pos}
 use lib.ListN.{length}
 use Rattle.text.proofs.Bools.{not-holds}
 use Rattle.number_decimal.specs.Reading.{reading_of}
-use Rattle.number_decimal.specs.declared.Reading.TheVariants.{Number}
 use Rattle.line_quotes.specs.Quoted.{text_of}
-use Rattle.formula_elements.specs.declared.Weight.TheVariants.{Thousandths}
 use Rattle.formula_terms.specs.Term.{term_of}
 use Rattle.formula_terms.specs.Terms.{cut, terms_of}
 use Rattle.formula_sum.specs.Sum.{most_summed, total_weight, sum_of}
@@ -37,16 +36,16 @@ pub record Smallest (f w : List ℕ) (h : ℕ) : Type 0 where
 
 -- b is the sum of the other terms, if their text is not too long
 abbrev pub Base : List ℕ → ℕ → Type 0
-Base s b = length (new_text 0 s) ≤ most_text_bytes → total_weight (map term_of (other_words (cut s))) ≡ Thousandths b
+Base s b = length (new_text 0 s) ≤ most_text_bytes → total_weight (map term_of (other_words (cut s))) ≡ Some b
 
 -- g is the given weight, if that is a number and not below 0
 abbrev pub Given : List ℕ → ℕ → Type 0
-Given w g = (z : ℕ) → reading_of w ≡ Number (pos z) → z ≡ g
+Given w g = (z : ℕ) → reading_of w ≡ Some (pos z) → z ≡ g
 
-pos-same : (x y : ℕ) → Number (pos x) ≡ Number (pos y) → x ≡ y
+pos-same : (x y : ℕ) → Some (pos x) ≡ Some (pos y) → x ≡ y
 pos-same x y e = cc
 
-sum_same : (x y : ℕ) → Thousandths x ≡ Thousandths y → x ≡ y
+sum_same : (x y : ℕ) → Some x ≡ Some y → x ≡ y
 sum_same x y e = cc
 
 two_ways : (m n : ℕ) → (m ≤ n) ⊎ (n < m)
@@ -56,7 +55,7 @@ two_ways m n = go (leb m n) refl
     go true e = inl (leb-true m n e)
     go false e = inr (leb-false m n e)
 
-pub short-sum : (t : List ℕ) (x : ℕ) → length t ≤ most_text_bytes → total_weight (terms_of t) ≡ Thousandths x → sum_of t ≡ Thousandths x
+pub short-sum : (t : List ℕ) (x : ℕ) → length t ≤ most_text_bytes → total_weight (terms_of t) ≡ Some x → sum_of t ≡ Some x
 unfolding sum_of
 short-sum t x l e = rw (le-leb (length t) most_summed (omega arith), e)
 
@@ -69,9 +68,9 @@ module _ (f w : List ℕ) (start : Start f w) (b g : ℕ) (base : Base (text_of 
     count : n ≤ most_hydrogens
     short : length (new_text n s) ≤ most_text_bytes
     left : new_words n s ≡ [] → ⊥
-    read : reading_of w ≡ Number (pos g)
+    read : reading_of w ≡ Some (pos g)
     there : Weighs (new_text n s) w
-    sum : total_weight (map term_of (other_words (cut s))) ≡ Thousandths b
+    sum : total_weight (map term_of (other_words (cut s))) ≡ Some b
     low : 99000 * (b + 1008 * n) ≤ 100 * g
     high : 100 * g ≤ 101000 * (b + 1008 * n)
 
@@ -89,7 +88,7 @@ module _ (f w : List ℕ) (start : Start f w) (b g : ℕ) (base : Base (text_of 
         count = h.count;
         short = h.short;
         left = left;
-        read = weighs.read ∙ ap (λ (x : ℕ). Number (pos x)) z;
+        read = weighs.read ∙ ap (λ (x : ℕ). Some (pos x)) z;
         there = weighs;
         sum = sum;
         low = omega (arith, weighs.low, same, z);

@@ -1,5 +1,6 @@
 -- The start passes its test exactly when it is as said; then rows 1 and 2 see a text in order, and the other terms have a sum.
 -- Assumes nothing.
+use Rattle.std.specs.Prelude.{Option, Some, None}
 use Prim.Native.Nat.{ℕ, ◌+◌, ◌*◌}
 use mathlib.Core.Path.{◌≡◌, refl, ap, ◌∙◌}
 use mathlib.Core.Bool.{Bool, true, false, cond, false≢true}
@@ -11,12 +12,9 @@ use Rattle.text.specs.Run.{all}
 use Rattle.text.proofs.Bools.{and_both}
 use Rattle.line_quotes.specs.Quoted.{text_of}
 use Rattle.formula_elements.specs.Elements.{weight_of}
-use Rattle.formula_elements.specs.declared.Weight.{Weight}
-use Rattle.formula_elements.specs.declared.Weight.TheVariants.{Thousandths, NoWeight}
 use Rattle.formula_terms.specs.Term.{term_of}
 use Rattle.formula_terms.specs.Terms.{cut, terms_of}
 use Rattle.formula_terms.specs.declared.term.Term.{Term}
-use Rattle.formula_terms.specs.declared.term.Term.TheVariants.{Well, Ill}
 use Rattle.formula_sum.specs.Recognised.{all_recognised}
 use Rattle.formula_sum.specs.Sum.{times, plus, term_weight, total_weight}
 use Rattle.formula_sum.proofs.Sums.{weighed-terms}
@@ -25,7 +23,8 @@ use Rattle.rows.specs.Rows.{row_of, no_alert, missing}
 use Rattle.rows_formula.specs.FormulaRows.{row1, row2}
 use Rattle.hydrogen_text.specs.Hydrogens.{other_words}
 use Rattle.hydrogen_text.proofs.Rows.{others-all}
-use Rattle.hydrogen_right.specs.Right.{is_there, has_weight, all_weighed, Start}
+use Rattle.std.specs.Option.{is_some}
+use Rattle.hydrogen_right.specs.Right.{has_weight, all_weighed, Start}
 use Rattle.hydrogen_right.specs.Stages.{is_start}
 
 module _ (f w : List ℕ) where
@@ -59,19 +58,19 @@ module _ (f w : List ℕ) (start : Start f w) where
 -- terms whose symbols all have weights have a sum
 pub record Summed (ws : List (List ℕ)) : Type 0 where
   pub sum : ℕ
-  pub is : total_weight (map term_of ws) ≡ Thousandths sum
+  pub is : total_weight (map term_of ws) ≡ Some sum
 
-record Weighed (v : Weight) : Type 0 where
+record Weighed (v : Option ℕ) : Type 0 where
   much : ℕ
-  is : v ≡ Thousandths much
+  is : v ≡ Some much
 
-symbol-weighed : (v : Weight) → is_there v ≡ true → Weighed v
-symbol-weighed (Thousandths x) e = record { much = x; is = refl }
-symbol-weighed NoWeight e = absurd (false≢true e)
+symbol-weighed : (v : Option ℕ) → is_some v ≡ true → Weighed v
+symbol-weighed (Some x) e = record { much = x; is = refl }
+symbol-weighed None e = absurd (false≢true e)
 
-term-weighed : (t : Term) → has_weight t ≡ true → Weighed (term_weight t)
-term-weighed (Well a b n) e = let h = symbol-weighed (weight_of a b) e in record { much = n * h.much; is = ap (times n) h.is }
-term-weighed Ill e = absurd (false≢true e)
+term-weighed : (t : Option Term) → has_weight t ≡ true → Weighed (term_weight t)
+term-weighed (Some t) e = let h = symbol-weighed (weight_of t.symbol.first t.symbol.second) e in record { much = t.count * h.much; is = ap (times t.count) h.is }
+term-weighed None e = absurd (false≢true e)
 
 pub weighed-sum : (ws : List (List ℕ)) → all has_weight (map term_of ws) ≡ true → Summed ws
 unfolding all total_weight
@@ -80,7 +79,7 @@ weighed-sum (w ∷ ws) e =
     let k = and_both (has_weight (term_of w)) (all has_weight (map term_of ws)) e in
     let a = term-weighed (term_of w) k.0 in
     let b = weighed-sum ws k.1 in
-    record { sum = a.much + b.sum; is = ap (λ (v : Weight). plus v (total_weight (map term_of ws))) a.is ∙ ap (plus (Thousandths a.much)) b.is }
+    record { sum = a.much + b.sum; is = ap (λ (v : Option ℕ). plus v (total_weight (map term_of ws))) a.is ∙ ap (plus (Some a.much)) b.is }
 
 -- the other terms of the start
 pub start-sum : (f w : List ℕ) → Start f w → Summed (other_words (cut (text_of f)))

@@ -1,5 +1,6 @@
 -- What rows 1 and 2 say of a text as it is typed, in quotes.
 -- Assumes nothing.
+use Rattle.std.specs.Prelude.{Option, Some, None}
 use Prim.Native.Nat.{ℕ, ◌-◌}
 use native.Mathlib.Nat.{suc-ne-zero}
 use mathlib.Core.Path.{◌≡◌, refl, sym, ap, ◌∙◌}
@@ -25,7 +26,6 @@ use Rattle.formula_terms.specs.Grammar as grammar
 use Rattle.formula_terms.proofs.TermCases.{no-capital}
 use Rattle.formula_terms.proofs.Wording.{term_is, cut-joins}
 use Rattle.formula_terms.specs.declared.term.Term.{Term}
-use Rattle.formula_terms.specs.declared.term.Term.TheVariants.{Well, Ill}
 use Rattle.formula_sum.specs.Recognised.{is_recognised, all_recognised}
 use Rattle.formula_order.specs.Order.{in_order}
 use Rattle.rows.specs.Rows.{row_of, no_alert, missing}
@@ -70,7 +70,7 @@ module _ (t : List ℕ) where
   not-quoted e = not-holds _ (λ h. ⊎_elim (not-by-39 e) not-by-34 (or-either (is_quoted_by 39 (in_quotes t)) (is_quoted_by 34 (in_quotes t)) h))
 
 -- a text that begins with a mark has an ill-formed term
-mark-ill : (r : List ℕ) → term_of (39 ∷ r) ≡ Ill
+mark-ill : (r : List ℕ) → term_of (39 ∷ r) ≡ None
 unfolding kind_at between
 mark-ill r = no-capital (39 ∷ r) (and-false (ltb 0 (length (39 ∷ r))))
 
@@ -151,9 +151,12 @@ symbol-plain (capital_small a b up low) =
     one_of : (p : ℕ → Bool) (x : ℕ) → p x ≡ true → (p x && true) ≡ true
     one_of p x e = rw e
 
-term-plain : (w : List ℕ) (t : Term) → term_of w ≡ t → is_recognised t ≡ true → Plain w
-term-plain w Ill e r = absurd (false≢true r)
-term-plain w (Well a b n) e r =
+term-plain : (w : List ℕ) (t : Option Term) → term_of w ≡ t → is_recognised t ≡ true → Plain w
+term-plain w None e r = absurd (false≢true r)
+term-plain w (Some t) e r =
+    let a = t.symbol.first in
+    let b = t.symbol.second in
+    let n = t.count in
     let h = term_is w a b n e in
     ap (all (other 39)) h.text ∙ all_append (other 39) h.symbol h.count (symbol-plain h.is_symbol) (count-plain h.is_count)
 

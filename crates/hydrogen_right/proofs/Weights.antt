@@ -1,5 +1,6 @@
 -- What row 4 says of a text as it is typed, in quotes: at level 0 the weight is from 0.99 to 1.01 of the sum.
 -- Assumes nothing.
+use Rattle.std.specs.Prelude.{ℤ, Option, Some, None}
 use Prim.Native.Nat.{ℕ, ◌*◌, ◌≤◌}
 use mathlib.Core.Path.{◌≡◌, refl, sym, ap, ◌∙◌}
 use mathlib.Core.Bool.{Bool, true, false}
@@ -10,10 +11,6 @@ use lib.Dec.{ltb}
 use lib.IntN.{pos, negsuc}
 use Rattle.text.proofs.Bools.{or-neither}
 use Rattle.number_decimal.specs.Reading.{reading_of}
-use Rattle.number_decimal.specs.declared.Reading.{Reading}
-use Rattle.number_decimal.specs.declared.Reading.TheVariants.{Number, Nothing}
-use Rattle.formula_elements.specs.declared.Weight.{Weight}
-use Rattle.formula_elements.specs.declared.Weight.TheVariants.{Thousandths, NoWeight}
 use Rattle.formula_sum.specs.Sum.{sum_of}
 use Rattle.rows_levels.specs.Level.{level_of}
 use Rattle.rows_levels.specs.Bounds.{bounds}
@@ -27,9 +24,9 @@ use Rattle.hydrogen_right.proofs.Typed.{Plain, typed-there, typed-text}
 pub record Weighs (t w : List ℕ) : Type 0 where
   pub there : missing w ≡ false
   pub given : ℕ
-  pub read : reading_of w ≡ Number (pos given)
+  pub read : reading_of w ≡ Some (pos given)
   pub sum : ℕ
-  pub summed : sum_of t ≡ Thousandths sum
+  pub summed : sum_of t ≡ Some sum
   pub low : 99000 * sum ≤ 100 * given
   pub high : 100 * given ≤ 101000 * sum
 
@@ -75,11 +72,11 @@ module _ (t w : List ℕ) (plain : Plain t) where
   pub row-4-is : (row4 (in_quotes t) w).level ≡ 0 → Weighs t w
   row-4-is e = go (missing w) refl
     where
-      read : missing w ≡ false → (r : Reading) → reading_of w ≡ r → (s : Weight) → sum_of t ≡ s → (ratio_row (weighed_of t w)).level ≡ 0 → Weighs t w
-      read m Nothing p s q z = absurd (two-not (sym (ap (λ x. (ratio_row x).level) (weighed-unread t w p)) ∙ z))
-      read m (Number g) p NoWeight q z = absurd (two-not (sym (ap (λ x. (ratio_row x).level) (weighed-none t w q)) ∙ z))
-      read m (Number (negsuc g)) p (Thousandths s) q z = absurd (ratio-negative g (s * 1000) (sym (ap (λ x. (ratio_row x).level) (weighed-both t w (negsuc g) s p q)) ∙ z))
-      read m (Number (pos g)) p (Thousandths s) q z =
+      read : missing w ≡ false → (r : Option ℤ) → reading_of w ≡ r → (s : Option ℕ) → sum_of t ≡ s → (ratio_row (weighed_of t w)).level ≡ 0 → Weighs t w
+      read m None p s q z = absurd (two-not (sym (ap (λ x. (ratio_row x).level) (weighed-unread t w p)) ∙ z))
+      read m (Some g) p None q z = absurd (two-not (sym (ap (λ x. (ratio_row x).level) (weighed-none t w q)) ∙ z))
+      read m (Some (negsuc g)) p (Some s) q z = absurd (ratio-negative g (s * 1000) (sym (ap (λ x. (ratio_row x).level) (weighed-both t w (negsuc g) s p q)) ∙ z))
+      read m (Some (pos g)) p (Some s) q z =
           let k = ratio-is g (s * 1000) (sym (ap (λ x. (ratio_row x).level) (weighed-both t w (pos g) s p q)) ∙ z) in
           record { there = m; given = g; read = p; sum = s; summed = q; low = omega (arith, k.0); high = omega (arith, k.1) }
 

@@ -1,15 +1,13 @@
 -- When a count of hydrogen is right, and where the helper starts, in document 02's words (No. 13). `right_is` and `is_right` (proofs/Wording.antt) show
 -- that the stages of the code are it. f is the formula's value, w the weight's, both as typed.
 -- Assumes nothing.
-use Rattle.std.specs.Prelude.{ℕ, ◌≤◌, ◌≡◌, Bool, true, false, List, length}
+use Rattle.std.specs.Option.{is_some}
+use Rattle.std.specs.Prelude.{ℕ, ◌≤◌, ◌≡◌, Bool, true, false, List, length, Option, Some, None}
 use Rattle.text.specs.Run.{all}
 use Rattle.line_quotes.specs.Quoted.{text_of}
 use Rattle.formula_elements.specs.Elements.{weight_of}
-use Rattle.formula_elements.specs.declared.Weight.{Weight}
-use Rattle.formula_elements.specs.declared.Weight.TheVariants.{Thousandths, NoWeight}
 use Rattle.formula_terms.specs.Terms.{cut, terms_of}
 use Rattle.formula_terms.specs.declared.term.Term.{Term}
-use Rattle.formula_terms.specs.declared.term.Term.TheVariants.{Well, Ill}
 use Rattle.rows.specs.Rows.{missing}
 use Rattle.rows_formula.specs.FormulaRows.{row1, row2}
 use Rattle.rows_weight.specs.WeightRows.{row4}
@@ -28,15 +26,10 @@ pub record Right (f w : List ℕ) (n : ℕ) : Type 0 where
   pub row_2 : (row2 (in_quotes text)).level ≡ 0
   pub row_4 : (row4 (in_quotes text) w).level ≡ 0
 
--- a symbol has a weight
-abbrev pub is_there : Weight → Bool
-is_there (Thousandths w) = true
-is_there NoWeight = false
-
 -- the symbol of a term has a weight
-abbrev pub has_weight : Term → Bool
-has_weight (Well a b n) = is_there (weight_of a b)
-has_weight Ill = false
+abbrev pub has_weight : Option Term → Bool
+has_weight (Some t) = is_some (weight_of t.symbol.first t.symbol.second)
+has_weight None = false
 
 -- "symbols all have weights"
 unfoldable pub all_weighed : List ℕ → Bool

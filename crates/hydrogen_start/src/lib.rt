@@ -5,37 +5,23 @@ ghost use Rattle.std.specs.Prelude.{◌≡◌};
 ghost use Rattle.hydrogen_right.specs.Right.{has_weight, all_weighed};
 ghost use Rattle.hydrogen_right.specs.Stages.{is_start};
 
-use formula_elements::Weight;
-use formula_terms::Step;
-use formula_terms::term::Term;
+use formula_terms::term::{Term, read_term};
 
 // Whether a term is well formed and its symbol has a weight.
-fn has_weight(t: Term) -> bool
-    ensures { result ≡ has_weight t }
+fn has_weight(term: Option<Term>) -> bool
+    ensures { result ≡ has_weight term }
 {
-    let Term::Well(a, b, _) = t else {
+    let Some(t) = term else {
         return false;
     };
-    match formula_elements::weight_of(a, b) {
-        Weight::Thousandths(_) => true,
-        Weight::NoWeight => false,
-    }
+    formula_elements::weight_of(t.symbol).is_some()
 }
 
 // Whether the symbols of a text's terms all have weights.
 fn all_weighed(s: &[u8]) -> bool
     ensures { result ≡ all_weighed s.now }
 {
-    let mut from = 0;
-    loop {
-        let Step::Next(term, next) = formula_terms::step_at(s, from) else {
-            return true;
-        };
-        if !has_weight(term) {
-            return false;
-        }
-        from = next;
-    }
+    formula_terms::cut(s).all(|word| has_weight(read_term(word)))
 }
 
 // Whether the start is as said: rows 1 and 2 of the formula's value at level 0, all symbols with weights, and a weight assigned.

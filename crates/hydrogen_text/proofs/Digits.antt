@@ -11,11 +11,10 @@ use lib.ListN.{get_or}
 use Rattle.text.specs.Run.{all, between, other, is_digit, is_capital}
 use Rattle.text.proofs.Runs.{all-lack}
 use Rattle.number_decimal.specs.Digits.{value_from, value_of, digit, last_digits}
-use Rattle.formula_terms.specs.Term.{most_count, term_of}
+use Rattle.formula_terms.specs.Term.{most_count, term_of, well}
 use Rattle.formula_terms.specs.Grammar.{capital, CountText, written, IsTerm}
 use Rattle.formula_terms.specs.Grammar as grammar
 use Rattle.formula_terms.proofs.Wording.{term-of}
-use Rattle.formula_terms.specs.declared.term.Term.TheVariants.{Well}
 use Rattle.hydrogen_text.specs.Hydrogens.{decimal_of, hydrogen_text}
 
 abbrev pub last_digit : ℕ → ℕ
@@ -133,7 +132,7 @@ module _ (n : ℕ) where
             }
 
     -- it is read as the term of n hydrogens
-    pub text-reads : term_of (hydrogen_text n) ≡ Well 72 32 n
+    pub text-reads : term_of (hydrogen_text n) ≡ well 72 32 n
     text-reads = term-of (hydrogen_text n) 72 32 n text-is
 
     -- it has no space

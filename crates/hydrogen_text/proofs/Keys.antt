@@ -10,10 +10,9 @@ use lib.Dec.{leb, ltb, eqb}
 use Rattle.text.specs.Run.{between}
 use Rattle.text.proofs.Bools.{and_both}
 use Rattle.formula_elements.specs.Elements.{same_symbol}
-use Rattle.formula_terms.specs.Term.{term_of}
+use Rattle.formula_terms.specs.Term.{term_of, well}
 use Rattle.formula_terms.specs.Grammar.{SymbolText, capital, capital_small}
 use Rattle.formula_terms.proofs.Wording.{term_is}
-use Rattle.formula_terms.specs.declared.term.Term.TheVariants.{Well}
 use Rattle.formula_order.specs.Order.{rank, order_key}
 
 abbrev pub hydrogen_key : Bool → ℕ
@@ -30,7 +29,7 @@ symbol-byte (capital a up) = omega arith
 symbol-byte (capital_small a b up low) = let h = and_both (leb 97 b) (leb b 122) low in omega (arith, leb-true b 122 h.1)
 
 -- the second byte of a symbol that was read
-pub read_byte : (w : List ℕ) (a b n : ℕ) → term_of w ≡ Well a b n → b < 256
+pub read_byte : (w : List ℕ) (a b n : ℕ) → term_of w ≡ well a b n → b < 256
 read_byte w a b n e = symbol-byte (term_is w a b n e).is_symbol
 
 pub same-symbol : (a b x y : ℕ) → same_symbol a b x y ≡ true → (a ≡ x) × (b ≡ y)
@@ -53,7 +52,7 @@ other_key false a b l s e =
     false≢true (sym s ∙ rw (y, z))
 
 -- another symbol that does not stand after hydrogen stands before it
-pub key-before : (c : Bool) (w : List ℕ) (a b n : ℕ) → term_of w ≡ Well a b n → same_symbol a b 72 32 ≡ false → ltb (hydrogen_key c) (order_key c a b) ≡ false → order_key c a b < hydrogen_key c
+pub key-before : (c : Bool) (w : List ℕ) (a b n : ℕ) → term_of w ≡ well a b n → same_symbol a b 72 32 ≡ false → ltb (hydrogen_key c) (order_key c a b) ≡ false → order_key c a b < hydrogen_key c
 key-before c w a b n r s e =
     let h = ltb-false (hydrogen_key c) (order_key c a b) e in
     let z = other_key c a b (read_byte w a b n r) s in

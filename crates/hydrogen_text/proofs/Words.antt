@@ -1,5 +1,6 @@
 -- The terms of the new text are the other terms in their order, with the term of hydrogen among them.
 -- Assumes nothing.
+use Rattle.std.specs.Prelude.{Option, Some, None}
 use Prim.Native.Nat.{ℕ, ◌≤◌}
 use mathlib.Core.Path.{◌≡◌, refl, sym, ap, ◌∙◌}
 use mathlib.Core.Bool.{Bool, true, false, cond, ◌||◌}
@@ -9,15 +10,14 @@ use borrow.Author.Tests.{eqb-true, eqb-false}
 use lib.Dec.{eqb}
 use Rattle.text.specs.Run.{all, other}
 use Rattle.text.proofs.Bools.{and_both}
-use Rattle.formula_elements.specs.Elements.{same_symbol}
+use Rattle.formula_elements.specs.Elements.{same_symbol, carbon}
 use Rattle.formula_terms.specs.Term.{term_of}
 use Rattle.formula_terms.specs.Terms.{cut, some}
 use Rattle.formula_terms.specs.Grammar.{joined, spaceless}
 use Rattle.formula_terms.proofs.Wording.{cut-joined, cut-spaceless}
 use Rattle.formula_terms.specs.declared.term.Term.{Term}
-use Rattle.formula_terms.specs.declared.term.Term.TheVariants.{Well, Ill}
 use Rattle.formula_symbols.specs.Symbols.{is_wanted, has_term, has_carbon}
-use Rattle.formula_symbols.specs.declared.Wanted.TheVariants.{Symbol}
+use Rattle.formula_symbols.specs.declared.Wanted.TheVariants.{Element}
 use Rattle.hydrogen_text.specs.Hydrogens.{most_hydrogens, hydrogen_text, hydrogen_terms, is_hydrogen, hydrogen_words, other_words}
 use Rattle.hydrogen_text.specs.NewText.{is_later, placed, with_hydrogens, new_words, new_text}
 use Rattle.hydrogen_text.proofs.Digits.{text-reads, text-spaceless}
@@ -140,22 +140,22 @@ new-hydrogens c n ws m = go (eqb n 0) refl
 
 -- ---- C is among the other terms
 
-hydrogen-not : (t : Term) → is_hydrogen t ≡ true → is_wanted (Symbol 67 32) t ≡ false
+hydrogen-not : (t : Option Term) → is_hydrogen t ≡ true → is_wanted (Element carbon) t ≡ false
 unfolding same_symbol
-hydrogen-not (Well a b n) e = let k = and_both (eqb a 72) (eqb b 32) e in let z = eqb-true a 72 k.0 in rw z
-hydrogen-not Ill e = refl
+hydrogen-not (Some t) e = let k = and_both (eqb t.symbol.first 72) (eqb t.symbol.second 32) e in let z = eqb-true t.symbol.first 72 k.0 in rw z
+hydrogen-not None e = refl
 
-carbon-other : (ws : List (List ℕ)) → some (is_wanted (Symbol 67 32)) (map term_of (other_words ws)) ≡ some (is_wanted (Symbol 67 32)) (map term_of ws)
+carbon-other : (ws : List (List ℕ)) → some (is_wanted (Element carbon)) (map term_of (other_words ws)) ≡ some (is_wanted (Element carbon)) (map term_of ws)
 unfolding other_words some
 carbon-other [] = refl
 carbon-other (w ∷ ws) = go (carbon-other ws) (is_hydrogen (term_of w)) refl
   where
-    go : some (is_wanted (Symbol 67 32)) (map term_of (other_words ws)) ≡ some (is_wanted (Symbol 67 32)) (map term_of ws) → (x : Bool) → is_hydrogen (term_of w) ≡ x
-        → some (is_wanted (Symbol 67 32)) (map term_of (cond x (other_words ws) (w ∷ other_words ws))) ≡ (is_wanted (Symbol 67 32) (term_of w) || some (is_wanted (Symbol 67 32)) (map term_of ws))
+    go : some (is_wanted (Element carbon)) (map term_of (other_words ws)) ≡ some (is_wanted (Element carbon)) (map term_of ws) → (x : Bool) → is_hydrogen (term_of w) ≡ x
+        → some (is_wanted (Element carbon)) (map term_of (cond x (other_words ws) (w ∷ other_words ws))) ≡ (is_wanted (Element carbon) (term_of w) || some (is_wanted (Element carbon)) (map term_of ws))
     go ih true e = rw (hydrogen-not (term_of w) e) ih
-    go ih false e = ap (λ (b : Bool). is_wanted (Symbol 67 32) (term_of w) || b) ih
+    go ih false e = ap (λ (b : Bool). is_wanted (Element carbon) (term_of w) || b) ih
 
 -- texts with the same other terms have C both or neither
 pub same-carbon : (s t : List ℕ) → other_words (cut t) ≡ other_words (cut s) → has_carbon t ≡ has_carbon s
 unfolding has_term
-same-carbon s t e = sym (carbon-other (cut t)) ∙ ap (λ (ws : List (List ℕ)). some (is_wanted (Symbol 67 32)) (map term_of ws)) e ∙ carbon-other (cut s)
+same-carbon s t e = sym (carbon-other (cut t)) ∙ ap (λ (ws : List (List ℕ)). some (is_wanted (Element carbon)) (map term_of ws)) e ∙ carbon-other (cut s)

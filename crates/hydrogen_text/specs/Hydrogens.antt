@@ -1,10 +1,9 @@
 -- The terms of hydrogen of a formula, and the other ones, each as it is written (document 02, No. 13).
 -- Assumes nothing.
-use Rattle.std.specs.Prelude.{ℕ, Bool, false, cond, List, [], ◌∷◌, ◌++◌, leb, eqb}
+use Rattle.std.specs.Prelude.{ℕ, Bool, false, cond, List, [], ◌∷◌, ◌++◌, leb, eqb, Option, Some, None}
 use Rattle.number_decimal.specs.Digits.{last_digits}
 use Rattle.formula_terms.specs.Term.{term_of}
 use Rattle.formula_terms.specs.declared.term.Term.{Term}
-use Rattle.formula_terms.specs.declared.term.Term.TheVariants.{Well, Ill}
 use Rattle.formula_elements.specs.Elements.{same_symbol}
 
 -- "count 0 to 9999"
@@ -28,9 +27,9 @@ unfoldable pub hydrogen_terms : ℕ → List (List ℕ)
 hydrogen_terms n = cond (eqb n 0) [] (hydrogen_text n ∷ [])
 
 -- a term is of hydrogen
-abbrev pub is_hydrogen : Term → Bool
-is_hydrogen (Well a b n) = same_symbol a b 72 32
-is_hydrogen Ill = false
+abbrev pub is_hydrogen : Option Term → Bool
+is_hydrogen (Some t) = same_symbol t.symbol.first t.symbol.second 72 32
+is_hydrogen None = false
 
 -- of some terms those of hydrogen
 unfoldable pub hydrogen_words : List (List ℕ) → List (List ℕ)

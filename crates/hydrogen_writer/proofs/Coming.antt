@@ -1,17 +1,16 @@
 -- What is put at one term of the text, and what is then to come.
 -- Assumes nothing.
-use Prim.Native.Nat.{ℕ, ◌-◌}
+use Rattle.std.specs.Prelude.{Option}
+use Prim.Native.Nat.{ℕ}
 use mathlib.Core.Path.{◌≡◌, refl, sym, ap, subst, ◌∙◌}
 use mathlib.Core.Bool.{Bool, true, false, cond, ◌&&◌, not}
 use mathlib.Core.List.{List, [], ◌∷◌, ◌++◌, append_assoc}
-use lib.ListN.{take, drop}
 use Rattle.formula_terms.specs.Term.{term_of}
 use Rattle.formula_terms.specs.declared.term.Term.{Term}
 use Rattle.hydrogen_text.specs.Hydrogens.{is_hydrogen, other_words}
 use Rattle.hydrogen_text.specs.NewText.{is_later, comes_here, placed, spread}
 use Rattle.hydrogen_writer.specs.Typed.{spaced, to_come, Puts}
 use Rattle.hydrogen_writer.proofs.Shown.{Going, going_on}
-use Rattle.formula_terms.proofs.Words.{words_from, WordStep}
 
 module _ (c : Bool) (h : List ℕ) where
   -- at the end the hydrogens, if they are still to come
@@ -38,16 +37,15 @@ module _ (c : Bool) (h : List ℕ) where
       go true false false e = rw e (sym (append_assoc w (32 ∷ []) (spread (placed c h (other_words ws)))))
 
   -- one turn of the loop
-  pub turn : {s : List ℕ} {from : ℕ} {t : Term} {n : ℕ} → WordStep s from t n → (wanted still : Bool) {out mid last all : List ℕ} {at m r : ℕ}
-      → Going out at (spread (to_come c h wanted (words_from s from))) all
-      → Puts out at (spaced (comes_here c wanted t) h) mid m → Puts mid m (spaced (not (is_hydrogen t)) (take (n - 1 - from) (drop from s))) last r
-      → still ≡ cond (comes_here c wanted t) false wanted → Going last r (spread (to_come c h still (words_from s n))) all
-  turn {s} {from} {t} {n} step wanted still {out} {mid} {last} {all} {at} {m} {r} g p q e =
-      let w : List ℕ = take (n - 1 - from) (drop from s) in
-      let rest : List ℕ = spread (to_come c h still (words_from s n)) in
-      let is : spread (to_come c h wanted (words_from s from)) ≡ spaced (comes_here c wanted t) h ++ (spaced (not (is_hydrogen t)) w ++ rest)
-      = ap (λ (ws : List (List ℕ)). spread (to_come c h wanted ws)) step.here ∙ coming wanted w (words_from s n)
-      ∙ ap (λ (x : Term). spaced (comes_here c wanted x) h ++ (spaced (not (is_hydrogen x)) w ++ spread (to_come c h (cond (comes_here c wanted x) false wanted) (words_from s n)))) (sym step.reads)
-      ∙ ap (λ (b : Bool). spaced (comes_here c wanted t) h ++ (spaced (not (is_hydrogen t)) w ++ spread (to_come c h b (words_from s n)))) (sym e) in
+  pub turn : (w : List ℕ) (ws : List (List ℕ)) {t : Option Term} → t ≡ term_of w → (wanted still : Bool) {out mid last all : List ℕ} {at m r : ℕ}
+      → Going out at (spread (to_come c h wanted (w ∷ ws))) all
+      → Puts out at (spaced (comes_here c wanted t) h) mid m → Puts mid m (spaced (not (is_hydrogen t)) w) last r
+      → still ≡ cond (comes_here c wanted t) false wanted → Going last r (spread (to_come c h still ws)) all
+  turn w ws {t} reads wanted still {out} {mid} {last} {all} {at} {m} {r} g p q e =
+      let rest : List ℕ = spread (to_come c h still ws) in
+      let is : spread (to_come c h wanted (w ∷ ws)) ≡ spaced (comes_here c wanted t) h ++ (spaced (not (is_hydrogen t)) w ++ rest)
+      = coming wanted w ws
+      ∙ ap (λ (x : Option Term). spaced (comes_here c wanted x) h ++ (spaced (not (is_hydrogen x)) w ++ spread (to_come c h (cond (comes_here c wanted x) false wanted) ws))) (sym reads)
+      ∙ ap (λ (b : Bool). spaced (comes_here c wanted t) h ++ (spaced (not (is_hydrogen t)) w ++ spread (to_come c h b ws))) (sym e) in
       let first : Going out at (spaced (comes_here c wanted t) h ++ (spaced (not (is_hydrogen t)) w ++ rest)) all = subst (λ (l : List ℕ). Going out at l all) is g in
       going_on (spaced (not (is_hydrogen t)) w) rest (going_on (spaced (comes_here c wanted t) h) (spaced (not (is_hydrogen t)) w ++ rest) first p) q

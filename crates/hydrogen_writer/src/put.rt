@@ -5,8 +5,9 @@ ghost use Rattle.hydrogen_text.specs.NewText.{new_words, spread};
 ghost use Rattle.hydrogen_writer.specs.Typed.{typed_most, to_come, Shows, Puts, spaced};
 
 use crate::TYPED_MOST;
+use formula_elements::CARBON;
 use formula_symbols::Wanted;
-use formula_terms::Step;
+use formula_terms::term::read_term;
 use hydrogen_terms::{comes_here, hydrogen_word, is_hydrogen};
 
 // Puts a term and a space at a place, and says where they end; where they do not fit, a place past the end.
@@ -43,19 +44,16 @@ fn put_terms(out: &mut [u8], s: &[u8], hydrogens: &[u8], carbon: bool, asked: bo
 {
     let mut wanted = asked;
     let mut at = 1;
-    let mut from = 0;
-    loop {
-        let Step::Next(term, next) = formula_terms::step_at(s, from) else {
-            return put_if(out, at, hydrogens, wanted);
-        };
+    for word in formula_terms::cut(s) {
+        let term = read_term(word);
         let here = comes_here(term, carbon, wanted);
         at = put_if(out, at, hydrogens, here);
         if here {
             wanted = false;
         }
-        at = put_if(out, at, &s[from..next - 1], !is_hydrogen(term));
-        from = next;
+        at = put_if(out, at, word, !is_hydrogen(term));
     }
+    put_if(out, at, hydrogens, wanted)
 }
 
 // Puts the terms of s with n hydrogens after the first byte, and says where they end; where they do not fit, a place past the end.
@@ -63,9 +61,7 @@ pub(crate) fn put_words(out: &mut [u8], s: &[u8], n: u64) -> usize
     requires { (length out.old ≡ typed_most) × Shows out.old 1 (39 ∷ []) }
     ensures { Shows out.new result (39 ∷ spread (new_words n s.now)) }
 {
-    let carbon = formula_symbols::has_term(s, Wanted::Symbol(b'C', b' '));
+    let carbon = formula_symbols::has_term(s, Wanted::Element(CARBON));
     let word = hydrogen_word(n);
-    let bytes = word.bytes;
-    let length = word.length;
-    put_terms(out, s, &bytes[0..length], carbon, n != 0)
+    put_terms(out, s, word.written(), carbon, n != 0)
 }

@@ -16,10 +16,7 @@ pub enum Class {
 fn is_either(t: &[u8], a: &[u8], b: &[u8]) -> bool
     ensures { result ≡ (same_by exact t.now a.now || same_by exact t.now b.now) }
 {
-    if text_equality::same(t, a) {
-        return true;
-    }
-    text_equality::same(t, b)
+    text_equality::same(t, a) || text_equality::same(t, b)
 }
 
 // Whether the text of a category is one of a class.
@@ -34,9 +31,11 @@ pub fn is_in_class(class: Class, t: &[u8]) -> bool
 }
 
 // Whether a text is one of the six categories.
+#[tactic(auto, unfolding(crate::specs::Categories::is_category))]
 pub fn is_category(t: &[u8]) -> bool
     ensures { result ≡ is_category t.now }
 {
     is_in_class(Class::Inorganic, t)
-        | (is_in_class(Class::MetalOrganic, t) | is_in_class(Class::Organic, t))
+        || is_in_class(Class::MetalOrganic, t)
+        || is_in_class(Class::Organic, t)
 }

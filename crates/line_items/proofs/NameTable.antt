@@ -1,14 +1,17 @@
--- The code's table of names: a constant for each item, which a `match` on the item's number lends. That it is the table of items antt computes, arm by arm.
+-- The code's table of names, which is indexed by the item's number. That it is the table of items antt computes, all of it at once.
 -- Assumes nothing.
 use mathlib.Core.Path.{◌≡◌, refl, sym, ap, ◌∙◌}
-use mathlib.Core.List.{List, []}
-use Prim.Native.Nat.{ℕ, zero, suc, ◌+◌, ◌≤◌, ◌<◌}
+use mathlib.Core.List.{List, [], map}
+use Prim.Native.Nat.{ℕ, zero, suc, ◌+◌, ◌-◌, ◌≤◌, ◌<◌}
 use native.Mathlib.Omega.{arith}
 use borrow.Author.Tests.{le-leb, lt-leb}
 use Rattle.text.proofs.Tables.{nowhere-above}
 use Rattle.text.proofs.Arms.{Others, past}
-use lib.ListN.{length}
-use Rattle.line_items.specs.Items.{items, item_count, name_most, item_row, name_of}
+use lib.ListN as L
+use lib.ListN.{length, get_or}
+use denote.Bor.{Bor}
+use Rattle.std.proofs.lemmas.List.{get_or-map}
+use Rattle.line_items.specs.Items.{ItemRow, items, item_count, name_most, no_row, item_row, name_of}
 
 -- what an arm makes of the name of its item is made of the name of the item that is asked for
 pub arm : {A : Type 0} (f : List ℕ → A) {item k : ℕ} {r : A} → item ≡ k → r ≡ f (name_of k) → r ≡ f (name_of item)
@@ -21,6 +24,15 @@ name-short item known = nowhere-above (λ (k : ℕ). length (name_of k)) (λ (k 
 pub name-of : (item : ℕ) → 1 ≤ item → item ≤ item_count → name_of item ≡ (item_row item).name
 unfolding name_of
 name-of item some known = simp (le-leb 1 item some, le-leb item item_count known)
+
+-- at an item's place the list of the names has its name
+pub listed-name : (d : List ℕ) (item : ℕ) → 1 ≤ item → item ≤ item_count → get_or (map (λ (r : ItemRow). r.name) items) (item - 1) d ≡ name_of item
+unfolding items
+listed-name d item some known = get_or-map (λ (r : ItemRow). r.name) items (item - 1) no_row d (omega arith) ∙ sym (name-of item some known)
+
+-- a text that is lent from a list of lent texts
+pub lent-from : (l : List (Bor (List ℕ))) (i : ℕ) (d : Bor (List ℕ)) → (get_or l i d).now ≡ get_or (map (λ (b : Bor (List ℕ)). b.now) l) i d.now
+lent-from l i d = sym (L.get_or-map (λ (b : Bor (List ℕ)). b.now) l i d)
 
 -- below the first item and above the last there is no name
 pub none_below : (item : ℕ) → item < 1 → name_of item ≡ []

@@ -1,5 +1,6 @@
 -- A text is found as item k exactly when it is the name of item k but for the case of A to Z, and it names no other.
 -- Assumes nothing.
+use Rattle.std.specs.Prelude.{Option, Some, None}
 use mathlib.Core.Path.{◌≡◌, refl, sym, ap, ◌∙◌}
 use mathlib.Core.Bool.{Bool, true, false, cond}
 use mathlib.Core.List.{List, [], ◌∷◌, map}
@@ -16,8 +17,6 @@ use Rattle.text_equality.proofs.Sames.{same→map, same-cong}
 use Rattle.text.proofs.Tables.{agree}
 use Rattle.line_items.specs.Items.{ItemRow, items, item_count, no_row, item_row, name_of, find_from, item_of, IsName}
 use Rattle.line_items.specs.Typed.{is_typed}
-use Rattle.line_items.specs.declared.Named.{Named}
-use Rattle.line_items.specs.declared.Named.TheVariants.{Item, Unknown}
 use Rattle.line_items.proofs.NameTable.{name-of}
 
 items-length : length items ≡ item_count
@@ -32,8 +31,8 @@ record There (rs : List ItemRow) (n : ℕ) (s : List ℕ) (k : ℕ) : Type 0 whe
 
 -- what was found is there
 found-by : (t : Bool) (r : ItemRow) (rs : List ItemRow) (n : ℕ) (s : List ℕ) (k : ℕ) → same_folded s r.name ≡ t
-    → (find_from (suc n) rs s ≡ Item k → There rs (suc n) s k)
-    → cond t (Item n) (find_from (suc n) rs s) ≡ Item k → There (r ∷ rs) n s k
+    → (find_from (suc n) rs s ≡ Some k → There rs (suc n) s k)
+    → cond t (Some n) (find_from (suc n) rs s) ≡ Some k → There (r ∷ rs) n s k
 found-by true r rs n s k e later q =
     let at : n ≡ k = cc in
     let first : k - n ≡ 0 = omega arith in
@@ -43,16 +42,16 @@ found-by false r rs n s k e later q =
     let next : k - n ≡ suc (k - suc n) = omega arith in
     record { from = omega arith; below = omega arith; same = ap (λ (j : ℕ). same_folded s (get_or (r ∷ rs) j no_row).name) next ∙ h.same }
 
-found : (rs : List ItemRow) (n : ℕ) (s : List ℕ) (k : ℕ) → find_from n rs s ≡ Item k → There rs n s k
+found : (rs : List ItemRow) (n : ℕ) (s : List ℕ) (k : ℕ) → find_from n rs s ≡ Some k → There rs n s k
 unfolding find_from
 found [] n s k q = let z : ◌≡◌ {A = ℕ} 0 1 = cc in absurd (omega arith)
 found (r ∷ rs) n s k q = found-by (same_folded s r.name) r rs n s k refl (found rs (suc n) s k) q
 
 -- the search from item k on
-abbrev pub search_from : List ℕ → ℕ → Named
+abbrev pub search_from : List ℕ → ℕ → Option ℕ
 search_from s k = find_from k (drop (k - 1) items) s
 
-pub search-turn : (s : List ℕ) (k : ℕ) → 1 ≤ k → k ≤ item_count → search_from s k ≡ cond (same_folded s (name_of k)) (Item k) (search_from s (k + 1))
+pub search-turn : (s : List ℕ) (k : ℕ) → 1 ≤ k → k ≤ item_count → search_from s k ≡ cond (same_folded s (name_of k)) (Some k) (search_from s (k + 1))
 unfolding find_from
 search-turn s k some known =
     let within : k - 1 < length items = omega (arith, items-length) in
@@ -60,12 +59,12 @@ search-turn s k some known =
     let name = ap (λ (n : List ℕ). same_folded s n) (name-of k some known) in
     rw (← rest, drop-cons items (k - 1) no_row within, name, add-one k) refl
 
-pub search-end : (s : List ℕ) → search_from s (item_count + 1) ≡ Unknown
+pub search-end : (s : List ℕ) → search_from s (item_count + 1) ≡ None
 unfolding items find_from
 search-end s = refl
 
 -- a text that is found as item k is its name
-pub name-found : (s : List ℕ) (k : ℕ) → item_of s ≡ Item k → IsName s k
+pub name-found : (s : List ℕ) (k : ℕ) → item_of s ≡ Some k → IsName s k
 name-found s k q =
     let h = found items 1 s k q in
     record { first = h.from; last = omega (arith, items-length); same = same→map lower s (item_row k).name h.same }
@@ -77,22 +76,22 @@ find-cong [] n s t e = refl
 find-cong (r ∷ rs) n s t e = rw (same-cong lower s t r.name e, find-cong rs (suc n) s t e)
 
 -- each name is found as itself: one test that antt computes
-own-found : (j : ℕ) → j < item_count → item_of (get_or items j no_row).name ≡ Item (suc j)
+own-found : (j : ℕ) → j < item_count → item_of (get_or items j no_row).name ≡ Some (suc j)
 unfolding items find_from same_by lower between
-own-found = agree (λ (j : ℕ). item_of (get_or items j no_row).name) (λ (j : ℕ). Item (suc j)) Unknown item_count refl
+own-found = agree (λ (j : ℕ). item_of (get_or items j no_row).name) (λ (j : ℕ). Some (suc j)) None item_count refl
 
 -- the name of item k is found as item k
-pub found_name : (s : List ℕ) (k : ℕ) → IsName s k → item_of s ≡ Item k
+pub found_name : (s : List ℕ) (k : ℕ) → IsName s k → item_of s ≡ Some k
 found_name s k h =
     let at : suc (k - 1) ≡ k = omega arith in
-    find-cong items 1 s (item_row k).name h.same ∙ own-found (k - 1) (omega arith) ∙ ap Item at
+    find-cong items 1 s (item_row k).name h.same ∙ own-found (k - 1) (omega arith) ∙ ap Some at
 
 -- a text is never the name of two items
 pub never-two : (s : List ℕ) (j k : ℕ) → IsName s j → IsName s k → j ≡ k
 never-two s j k g h = cc (found_name s j g, found_name s k h)
 
 -- a text that is not found is no item's name
-pub unknown-name : (s : List ℕ) → item_of s ≡ Unknown → (k : ℕ) → IsName s k → ⊥
+pub unknown-name : (s : List ℕ) → item_of s ≡ None → (k : ℕ) → IsName s k → ⊥
 unknown-name s e k h = let q = found_name s k h in let z : ◌≡◌ {A = ℕ} 0 1 = cc in omega arith
 
 -- a test that holds in each row of the table holds at each item

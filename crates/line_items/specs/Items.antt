@@ -1,13 +1,11 @@
 -- The items, their names and kinds (document 01, "What the desk holds"; document 02, No. 11: "New number items 11 to 18", No. 12: "text item 19").
 -- Assumes nothing.
-use Rattle.std.specs.Prelude.{ℕ, suc, ◌-◌, ◌≤◌, ◌≡◌, Bool, cond, ◌&&◌, List, [], ◌∷◌, map, leb, get_or}
+use Rattle.std.specs.Prelude.{ℕ, suc, ◌-◌, ◌≤◌, ◌≡◌, Bool, cond, ◌&&◌, List, [], ◌∷◌, map, leb, get_or, Option, Some, None}
 use Prim.Native.String.{String}
 use Rattle.text.specs.Quote.{bytes}
 use Rattle.text_equality.specs.Same.{lower, same_folded}
 use Rattle.line_items.specs.declared.Kind.{Kind}
 use Rattle.line_items.specs.declared.Kind.TheVariants.{Text, Number, Category}
-use Rattle.line_items.specs.declared.Named.{Named}
-use Rattle.line_items.specs.declared.Named.TheVariants.{Item, Unknown}
 
 -- a row of the table of items
 pub record ItemRow : Type 0 where
@@ -65,12 +63,12 @@ unfoldable pub name_of : ℕ → List ℕ
 name_of item = cond (is_item item) (item_row item).name []
 
 -- "Names are compared without regard to the case of A to Z": the first row of the table with that name, counted from n
-unfoldable pub find_from : ℕ → List ItemRow → List ℕ → Named
-find_from n [] s = Unknown
-find_from n (r ∷ rs) s = cond (same_folded s r.name) (Item n) (find_from (suc n) rs s)
+unfoldable pub find_from : ℕ → List ItemRow → List ℕ → Option ℕ
+find_from n [] s = None
+find_from n (r ∷ rs) s = cond (same_folded s r.name) (Some n) (find_from (suc n) rs s)
 
 -- the item of a name
-abbrev pub item_of : List ℕ → Named
+abbrev pub item_of : List ℕ → Option ℕ
 item_of s = find_from 1 items s
 
 -- the text s is the name of item k, "without regard to the case of A to Z"

@@ -20,78 +20,44 @@ pub enum Kind {
     Category,
 }
 
-// What a name names: an item, counted from 1, or none.
-#[derive(Clone, Copy)]
-pub enum Named {
-    Item(usize),
-    Unknown,
-}
-
 pub const ITEM_COUNT: usize = 19;
 
-// The table of names. A name is lent from it where it is compared (`line_lookup`) or copied (`line_names`); a `match` has the items' numbers.
-pub const FORMULA_SUM: [u8; 21] = *b"_chemical_formula_sum";
+// The names, in the order of the items.
+const NAMES: [&[u8]; ITEM_COUNT] = [
+    b"_chemical_formula_sum",
+    b"_chemical_formula_weight",
+    b"_publ_requested_category",
+    b"_refine_ls_R_factor_gt",
+    b"_refine_ls_R_factor_obs",
+    b"_refine_ls_wR_factor_ref",
+    b"_refine_ls_wR_factor_obs",
+    b"_refine_ls_shift/su_max",
+    b"_refine_ls_shift/esd_max",
+    b"_reflns_threshold_expression",
+    b"_diffrn_reflns_number",
+    b"_reflns_number_total",
+    b"_reflns_number_gt",
+    b"_diffrn_reflns_av_R_equivalents",
+    b"_exptl_crystal_size_max",
+    b"_exptl_crystal_size_mid",
+    b"_exptl_crystal_size_min",
+    b"_diffrn_radiation_wavelength",
+    b"_chemical_formula_moiety",
+];
 
-pub const FORMULA_WEIGHT: [u8; 24] = *b"_chemical_formula_weight";
-
-pub const REQUESTED_CATEGORY: [u8; 24] = *b"_publ_requested_category";
-
-pub const R_FACTOR_GT: [u8; 22] = *b"_refine_ls_R_factor_gt";
-
-pub const R_FACTOR_OBS: [u8; 23] = *b"_refine_ls_R_factor_obs";
-
-pub const WR_FACTOR_REF: [u8; 24] = *b"_refine_ls_wR_factor_ref";
-
-pub const WR_FACTOR_OBS: [u8; 24] = *b"_refine_ls_wR_factor_obs";
-
-pub const SHIFT_SU_MAX: [u8; 23] = *b"_refine_ls_shift/su_max";
-
-pub const SHIFT_ESD_MAX: [u8; 24] = *b"_refine_ls_shift/esd_max";
-
-pub const THRESHOLD_EXPRESSION: [u8; 28] = *b"_reflns_threshold_expression";
-
-pub const DIFFRN_NUMBER: [u8; 21] = *b"_diffrn_reflns_number";
-
-pub const NUMBER_TOTAL: [u8; 20] = *b"_reflns_number_total";
-
-pub const NUMBER_GT: [u8; 17] = *b"_reflns_number_gt";
-
-pub const R_EQUIVALENTS: [u8; 31] = *b"_diffrn_reflns_av_R_equivalents";
-
-pub const SIZE_MAX: [u8; 23] = *b"_exptl_crystal_size_max";
-
-pub const SIZE_MID: [u8; 23] = *b"_exptl_crystal_size_mid";
-
-pub const SIZE_MIN: [u8; 23] = *b"_exptl_crystal_size_min";
-
-pub const WAVELENGTH: [u8; 28] = *b"_diffrn_radiation_wavelength";
-
-pub const FORMULA_MOIETY: [u8; 24] = *b"_chemical_formula_moiety";
+// The name of an item; empty where there is no such item.
+pub fn name_of(item: usize) -> &'static [u8]
+    ensures { result.now ≡ name_of item }
+{
+    if item < 1 || ITEM_COUNT < item {
+        return b"";
+    }
+    NAMES[item - 1]
+}
 
 // The length of an item's name; 0 where there is no such item.
 pub fn name_length(item: usize) -> usize
     ensures { result ≡ length (name_of item) }
 {
-    match item {
-        1 => FORMULA_SUM.len(),
-        2 => FORMULA_WEIGHT.len(),
-        3 => REQUESTED_CATEGORY.len(),
-        4 => R_FACTOR_GT.len(),
-        5 => R_FACTOR_OBS.len(),
-        6 => WR_FACTOR_REF.len(),
-        7 => WR_FACTOR_OBS.len(),
-        8 => SHIFT_SU_MAX.len(),
-        9 => SHIFT_ESD_MAX.len(),
-        10 => THRESHOLD_EXPRESSION.len(),
-        11 => DIFFRN_NUMBER.len(),
-        12 => NUMBER_TOTAL.len(),
-        13 => NUMBER_GT.len(),
-        14 => R_EQUIVALENTS.len(),
-        15 => SIZE_MAX.len(),
-        16 => SIZE_MID.len(),
-        17 => SIZE_MIN.len(),
-        18 => WAVELENGTH.len(),
-        19 => FORMULA_MOIETY.len(),
-        _ => 0,
-    }
+    name_of(item).len()
 }

@@ -16,8 +16,8 @@ use Rattle.line_items.proofs.NameTable.{name-short, none_above}
 use Rattle.line_kinds.specs.Kinds.{of_kind, passes, fits}
 
 -- of an item that is not there the name is none
-pub any-short : (item : ℕ) → length (name_of item) ≤ name_most
-any-short item = go (leb item item_count) refl
+pub any_short : (item : ℕ) → length (name_of item) ≤ name_most
+any_short item = go (leb item item_count) refl
   where
     go : (b : Bool) → leb item item_count ≡ b → length (name_of item) ≤ name_most
     go true e = name-short item (leb-true item item_count e)
@@ -33,7 +33,7 @@ module _ (q a t : Bool) (f : List ℕ → Bool) (name : List ℕ) where
       go false = simp (and-false)
   moved false = simp (and-false)
 
-pub kind-last : (item : ℕ) (v : List ℕ) → fits item v ≡ (is_value v && (all is_typed v && (leb (length (name_of item) + 1 + length v) line_most && passes item v)))
+pub kind_last : (item : ℕ) (v : List ℕ) → fits item v ≡ (is_value v && (all is_typed v && (leb (length (name_of item) + 1 + length v) line_most && passes item v)))
 unfolding fits passes name_of
-kind-last item v =
+kind_last item v =
     moved (is_unassigned v || of_kind (item_row item).kind v) (is_value v) (all is_typed v) (λ (n : List ℕ). leb (length n + 1 + length v) line_most) (item_row item).name (is_item item)

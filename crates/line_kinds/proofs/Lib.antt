@@ -1,4 +1,3 @@
-pub mod KindTable
 pub mod Passes
 pub mod Fits
 pub mod Fitting

@@ -1,5 +1,6 @@
 -- The test of kinds says what document 01's words say.
 -- Assumes nothing.
+use Rattle.std.specs.Prelude.{ℤ, Option, Some, None}
 use mathlib.Core.Path.{◌≡◌, refl, ap, ◌∙◌}
 use mathlib.Core.Bool.{Bool, true, false, or-true, false≢true}
 use mathlib.Core.Logic.{⊎_elim}
@@ -14,8 +15,6 @@ use Rattle.text.proofs.Bools.{and_both, or-either}
 use Rattle.text_equality.specs.Same.{exact, same_by}
 use Rattle.text_equality.proofs.Sames.{same-exact}
 use Rattle.number_decimal.specs.Reading.{reading_of, is_found, is_number}
-use Rattle.number_decimal.specs.declared.Reading.{Reading}
-use Rattle.number_decimal.specs.declared.Reading.TheVariants.{Number, Nothing}
 use Rattle.number_decimal.proofs.Agree.{agree}
 use Rattle.line_quotes.specs.Quoted.{is_quoted_by, is_quoted, text_of}
 use Rattle.line_categories.specs.Categories.{in_class, is_category}
@@ -51,13 +50,13 @@ unassigned-taken v (Unassigned.point e) = rw e
 
 -- ---- a number
 
-number_is : (v : List ℕ) (r : Reading) → r ≡ reading_of v → is_found r ≡ true → NumberText v
-number_is v (Number z) e f = record { denoted = z; is_number = agree v (Number z) e }
-number_is v Nothing e f = absurd (false≢true f)
+number_is : (v : List ℕ) (r : Option ℤ) → r ≡ reading_of v → is_found r ≡ true → NumberText v
+number_is v (Some z) e f = record { denoted = z; is_number = agree v (Some z) e }
+number_is v None e f = absurd (false≢true f)
 
-number-taken : (v : List ℕ) (r : Reading) → r ≡ reading_of v → NumberText v → is_found r ≡ true
-number-taken v (Number z) e h = refl
-number-taken v Nothing e h = absurd (agree v Nothing e h.denoted h.is_number)
+number-taken : (v : List ℕ) (r : Option ℤ) → r ≡ reading_of v → NumberText v → is_found r ≡ true
+number-taken v (Some z) e h = refl
+number-taken v None e h = absurd (agree v None e h.denoted h.is_number)
 
 -- ---- a category
 

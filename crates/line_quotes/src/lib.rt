@@ -21,13 +21,11 @@ fn is_quoted_by(s: &[u8], q: u8) -> bool
 }
 
 // Whether s is a quoted value.
+#[tactic(auto, unfolding(crate::specs::Quoted::is_quoted))]
 pub fn is_quoted(s: &[u8]) -> bool
     ensures { result ≡ is_quoted s.now }
 {
-    if is_quoted_by(s, b'\'') {
-        return true;
-    }
-    is_quoted_by(s, b'"')
+    is_quoted_by(s, b'\'') || is_quoted_by(s, b'"')
 }
 
 // The text of a value without its quotes.

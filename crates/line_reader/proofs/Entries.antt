@@ -1,5 +1,6 @@
 -- Accepted lines: what is known of every one, with the converse for lines of one space.
 -- Assumes nothing.
+use Rattle.std.specs.Prelude.{Option, Some, None, Result, Ok, Err}
 use mathlib.Core.Path.{◌≡◌, refl, sym, ap, ◌∙◌}
 use mathlib.Core.Bool.{true, ◌&&◌}
 use mathlib.Core.List.{List, ◌∷◌, ◌++◌}
@@ -16,13 +17,12 @@ use Rattle.line_values.specs.Value.{is_value}
 use Rattle.line_items.specs.Items.{item_count, item_row, item_of, IsName}
 use Rattle.line_kinds.specs.Kinds.{passes}
 use Rattle.line_items.specs.Typed.{line_most, is_typed}
-use Rattle.line_reader.specs.Line.{name_end, split_of, named_class, split_class, class_of}
+use Rattle.line_reader.specs.Line.{name_end, parts_at, split_of, entry_at, named_class, split_class, class_of}
 use Rattle.line_reader.specs.Wording.{IsLine}
-use Rattle.line_items.specs.declared.Named.{Named}
-use Rattle.line_items.specs.declared.Named.TheVariants.{Item, Unknown}
-use Rattle.line_reader.specs.declared.line.Split.{Split}
-use Rattle.line_reader.specs.declared.line.Split.TheVariants.{Parts, Malformed}
-use Rattle.line_reader.specs.declared.line.Class.TheVariants.{Entry, BadForm, WrongKind}
+use Rattle.line_reader.specs.declared.line.Parts.{Parts}
+use Rattle.line_reader.specs.declared.line.LineEntry.{LineEntry}
+use Rattle.line_reader.specs.declared.line.NoEntry.{NoEntry}
+use Rattle.line_reader.specs.declared.line.NoEntry.TheVariants.{BadForm, WrongKind}
 use Rattle.line_items.proofs.Names.{name-found, found_name, name_typed, name-first, name-unspaced}
 use Rattle.line_reader.proofs.Splits.{split-is, start-within}
 use Rattle.line_values.proofs.Values.{value-is}
@@ -45,14 +45,21 @@ pub record IsEntry (t : List ℕ) (k v : ℕ) : Type 0 where
 name-length : {s : List ℕ} {k : ℕ} → IsName s k → length s ≡ length (item_row k).name
 name-length {s} {k} h = sym (length-map s lower) ∙ ap length h.same ∙ length-map (item_row k).name lower
 
-pub no-bad-form : (k v : ℕ) → BadForm ≡ Entry k v → ⊥
+ok-same : (x y : LineEntry) → ◌≡◌ {A = Result LineEntry NoEntry} (Ok x) (Ok y) → x ≡ y
+ok-same x y e = cc
+
+-- the same entry has the same item and the same place
+pub entry-same : (k v j w : ℕ) → entry_at k v ≡ entry_at j w → (k ≡ j) × (v ≡ w)
+entry-same k v j w e = let same = ok-same _ _ e in (ap (λ (p : LineEntry). p.item) same, ap (λ (p : LineEntry). p.start) same)
+
+pub no-bad-form : (k v : ℕ) → Err BadForm ≡ entry_at k v → ⊥
 no-bad-form k v e = let z : ◌≡◌ {A = ℕ} 0 1 = cc in omega arith
 
-pub no-wrong-kind : (k v : ℕ) → WrongKind ≡ Entry k v → ⊥
+pub no-wrong-kind : (k v : ℕ) → Err WrongKind ≡ entry_at k v → ⊥
 no-wrong-kind k v e = let z : ◌≡◌ {A = ℕ} 0 1 = cc in omega arith
 
 module _ (t : List ℕ) (k v : ℕ) (short : length t ≤ line_most) (typed : all is_typed t ≡ true) where
-  parts_are : (n : ℕ) → split_of t ≡ Parts n v → item_of (take n t) ≡ Item k → passes k (drop v t) ≡ true → IsEntry t k v
+  parts_are : (n : ℕ) → split_of t ≡ parts_at n v → item_of (take n t) ≡ Some k → passes k (drop v t) ≡ true → IsEntry t k v
   parts_are n s i p =
       let h = split-is t n v s in
       let e : take n t ≡ take (name_end t) t = ap (λ (j : ℕ). take j t) h.name-end in
@@ -74,26 +81,28 @@ module _ (t : List ℕ) (k v : ℕ) (short : length t ≤ line_most) (typed : al
         value-typed = all_drop is_typed v t typed;
       }
 
-  named-is : (n w : ℕ) (x : Named) → split_of t ≡ Parts n w → item_of (take n t) ≡ x → named_class t w x ≡ Entry k v → IsEntry t k v
-  named-is n w Unknown s i e = let z : ◌≡◌ {A = ℕ} 0 1 = cc in absurd (omega arith)
-  named-is n w (Item j) s i e =
-      let h = cond-first (passes j (drop w t)) (Entry j w) WrongKind (Entry k v) (no-wrong-kind k v) e in
-      let same = h.1 in
+  named-is : (n w : ℕ) (x : Option ℕ) → split_of t ≡ parts_at n w → item_of (take n t) ≡ x → named_class t w x ≡ entry_at k v → IsEntry t k v
+  named-is n w None s i e = let z : ◌≡◌ {A = ℕ} 0 1 = cc in absurd (omega arith)
+  named-is n w (Some j) s i e =
+      let h = cond-first (passes j (drop w t)) (entry_at j w) (Err WrongKind) (entry_at k v) (no-wrong-kind k v) e in
+      let same = entry-same _ _ _ _ h.1 in
       let p = h.0 in
-      let s' : split_of t ≡ Parts n v = cc in
-      let i' : item_of (take n t) ≡ Item k = cc in
+      let at = same.0 in
+      let from = same.1 in
+      let s' : split_of t ≡ parts_at n v = cc in
+      let i' : item_of (take n t) ≡ Some k = cc in
       let p' : passes k (drop v t) ≡ true = cc in
       parts_are n s' i' p'
 
-  split-entry : (x : Split) → split_of t ≡ x → split_class t x ≡ Entry k v → IsEntry t k v
-  split-entry Malformed s e = let z : ◌≡◌ {A = ℕ} 0 1 = cc in absurd (omega arith)
-  split-entry (Parts n w) s e = named-is n w (item_of (take n t)) s refl e
+  split-entry : (x : Option Parts) → split_of t ≡ x → split_class t x ≡ entry_at k v → IsEntry t k v
+  split-entry None s e = let z : ◌≡◌ {A = ℕ} 0 1 = cc in absurd (omega arith)
+  split-entry (Some p) s e = named-is p.name_end p.value_start (item_of (take p.name_end t)) s refl e
 
 -- what is known of an accepted line
-pub entry-is : (t : List ℕ) (k v : ℕ) → class_of t ≡ Entry k v → IsEntry t k v
+pub entry-is : (t : List ℕ) (k v : ℕ) → class_of t ≡ entry_at k v → IsEntry t k v
 unfolding class_of
 entry-is t k v e =
-    let h = cond-first (leb (length t) line_most && all is_typed t) (split_class t (split_of t)) BadForm (Entry k v) (no-bad-form k v) e in
+    let h = cond-first (leb (length t) line_most && all is_typed t) (split_class t (split_of t)) (Err BadForm) (entry_at k v) (no-bad-form k v) e in
     let b = and_both (leb (length t) line_most) (all is_typed t) h.0 in
     split-entry t k v (leb-true (length t) line_most b.0) b.1 (split_of t) refl h.1
 
@@ -117,7 +126,7 @@ one-space k value some known v =
 -- and where the value is of the item's kind, it is accepted
 pub entry-taken : (k : ℕ) (value : List ℕ) → 1 ≤ k → k ≤ item_count → is_value value ≡ true → passes k value ≡ true → all is_typed value ≡ true
     → length (item_row k).name + 1 + length value ≤ line_most
-    → class_of ((item_row k).name ++ (32 ∷ value)) ≡ Entry k (length (item_row k).name + 1)
+    → class_of ((item_row k).name ++ (32 ∷ value)) ≡ entry_at k (length (item_row k).name + 1)
 unfolding class_of one-space
 entry-taken k value some known v p typed room =
     let name = (item_row k).name in
@@ -125,5 +134,5 @@ entry-taken k value some known v p typed room =
     let line : IsLine t name value = one-space k value some known v in
     let short : length t ≤ line_most = omega (arith, length-append name (32 ∷ value)) in
     let all_typed : all is_typed t ≡ true = all_append is_typed name (32 ∷ value) (name_typed k some known) (one_typed value typed) in
-    let found : item_of name ≡ Item k = found_name name k (record { first = some; last = known; same = refl }) in
+    let found : item_of name ≡ Some k = found_name name k (record { first = some; last = known; same = refl }) in
     simp (le-leb (length t) line_most short, all_typed, line_taken t name value line, name-at t name value line, found, value-at t name value line, p)

@@ -1,5 +1,6 @@
 -- A line is split exactly as document 01's words say: name, spaces and value, in one way only.
 -- Assumes nothing.
+use Rattle.std.specs.Prelude.{None}
 use mathlib.Core.Path.{◌≡◌, refl, sym, ap, ◌∙◌}
 use mathlib.Core.Bool.{true}
 use mathlib.Core.List.{List, [], ◌∷◌, ◌++◌}
@@ -11,11 +12,10 @@ use lib.ListN.{length, take, drop, replicate, length-append, length-replicate, t
 use lib.Seq.{take-append_seam, drop-append_seam, drop-append-add, drop-drop, drop_at}
 use Rattle.text.specs.Run.{run_of, all, between, other, has_at}
 use Rattle.text.proofs.Runs.{run-append, run-taken, run_length, has_here, has_within, has-byte, all_replicate, all_same}
-use Rattle.line_reader.specs.Line.{name_end, value_start, split_of}
+use Rattle.line_reader.specs.Line.{name_end, value_start, parts_at, split_of}
 use Rattle.line_values.specs.Wording.{ValueText}
 use Rattle.line_reader.specs.Wording.{IsLine}
-use Rattle.line_reader.specs.declared.line.Split.TheVariants.{Parts, Malformed}
-use Rattle.line_reader.proofs.Splits.{split-is}
+use Rattle.line_reader.proofs.Splits.{parts-same, split-is}
 use Rattle.line_values.proofs.Values.{value-is, value_taken, value-first}
 
 -- the name ends after its first byte
@@ -41,7 +41,7 @@ module _ (t : List ℕ) where
       ∙ ap (λ (l : List ℕ). take n t ++ l) (sym (take-append-drop spaces_of s) ∙ rw (spaces-are, drop-drop spaces_of n t))
 
 -- a line that is split is of the form, with those parts
-pub line-is : (t : List ℕ) (n v : ℕ) → split_of t ≡ Parts n v → IsLine t (take n t) (drop v t)
+pub line-is : (t : List ℕ) (n v : ℕ) → split_of t ≡ parts_at n v → IsLine t (take n t) (drop v t)
 line-is t n v e =
     let h = split-is t n v e in
     rw (h.name-end, h.value-start)
@@ -82,12 +82,12 @@ module _ (name value : List ℕ) (k : ℕ) where
         let l = has_within name 0 95 first in
         has_here line 0 95 (omega (arith, length-append name (replicate k 32 ++ value))) (get_or-append name (replicate k 32 ++ value) 0 0 l ∙ has-byte name 0 95 first)
 
-    line-split : split_of line ≡ Parts (length name) (length name + k)
+    line-split : split_of line ≡ parts_at (length name) (length name + k)
     unfolding split_of
     line-split = rw (spaces-end, name-ends, value_there, line-begins, le-leb 1 k some, value_taken value v)
 
 -- a line of the form is split into its parts
-pub line_taken : (t name value : List ℕ) (h : IsLine t name value) → split_of t ≡ Parts (length name) (length name + h.spaces)
+pub line_taken : (t name value : List ℕ) (h : IsLine t name value) → split_of t ≡ parts_at (length name) (length name + h.spaces)
 line_taken t name value h = ap split_of h.text ∙ line-split name value h.spaces h.first h.no_spaces h.some h.is_value
 
 -- and what stands at those places are its parts
@@ -106,8 +106,9 @@ one_line t name value name' value' g h =
     let b = name-at t name' value' h in
     let c = value-at t name value g in
     let d = value-at t name' value' h in
-    (cc, cc)
+    let at = parts-same _ _ _ _ (sym p ∙ q) in
+    (cc (at.0), cc (at.1))
 
 -- a malformed line is of the form in no way
-pub no_line : (t : List ℕ) → split_of t ≡ Malformed → (name value : List ℕ) → IsLine t name value → ⊥
+pub no_line : (t : List ℕ) → split_of t ≡ None → (name value : List ℕ) → IsLine t name value → ⊥
 no_line t e name value h = let p = line_taken t name value h in let z : ◌≡◌ {A = ℕ} 0 1 = cc in omega arith

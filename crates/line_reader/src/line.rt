@@ -2,83 +2,85 @@
 ghost use Rattle.std.specs.Prelude.{◌≡◌};
 ghost use Rattle.line_reader.specs.Line.{split_of, split_class, class_of, class_number};
 
-use line_items::{FIRST_TYPED, LAST_TYPED, LINE_MOST, Named};
+use line_items::{FIRST_TYPED, LAST_TYPED, LINE_MOST};
 
-// Where the name ends and the value begins, or that the text is no line.
+// The parts of a line: where its name ends and its value begins.
 #[derive(Clone, Copy)]
-pub enum Split {
-    Parts(usize, usize),
-    Malformed,
+pub struct Parts {
+    pub name_end: usize,
+    pub value_start: usize,
 }
 
-// What a line is: an entry for an item, with the place where its value begins, or why it is none.
+// A line that is an entry: its item, and where its value begins.
 #[derive(Clone, Copy)]
-pub enum Class {
-    Entry(usize, usize),
+pub struct LineEntry {
+    pub item: usize,
+    pub start: usize,
+}
+
+// Why a line is no entry.
+#[derive(Clone, Copy)]
+pub enum NoEntry {
     BadForm,
     UnknownName,
     WrongKind,
 }
 
-// The parts of a line.
-pub fn split_line(s: &[u8]) -> Split
+// The parts of a line, or that the text is none.
+#[tactic(auto, unfolding(crate::specs::Line::split_of))]
+pub fn split_line(s: &[u8]) -> Option<Parts>
     ensures { result ≡ split_of s.now }
 {
     if !text::has(s, 0, b'_') {
-        return Split::Malformed;
+        return None;
     }
-    let name = text::run::run_other(s, b' ');
-    let spaces = text::run::run_between(&s[name..], b' ', b' ');
-    if spaces < 1 {
-        return Split::Malformed;
-    }
-    let start = name + spaces;
-    if line_values::is_value(&s[start..]) {
-        Split::Parts(name, start)
+    let name_end = text::run::run_other(s, b' ');
+    let spaces = text::run::run_between(&s[name_end..], b' ', b' ');
+    let value_start = name_end + spaces;
+    if 1 <= spaces && line_values::is_value(&s[value_start..]) {
+        Some(Parts {
+            name_end,
+            value_start,
+        })
     } else {
-        Split::Malformed
+        None
     }
 }
 
 // What a line of the right bytes is.
-fn classify_typed(s: &[u8]) -> Class
+#[tactic(auto, using(crate::proofs::Splits::name_taken, crate::proofs::Splits::value_within))]
+fn classify_typed(s: &[u8]) -> Result<LineEntry, NoEntry>
     ensures { result ≡ split_class s.now (split_of s.now) }
 {
-    let Split::Parts(name, start) = split_line(s) else {
-        return Class::BadForm;
-    };
-    let Named::Item(item) = line_lookup::item_named(&s[..name]) else {
-        return Class::UnknownName;
-    };
+    let parts = split_line(s).ok_or(NoEntry::BadForm)?;
+    let item = line_lookup::item_named(&s[..parts.name_end]).ok_or(NoEntry::UnknownName)?;
+    let start = parts.value_start;
     if line_kinds::passes_kind(item, &s[start..]) {
-        Class::Entry(item, start)
+        Ok(LineEntry { item, start })
     } else {
-        Class::WrongKind
+        Err(NoEntry::WrongKind)
     }
 }
 
-// What a line of any length and bytes is.
-pub fn classify(s: &[u8]) -> Class
+// What a line of any length and bytes is: an entry, or why it is none.
+#[tactic(auto, unfolding(crate::specs::Line::class_of))]
+pub fn classify(s: &[u8]) -> Result<LineEntry, NoEntry>
     ensures { result ≡ class_of s.now }
 {
-    if LINE_MOST < s.len() {
-        return Class::BadForm;
+    if LINE_MOST < s.len() || !text::all_between(s, FIRST_TYPED, LAST_TYPED) {
+        return Err(NoEntry::BadForm);
     }
-    if text::all_between(s, FIRST_TYPED, LAST_TYPED) {
-        classify_typed(s)
-    } else {
-        Class::BadForm
-    }
+    classify_typed(s)
 }
 
 // Document 01's number for what a line is.
-pub fn class_number(c: Class) -> u8
+pub fn class_number(c: Result<LineEntry, NoEntry>) -> u8
     ensures { result ≡ class_number c }
 {
     match c {
-        Class::Entry(_, _) => 0,
-        Class::BadForm => 5,
-        Class::UnknownName => 6,
-        Class::WrongKind => 7,
+        Ok(_) => 0,
+        Err(NoEntry::BadForm) => 5,
+        Err(NoEntry::UnknownName) => 6,
+        Err(NoEntry::WrongKind) => 7,
     }
 }

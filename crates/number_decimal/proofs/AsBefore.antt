@@ -1,5 +1,6 @@
 -- Document 02, No. 4, "all other levels of lines accepted before stay": what was a number before is one, and the same one; and what is new begins or ends
 -- with its point. Assumes nothing.
+use Rattle.std.specs.Prelude.{Some}
 use mathlib.Core.Path.{◌≡◌, refl}
 use mathlib.Core.Logic.{◌⊎◌, inl, inr, ⊎_elim}
 use mathlib.Core.List.{List, [], ◌∷◌}
@@ -8,7 +9,6 @@ use lib.IntN.{ℤ}
 use Rattle.number_decimal.specs.Reading.{reading_of}
 use Rattle.number_decimal.specs.Grammar.{PointText, SizeBy, NumberBy, IsSize, IsNumber}
 use Rattle.number_decimal.specs.Before.{PointBefore, NumberBefore}
-use Rattle.number_decimal.specs.declared.Reading.TheVariants.{Number}
 use Rattle.number_decimal.proofs.Complete.{number-taken}
 
 -- a number whose point may stand there by another rule too
@@ -42,7 +42,7 @@ pub number-stays : (t : List ℕ) (z : ℤ) → NumberBefore t z → IsNumber t 
 number-stays t z h = renumber h (resize h.is_size (point-stays h.is_size.is_point))
 
 -- and is read as that
-pub reads-as-before : (t : List ℕ) (z : ℤ) → NumberBefore t z → reading_of t ≡ Number z
+pub reads-as-before : (t : List ℕ) (z : ℤ) → NumberBefore t z → reading_of t ≡ Some z
 reads-as-before t z h = number-taken t z (number-stays t z h)
 
 -- the point stands at an end of the digits

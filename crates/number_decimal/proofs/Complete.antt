@@ -1,5 +1,6 @@
 -- Every text that the grammar takes for a number is read as that number.
 -- Assumes nothing.
+use Rattle.std.specs.Prelude.{Some}
 use mathlib.Core.Path.{◌≡◌, refl, ◌∙◌}
 use mathlib.Core.Bool.{Bool, true, false, cond}
 use mathlib.Core.List.{List, [], ◌∷◌, ◌++◌}
@@ -17,8 +18,6 @@ use Rattle.text.proofs.Runs.{run-append, run_none, has_here, has_within, has-byt
 use Rattle.number_decimal.specs.Digits.{most_uncertain}
 use Rattle.number_decimal.specs.Reading.{closes_bracket, is_tail, size_of, parts_size, point_length, unsigned_of, reading_of}
 use Rattle.number_decimal.specs.Grammar.{SignText, PointText, UncertaintyText, IsSize, IsNumber}
-use Rattle.number_decimal.specs.declared.Reading.TheVariants.{Number}
-use Rattle.number_decimal.specs.declared.Size.TheVariants.{Millionths}
 use Rattle.number_decimal.proofs.Digits.{first-digit}
 use Rattle.number_decimal.proofs.Values.{joined}
 
@@ -94,7 +93,7 @@ first_by r b (PointText.each_side [] fraction some one) a l e = not-suc-le-zero 
 first_by r b (PointText.before_only [] some) a l e = not-suc-le-zero some
 
 module _ {t : List ℕ} {m : ℕ} (h : IsSize t m) where
-  size-taken : unsigned_of t ≡ Millionths m
+  size-taken : unsigned_of t ≡ Some m
   unfolding size_of
   size-taken =
       rw (h.text, h.worth)
@@ -106,12 +105,12 @@ module _ {t : List ℕ} {m : ℕ} (h : IsSize t m) where
   first-no-sign b l = rw h.text (not-holds _ (first_by h.tail b h.is_point h.before_digits l))
 
 number_by : {negative : Bool} {sign r : List ℕ} {m : ℕ} → SignText negative sign → IsSize r m
-    → reading_of (sign ++ r) ≡ Number (cond negative (neg_ℤ (pos m)) (pos m))
+    → reading_of (sign ++ r) ≡ Some (cond negative (neg_ℤ (pos m)) (pos m))
 unfolding reading_of
 number_by SignText.unsigned h = simp (first-no-sign h 45 (omega arith), first-no-sign h 43 (omega arith), size-taken h)
 number_by {r = r} SignText.plus h = simp (not-holds (has_at (43 ∷ r) 0 45) (λ e. omega (arith, has-byte (43 ∷ r) 0 45 e)), has_here (43 ∷ r) 0 43 (omega arith) refl, size-taken h)
 number_by {r = r} SignText.minus h = simp (has_here (45 ∷ r) 0 45 (omega arith) refl, size-taken h)
 
 -- what the grammar takes for z is read as z
-pub number-taken : (t : List ℕ) (z : ℤ) → IsNumber t z → reading_of t ≡ Number z
+pub number-taken : (t : List ℕ) (z : ℤ) → IsNumber t z → reading_of t ≡ Some z
 number-taken t z h = rw (h.text, h.worth) (number_by h.is_sign h.is_size)

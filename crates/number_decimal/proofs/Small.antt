@@ -1,5 +1,6 @@
 -- A number is below 10 ^ 9, so below 10 ^ 15 millionths, since it has at most nine digits; and it is at most 17 bytes long.
 -- Assumes nothing.
+use Rattle.std.specs.Prelude.{Option, Some, None}
 use mathlib.Core.Path.{◌≡◌, sym, ap, ◌∙◌}
 use mathlib.Core.Bool.{Bool, true, false, cond}
 use mathlib.Core.List.{List, [], ◌∷◌, ◌++◌}
@@ -14,8 +15,6 @@ use lib.Signed.{mag}
 use Rattle.number_decimal.specs.Digits.{most_digits, most_places, most_uncertain, most_bytes, value_of, scale_of}
 use Rattle.number_decimal.specs.Reading.{reading_of}
 use Rattle.number_decimal.specs.Grammar.{SignText, PointText, UncertaintyText, IsSize, IsNumber}
-use Rattle.number_decimal.specs.declared.Reading.{Reading}
-use Rattle.number_decimal.specs.declared.Reading.TheVariants.{Number, Nothing}
 use Rattle.number_decimal.proofs.Values.{ten-le, value-below}
 use Rattle.number_decimal.proofs.Sound.{number_is}
 
@@ -33,7 +32,7 @@ sign-keeps true zero = omega arith
 sign-keeps true (suc m) = omega arith
 sign-keeps false m = omega arith
 
-pub number_small : (t : List ℕ) (z : ℤ) → reading_of t ≡ Number z → mag z < 10 ^ 15
+pub number_small : (t : List ℕ) (z : ℤ) → reading_of t ≡ Some z → mag z < 10 ^ 15
 number_small t z e =
     let h = number_is t z e in
     rw h.worth (omega (arith, sign-keeps h.negative h.size, size_small h.is_size))
@@ -64,6 +63,6 @@ number_short h =
     omega (arith, ap length h.text)
 
 -- a longer text is none
-pub long-none : (t : List ℕ) (r : Reading) → reading_of t ≡ r → most_bytes < length t → Nothing ≡ reading_of t
-long-none t (Number z) e h = absurd (omega (arith, number_short (number_is t z e)))
-long-none t Nothing e h = sym e
+pub long-none : (t : List ℕ) (r : Option ℤ) → reading_of t ≡ r → most_bytes < length t → None ≡ reading_of t
+long-none t (Some z) e h = absurd (omega (arith, number_short (number_is t z e)))
+long-none t None e h = sym e

@@ -2,11 +2,9 @@
 -- least one digit on each side and at most 6 after it, then optionally 1 to 4 digits of uncertainty in round brackets".
 -- Document 02, No. 4: "Numbers shall allow a point with digits on one side only".
 -- Assumes nothing.
-use Rattle.std.specs.Prelude.{ℕ, ◌+◌, ◌*◌, ◌≤◌, ◌≡◌, Bool, true, false, cond, List, [], ◌∷◌, ◌++◌, length, ℤ, pos, neg_ℤ}
+use Rattle.std.specs.Prelude.{ℕ, ◌+◌, ◌*◌, ◌≤◌, ◌≡◌, Bool, true, false, cond, List, [], ◌∷◌, ◌++◌, length, ℤ, pos, neg_ℤ, Option, Some, None}
 use Rattle.text.specs.Run.{all, is_digit}
 use Rattle.number_decimal.specs.Digits.{most_digits, most_places, most_uncertain, value_of, scale_of}
-use Rattle.number_decimal.specs.declared.Reading.{Reading}
-use Rattle.number_decimal.specs.declared.Reading.TheVariants.{Number, Nothing}
 
 -- "an optional sign", and whether it is a minus
 pub data SignText : Bool → List ℕ → Type 0 where
@@ -60,6 +58,6 @@ abbrev pub IsNumber : List ℕ → ℤ → Type 0
 IsNumber = NumberBy PointText
 
 -- "The reading of a number answers either the number or that there is none"
-abbrev pub ReadAs : List ℕ → Reading → Type 0
-ReadAs t (Number z) = IsNumber t z
-ReadAs t Nothing = (z : ℤ) → IsNumber t z → ⊥
+abbrev pub ReadAs : List ℕ → Option ℤ → Type 0
+ReadAs t (Some z) = IsNumber t z
+ReadAs t None = (z : ℤ) → IsNumber t z → ⊥

@@ -1,32 +1,11 @@
 // Reads a number (documents 01, "A line, a number", and 02, No. 4) as an exact signed decimal in millionths.
-// A client cites Reading (reading_of, isNumber). That this reading is the documents' wording (Grammar) is the theorem `agree` of proofs/Agree.antt.
+// A client cites Reading (reading_of, is_number). That this reading is the documents' wording (Grammar) is the theorem `agree` of proofs/Agree.antt.
 #![tactic(auto)]
 
 ghost use Rattle.std.specs.Prelude.{◌≡◌, ◌+◌, ◌*◌, ◌^◌, ◌≤◌, ◌<◌, length, take};
 ghost use Rattle.text.specs.Run.{run_of, is_digit};
 ghost use Rattle.number_decimal.specs.Digits.{most_bytes, value_from, scale_of};
 ghost use Rattle.number_decimal.specs.Reading.{Small, whole_of, closes_bracket, is_tail, size_of, point_length, unsigned_of, sign_length, signed_of, reading_of};
-
-// What reading a number finds: the number, in millionths, or that there is none.
-#[derive(Clone, Copy)]
-pub enum Reading {
-    Number(i64),
-    Nothing,
-}
-
-// The same with no sign.
-#[derive(Clone, Copy)]
-pub enum Size {
-    Millionths(u64),
-    Neither,
-}
-
-// What reading digits finds: the whole number that they write, or that a text is not a few digits.
-#[derive(Clone, Copy)]
-pub enum Whole {
-    Worth(u64),
-    NoDigits,
-}
 
 // The digits that a text begins with: how many, and the number that they write.
 #[derive(Clone, Copy)]
@@ -51,33 +30,32 @@ fn read_run(acc: u64, s: &[u8]) -> DigitRun
     ensures { (result.count ≡ run_of is_digit s.now) × (result.value ≡ value_from acc (take (run_of is_digit s.now) s.now)) }
 {
     let mut value = acc;
-    let mut i = 0;
-    while i < s.len() {
-        let b = s[i];
+    for (i, &b) in s.iter().enumerate() {
         if !text::is_between(b, b'0', b'9') {
             return DigitRun { count: i, value };
         }
-        value = value * 10 + (b - b'0') as u64;
-        i += 1;
+        value = value * 10 + u64::from(b - b'0');
     }
-    DigitRun { count: i, value }
+    DigitRun {
+        count: s.len(),
+        value,
+    }
 }
 
 // The whole number that 1 to 9 digits write.
-pub fn read_digits(s: &[u8]) -> Whole
+#[tactic(auto, unfolding(crate::specs::Reading::whole_of))]
+pub fn read_digits(s: &[u8]) -> Option<u64>
     ensures { result ≡ whole_of s.now }
 {
-    if s.len() < 1 {
-        return Whole::NoDigits;
-    }
-    if MOST_DIGITS < s.len() {
-        return Whole::NoDigits;
+    if s.is_empty() || MOST_DIGITS < s.len() {
+        return None;
     }
     let digits = read_run(0, s);
-    if digits.count != s.len() {
-        return Whole::NoDigits;
+    if digits.count == s.len() {
+        Some(digits.value)
+    } else {
+        None
     }
-    Whole::Worth(digits.value)
 }
 
 // What the last of n digits after the point is worth, in millionths.
@@ -96,64 +74,48 @@ fn scale(n: usize) -> u64
 }
 
 // Whether u is 1 to 4 digits, a bracket that closes, and nothing more.
+#[tactic(auto, unfolding(crate::specs::Reading::closes_bracket))]
 fn closes_bracket(u: &[u8]) -> bool
     ensures { result ≡ closes_bracket u.now }
 {
     let n = text::run::run_between(u, b'0', b'9');
-    if n < 1 {
-        return false;
-    }
-    if MOST_UNCERTAIN < n {
-        return false;
-    }
-    if u.len() != n + 1 {
-        return false;
-    }
-    u[n] == b')'
+    1 <= n && n <= MOST_UNCERTAIN && u.len() == n + 1 && u[n] == b')'
 }
 
 // Whether s, which follows the digits, is empty or an uncertainty in round brackets.
+#[tactic(auto, unfolding(crate::specs::Reading::is_tail))]
 fn is_tail(s: &[u8]) -> bool
     ensures { result ≡ is_tail s.now }
 {
-    if s.len() == 0 {
-        return true;
+    match s {
+        [] => true,
+        [b'(', rest @ ..] => closes_bracket(rest),
+        _ => false,
     }
-    if s[0] != b'(' {
-        return false;
-    }
-    closes_bracket(&s[1..])
 }
 
 // The size of so many digits, so many of them after the point, that write a value, and of what follows, if their numbers are right.
-fn sized(digits: usize, places: usize, value: u64, tail: &[u8]) -> Size
+#[tactic(auto, unfolding(crate::specs::Reading::size_of))]
+fn sized(digits: usize, places: usize, value: u64, tail: &[u8]) -> Option<u64>
     requires { value < 10 ^ digits }
     ensures { (result ≡ size_of digits places value tail.now) × Small result }
 {
-    if digits < 1 {
-        return Size::Neither;
+    if 1 <= digits && digits <= MOST_DIGITS && places <= MOST_PLACES && is_tail(tail) {
+        Some(value * scale(places))
+    } else {
+        None
     }
-    if MOST_DIGITS < digits {
-        return Size::Neither;
-    }
-    if MOST_PLACES < places {
-        return Size::Neither;
-    }
-    if !is_tail(tail) {
-        return Size::Neither;
-    }
-    Size::Millionths(value * scale(places))
 }
 
 // How long the point at a place of s is: 1, or 0 where there is none.
 fn point_length(s: &[u8], at: usize) -> usize
     ensures { result ≡ point_length s.now at }
 {
-    if text::has(s, at, b'.') { 1 } else { 0 }
+    usize::from(text::has(s, at, b'.'))
 }
 
 // A number with no sign: digits, a point, digits, each of them or none, and what follows. Without a point no digit follows the first ones.
-fn unsigned(s: &[u8]) -> Size
+fn unsigned(s: &[u8]) -> Option<u64>
     requires { length s.now ≤ most_bytes }
     ensures { (result ≡ unsigned_of s.now) × Small result }
 {
@@ -170,37 +132,27 @@ fn unsigned(s: &[u8]) -> Size
 }
 
 // The number of that size, below zero or not.
-fn with_sign(negative: bool, z: Size) -> Reading
+fn with_sign(negative: bool, z: Option<u64>) -> Option<i64>
     requires { Small z }
     ensures { result ≡ signed_of negative z }
 {
-    let Size::Millionths(m) = z else {
-        return Reading::Nothing;
-    };
-    let v = m as i64;
-    if negative {
-        Reading::Number(-v)
-    } else {
-        Reading::Number(v)
-    }
+    let v = z? as i64;
+    if negative { Some(-v) } else { Some(v) }
 }
 
 // How long the sign is that s begins with: 1, or 0 where there is none.
 fn sign_length(s: &[u8]) -> usize
     ensures { result ≡ sign_length s.now }
 {
-    if text::has(s, 0, b'-') {
-        return 1;
-    }
-    if text::has(s, 0, b'+') { 1 } else { 0 }
+    usize::from(text::has(s, 0, b'-') || text::has(s, 0, b'+'))
 }
 
 // The number that s is, in millionths, or that it is none.
-pub fn read_number(s: &[u8]) -> Reading
+pub fn read_number(s: &[u8]) -> Option<i64>
     ensures { result ≡ reading_of s.now }
 {
     if MOST_BYTES < s.len() {
-        return Reading::Nothing;
+        return None;
     }
     let sign = sign_length(s);
     with_sign(text::has(s, 0, b'-'), unsigned(&s[sign..]))

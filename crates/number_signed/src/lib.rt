@@ -8,9 +8,5 @@ ghost use Rattle.std.specs.Prelude.{◌≡◌, nat_abs};
 pub fn magnitude(v: i64) -> u64
     ensures { result ≡ nat_abs v }
 {
-    if v < 0 {
-        let less = v + 1;
-        return (-less) as u64 + 1;
-    }
-    v as u64
+    v.unsigned_abs()
 }

@@ -5,20 +5,17 @@ use mathlib.Core.List.{List}
 use Prim.Native.Nat.{ℕ, ◌≤◌}
 use native.Mathlib.Omega.{arith}
 use borrow.Author.Tests.{leb-true}
+use Rattle.std.specs.Prelude.{Some, None}
 use lib.Dec.{leb}
 use lib.ListN.{length}
 use Rattle.text.proofs.Bools.{cond-first}
 use Rattle.program_printing.specs.Print.{printed_in}
-use Rattle.program_printing.specs.declared.Printed.TheVariants.{Bytes, NoRoom}
-
-no_bytes : (n : ℕ) → NoRoom ≡ Bytes n → ⊥
-no_bytes n e = let z : ◌≡◌ {A = ℕ} 0 1 = cc in omega arith
 
 -- no more bytes are printed than are lent
-pub printed-within : (out t : List ℕ) (n : ℕ) → printed_in out t ≡ Bytes n → n ≤ length out
+pub printed-within : (out t : List ℕ) (n : ℕ) → printed_in out t ≡ Some n → n ≤ length out
 unfolding printed_in
 printed-within out t n e =
-    let h = cond-first (leb (length t) (length out)) (Bytes (length t)) NoRoom (Bytes n) (no_bytes n) e in
+    let h = cond-first (leb (length t) (length out)) (Some (length t)) None (Some n) (λ q. cc) e in
     let q = h.1 in
     let l : length t ≡ n = cc in
     omega (arith, leb-true (length t) (length out) h.0)

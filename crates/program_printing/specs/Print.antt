@@ -1,6 +1,6 @@
 -- The printed report (document 01, "Measured examples", the program `desk`).
 -- Assumes nothing.
-use Rattle.std.specs.Prelude.{ℕ, ◌-◌, ◌/◌, ◌%◌, cond, List, [], ◌∷◌, ◌++◌, leb, eqb, length, get_or}
+use Rattle.std.specs.Prelude.{ℕ, ◌-◌, ◌/◌, ◌%◌, cond, Option, Some, None, List, [], ◌∷◌, ◌++◌, leb, eqb, length, get_or}
 use Rattle.text.specs.Quote.{bytes}
 use Rattle.text_copies.specs.Each.{lines_from}
 use Rattle.number_decimal.specs.Digits.{digit, last_digits}
@@ -13,8 +13,6 @@ use Rattle.rows.specs.Rows.{row_count}
 use Rattle.rows.specs.declared.Row.{Row}
 use Rattle.desk_questions.specs.Report.{reported_of}
 use Rattle.program_printing.specs.Page.{decimal_most}
-use Rattle.program_printing.specs.declared.Printed.{Printed}
-use Rattle.program_printing.specs.declared.Printed.TheVariants.{Bytes, NoRoom}
 
 -- a number below 100 in two digits
 abbrev pub two_digits : ℕ → List ℕ
@@ -93,5 +91,5 @@ abbrev pub printed_sheets : List ℕ → List ℕ → List ℕ
 printed_sheets t n = printed_lent t n 0 ++ printed_lent t n 1
 
 -- what the printing of a text answers: how many bytes it is, or that `out` is shorter
-unfoldable pub printed_in : List ℕ → List ℕ → Printed
-printed_in out t = cond (leb (length t) (length out)) (Bytes (length t)) NoRoom
+unfoldable pub printed_in : List ℕ → List ℕ → Option ℕ
+printed_in out t = cond (leb (length t) (length out)) (Some (length t)) None

@@ -23,66 +23,62 @@ pub struct Page {
     pub len: usize,
 }
 
-// A page with nothing on it.
-pub(crate) fn empty_page() -> Page
-    ensures { (page_text result ≡ []) × (result.len ≡ 0) }
-{
-    Page {
-        bytes: [0u8; PAGE_MOST],
-        len: 0,
-    }
-}
-
-// The page with a piece of text more.
-pub(crate) fn put(p: Page, piece: &[u8]) -> Page
-    requires { p.len + length piece.now ≤ page_most }
-    ensures { Adds p piece.now result }
-{
-    let at = p.len;
-    let mut bytes = p.bytes;
-    text_copies::copy_in(&mut bytes, at, piece);
-    Page {
-        bytes,
-        len: at + piece.len(),
-    }
-}
-
-// The page with one byte more.
-pub(crate) fn put_byte(p: Page, b: u8) -> Page
-    requires { p.len + 1 ≤ page_most }
-    ensures { Adds p (b ∷ []) result }
-{
-    put(p, &[b])
-}
-
-// The page with a number below 100 more, in two digits.
-pub(crate) fn put_two_digits(p: Page, n: usize) -> Page
-    requires { (p.len + 2 ≤ page_most) × (n < 100) }
-    ensures { Adds p (two_digits n) result }
-{
-    let tens = b'0' + (n / 10) as u8;
-    let ones = b'0' + (n % 10) as u8;
-    put(p, &[tens, ones])
-}
-
 // The most digits of a number.
 const DIGITS_MOST: usize = 20;
 
-// The page with a number more.
-pub(crate) fn put_decimal(p: Page, n: usize) -> Page
-    requires { p.len + decimal_most ≤ page_most }
-    ensures { Adds p (decimal_text n) result × (result.len ≤ p.len + decimal_most) }
-{
-    let mut digits = [0u8; DIGITS_MOST];
-    let mut rest = n;
-    let mut i = DIGITS_MOST;
-    while 0 < i {
-        i -= 1;
-        digits[i] = b'0' + (rest % 10) as u8;
-        if rest < 10 {
-            return put(p, &digits[i..]);
+impl Page {
+    // A page with nothing on it.
+    pub(crate) fn empty() -> Page
+        ensures { (page_text result ≡ []) × (result.len ≡ 0) }
+    {
+        Page {
+            bytes: [0u8; PAGE_MOST],
+            len: 0,
         }
-        rest /= 10;
     }
-    put(p, &digits)
+
+    // Puts a piece of text on the page.
+    pub(crate) fn put(&mut self, piece: &[u8])
+        requires { self.old.len + length piece.now ≤ page_most }
+        ensures { Adds self.old piece.now self.new }
+    {
+        text_copies::copy_in(&mut self.bytes, self.len, piece);
+        self.len += piece.len();
+    }
+
+    // Puts one byte on the page.
+    pub(crate) fn put_byte(&mut self, b: u8)
+        requires { self.old.len + 1 ≤ page_most }
+        ensures { Adds self.old (b ∷ []) self.new }
+    {
+        self.put(&[b]);
+    }
+
+    // Puts a number below 100 on the page, in two digits.
+    pub(crate) fn put_two_digits(&mut self, n: usize)
+        requires { (self.old.len + 2 ≤ page_most) × (n < 100) }
+        ensures { Adds self.old (two_digits n) self.new }
+    {
+        let tens = b'0' + (n / 10) as u8;
+        let ones = b'0' + (n % 10) as u8;
+        self.put(&[tens, ones]);
+    }
+
+    // Puts a number on the page.
+    pub(crate) fn put_decimal(&mut self, n: usize)
+        requires { self.old.len + decimal_most ≤ page_most }
+        ensures { Adds self.old (decimal_text n) self.new × (self.new.len ≤ self.old.len + decimal_most) }
+    {
+        let mut digits = [0u8; DIGITS_MOST];
+        let mut rest = n;
+        for i in (0..DIGITS_MOST).rev() {
+            digits[i] = b'0' + (rest % 10) as u8;
+            if rest < 10 {
+                self.put(&digits[i..]);
+                return;
+            }
+            rest /= 10;
+        }
+        self.put(&digits);
+    }
 }

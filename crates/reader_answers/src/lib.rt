@@ -1,28 +1,27 @@
-// The answers of a part of a log that is fed, and their numbers (document 02, No. 10).
+// Why a part of a log that is fed is refused, and the number of what it gets (document 02, No. 10).
 #![tactic(auto)]
 
 ghost use Rattle.std.specs.Prelude.{◌≡◌};
 ghost use Rattle.reader_answers.specs.Number.{feed_number};
 
-// The answers of a part.
-#[derive(Clone, Copy)]
-pub enum FeedAnswer {
-    Accepted,
+// Why a part is refused.
+#[derive(Clone, Copy, Debug, PartialEq, Eq)]
+pub enum FeedRefusal {
     Unsound,
     BadShape,
     ForeignOverwrite,
     EndInside,
 }
 
-// The number of an answer.
-pub fn feed_number(a: FeedAnswer) -> u8
-    ensures { result ≡ feed_number a }
+// The number of what a part gets: 0 where it is not refused.
+pub fn feed_number(answer: Result<(), FeedRefusal>) -> u8
+    ensures { result ≡ feed_number answer }
 {
-    match a {
-        FeedAnswer::Accepted => 0,
-        FeedAnswer::Unsound => 2,
-        FeedAnswer::BadShape => 18,
-        FeedAnswer::ForeignOverwrite => 19,
-        FeedAnswer::EndInside => 20,
+    match answer {
+        Ok(()) => 0,
+        Err(FeedRefusal::Unsound) => 2,
+        Err(FeedRefusal::BadShape) => 18,
+        Err(FeedRefusal::ForeignOverwrite) => 19,
+        Err(FeedRefusal::EndInside) => 20,
     }
 }

@@ -3,7 +3,7 @@
 use mathlib.Core.Path.{◌≡◌, refl, sym, ap, subst, ◌∙◌}
 use mathlib.Core.Bool.{Bool, true, false}
 use mathlib.Core.List.{List, [], ◌∷◌, ◌++◌, append_assoc}
-use Prim.Native.Nat.{ℕ, ◌+◌, ◌-◌, ◌≤◌, ◌<◌}
+use Prim.Native.Nat.{ℕ, ◌+◌, ◌-◌, ◌≤◌, ◌<◌, min}
 use native.Mathlib.Omega.{arith}
 use borrow.Author.Tests.{le-leb, eq-eqb}
 use lib.ListN.{length, take, drop, length-append}
@@ -43,6 +43,22 @@ pub record Begun (t n k z : List ℕ) (len : ℕ) (part : List ℕ) (m : ℕ) (k
   pub within : m ≤ length part
   pub full : m < length part → m ≡ reader_kept - len
   pub put : k₁ ≡ copied k len (take m part)
+
+pub begun : {t n k z : List ℕ} {len : ℕ} {part : List ℕ} {m : ℕ} {k₁ : List ℕ}
+    → (sound_here t n ≡ true) × (length k ≡ reader_kept) × (length z ≡ reader_state) × (1 ≤ len) × (len ≤ reader_kept) × (undecided (take len k) ≡ true)
+    → m ≡ min (length part) (reader_kept - len) → k₁ ≡ copied k len (take m part) → Begun t n k z len part m k₁
+begun p l e = record {
+  sound = p.0;
+  lk = p.1;
+  lz = p.2;
+  some = p.3;
+  most = p.4;
+  waits = p.5;
+  room = omega (arith, l);
+  within = omega (arith, l);
+  full = λ f. omega (arith, l, f);
+  put = e;
+}
 
 module _ (last : Bool) (t n k z : List ℕ) (len : ℕ) (part : List ℕ) (m : ℕ) (k₁ : List ℕ) (w : Begun t n k z len part m k₁) (b a : ℕ) (t' n' : List ℕ)
     (h : FirstLent t n (take (len + m) k₁) b a t' n') where
@@ -101,9 +117,6 @@ module _ (last : Bool) (t n k z : List ℕ) (len : ℕ) (part : List ℕ) (m : �
   module _ (ne : b ≡ 0 → ⊥) where
     pub taken-less : len < b
     taken-less = let l = kept_less refusal_of store_of last (desk_of t n) (used_of n) xs part m within (first_left b a t' n') g u ne in omega (arith, l, lx)
-
-    pub taken-within : b - len ≤ length part
-    taken-within = omega (arith, lent.within, lall, within)
 
     pub taken-sound : sound_here t' n' ≡ true
     taken-sound = first-sound t n (take len k ++ take m part) b a t' n' lent ne sound

@@ -1,12 +1,13 @@
 -- Laws of what a part leaves.
 -- Assumes nothing.
-use mathlib.Core.Path.{◌≡◌, refl, ap, ◌∙◌}
-use mathlib.Core.Bool.{true, false, cond}
+use mathlib.Core.Path.{◌≡◌, refl, sym, ap, ◌∙◌}
+use mathlib.Core.Bool.{true, false, false≢true, cond}
 use mathlib.Core.List.{List, [], ◌∷◌}
 use Prim.Native.Nat.{ℕ, ◌≤◌}
 use native.Mathlib.Omega.{arith}
-use borrow.Author.Tests.{le-leb, eq-eqb}
+use borrow.Author.Tests.{le-leb, eqb-true, eq-eqb}
 use lib.ListN.{length}
+use Rattle.std.specs.Prelude.{◌==◌}
 use Rattle.desk_state.specs.declared.desk.Desk.{Desk}
 use Rattle.reader_cuts.specs.Reading.{Reading, ended, short, place_for}
 use Rattle.reader_memory.specs.Memory.{reader_kept, reader_state, over_with, padded_kept, only_first, holding, standing}
@@ -25,18 +26,13 @@ pub stop-left : (k z : List ℕ) (a place at e : ℕ) (k' z' : List ℕ) → k' 
 stop-left k z a place at e k' z' x y o p d =
     left-path a a place (place_for a at) d at k' (holding k []) z' (standing z 0 (over_with a)) refl p (x ∙ none-held k) (y ∙ ap (standing z 0) o)
 
--- bytes are kept
-pub hold-left : (k z bs : List ℕ) (at : ℕ) (k' z' : List ℕ) → k' ≡ holding k bs → z' ≡ standing z (length bs) 0 → (d : Desk)
-    → left 0 0 d at k' z' ≡ left_in k z (short false d at bs)
-hold-left k z bs at k' z' x y d = left-path 0 0 0 0 d at k' (holding k bs) z' (standing z (length bs) 0) refl refl x y
-
 -- the last part's bytes that decide no record
-pub short-ended : (d : Desk) (at : ℕ) (bs : List ℕ) → length bs ≡ 0 → ended 0 d at ≡ short true d at bs
+pub short-ended : (d : Desk) (at : ℕ) (bs : List ℕ) → true ≡ (length bs == 0) → ended 0 d at ≡ short true d at bs
 short-ended d at [] e = refl
-short-ended d at (b ∷ bs) e = absurd (omega (arith, e))
+short-ended d at (b ∷ bs) e = absurd (omega (arith, eqb-true (length (b ∷ bs)) 0 (sym e)))
 
-pub short-inside : (d : Desk) (at : ℕ) (bs : List ℕ) → (length bs ≡ 0 → ⊥) → ended 20 d at ≡ short true d at bs
-short-inside d at [] e = absurd (e refl)
+pub short-inside : (d : Desk) (at : ℕ) (bs : List ℕ) → false ≡ (length bs == 0) → ended 20 d at ≡ short true d at bs
+short-inside d at [] e = absurd (false≢true e)
 short-inside d at (b ∷ bs) e = refl
 
 -- in memory of a reader's lengths

@@ -6,63 +6,63 @@ ghost use Rattle.desk_state.specs.declared.desk.Desk.{Desk};
 ghost use Rattle.reader_answers.specs.Number.{feed_number};
 ghost use Rattle.reader_cuts.specs.Reading.{ended, short, place_for};
 ghost use Rattle.reader_memory.specs.Memory.{over_with};
+ghost use Rattle.reader_memory.specs.Readers.{StillLent};
+ghost use Rattle.reader_memory.specs.Standings.{standing_number};
 ghost use Rattle.reader_left.specs.Left.{left, left_in};
+ghost use Rattle.reader_left.specs.Refused.{fed_number, fed_place};
 
-use reader_answers::{FeedAnswer, feed_number};
-use reader_memory::{ENDED, GOES_ON};
+use reader_answers::FeedRefusal;
+use reader_memory::{Reader, Standing};
 
-// The answer to a part, and its place: the byte where the refused record starts, else 0.
-#[derive(Clone, Copy)]
-pub struct Fed {
+// Why a part is refused, and the byte where the refused record starts, else 0.
+#[derive(Clone, Copy, Debug, PartialEq, Eq)]
+pub struct Refused {
+    pub refusal: FeedRefusal,
     pub place: usize,
-    pub answer: FeedAnswer,
 }
 
-// The place that goes with an answer.
-pub fn place_for(answer: FeedAnswer, at: usize) -> usize
-    ensures { result ≡ place_for (feed_number answer) at }
+// What a part gets, with its place.
+pub fn placed(answer: Result<(), FeedRefusal>, at: usize) -> Result<(), Refused>
+    ensures number { fed_number result ≡ feed_number answer }
+    ensures place { fed_place result ≡ place_for (feed_number answer) at }
 {
-    if feed_number(answer) == 0 {
-        return 0;
-    }
-    at
+    answer.map_err(|refusal| Refused { refusal, place: at })
 }
 
 // How a reading stands that is over with an answer.
-fn over_with(answer: FeedAnswer) -> usize
-    ensures { result ≡ over_with (feed_number answer) }
+fn over_with(answer: Result<(), FeedRefusal>) -> Standing
+    ensures { standing_number result ≡ over_with (feed_number answer) }
 {
-    let a = feed_number(answer);
-    if a == 0 {
-        return ENDED;
+    match answer {
+        Ok(()) => Standing::Ended,
+        Err(refusal) => Standing::Refused(refusal),
     }
-    a as usize
 }
 
 // The reading is over: nothing is kept.
-pub fn stop(kept: &mut [u8], state: &mut [usize], answer: FeedAnswer, at: usize) -> Fed
-    ensures { (d : Desk) → left (feed_number result.answer) result.place d at kept.new state.new ≡ left_in kept.old state.old (ended (feed_number answer) d at) }
+pub fn stop(reader: &mut Reader, answer: Result<(), FeedRefusal>, at: usize) -> Result<(), Refused>
+    ensures left { (d : Desk) → left (fed_number result) (fed_place result) d at reader.new.kept.now reader.new.state.now ≡ left_in reader.old.kept.now reader.old.state.now (ended (feed_number answer) d at) }
+    ensures lent { StillLent reader.old reader.new }
 {
-    reader_memory::keep_first(kept, 0);
-    reader_memory::put_state(state, 0, over_with(answer));
-    let place = place_for(answer, at);
-    Fed { place, answer }
+    reader.keep_first(0);
+    reader.put_state(0, usize::from(over_with(answer)));
+    placed(answer, at)
 }
 
 // Bytes that do not decide a record are kept; after the last part the reading is over.
-pub fn rest(kept: &mut [u8], state: &mut [usize], bs: &[u8], last: bool, at: usize) -> Fed
-    ensures { (d : Desk) → left (feed_number result.answer) result.place d at kept.new state.new ≡ left_in kept.old state.old (short last d at bs.now) }
+pub fn rest(reader: &mut Reader, bs: &[u8], last: bool, at: usize) -> Result<(), Refused>
+    ensures left { (d : Desk) → left (fed_number result) (fed_place result) d at reader.new.kept.now reader.new.state.now ≡ left_in reader.old.kept.now reader.old.state.now (short last d at bs.now) }
+    ensures lent { StillLent reader.old reader.new }
 {
     if last {
-        if bs.len() == 0 {
-            return stop(kept, state, FeedAnswer::Accepted, at);
-        }
-        return stop(kept, state, FeedAnswer::EndInside, at);
+        let answer = if bs.is_empty() {
+            Ok(())
+        } else {
+            Err(FeedRefusal::EndInside)
+        };
+        return stop(reader, answer, at);
     }
-    reader_memory::hold(kept, bs);
-    reader_memory::put_state(state, bs.len(), GOES_ON);
-    Fed {
-        place: 0,
-        answer: FeedAnswer::Accepted,
-    }
+    reader.hold(bs);
+    reader.put_state(bs.len(), usize::from(Standing::GoesOn));
+    Ok(())
 }

@@ -1,5 +1,5 @@
 // The length that a record of a log tells, and whether the record's bytes so far decide it (document 02, No. 10).
-#![tactic(auto)]
+#![tactic(auto, unfolding(reader_cuts::specs::Reading::undecided, desk_log::specs::Record::length_told))]
 
 ghost use Rattle.std.specs.Prelude.{◌≡◌, ◌<◌};
 ghost use Rattle.desk_log.specs.Record.{length_told};
@@ -16,36 +16,24 @@ pub const LENGTH_MOST: usize = 206;
 pub fn length_told(bs: &[u8]) -> usize
     ensures { (result ≡ length_told bs.now) × (result < 65536) }
 {
-    if bs.len() < 1 {
-        return 0;
+    match bs {
+        [] => 0,
+        [low] => usize::from(*low),
+        [low, high, ..] => usize::from(u16::from_le_bytes([*low, *high])),
     }
-    let low = text::wide(bs[0]);
-    if bs.len() < 2 {
-        return low;
-    }
-    low + 256 * text::wide(bs[1])
 }
 
 // Whether a record has not that length.
 pub fn is_bad_length(n: usize) -> bool
     ensures { result ≡ bad_length n }
 {
-    if n < LENGTH_LEAST {
-        return true;
-    }
-    LENGTH_MOST < n
+    n < LENGTH_LEAST || LENGTH_MOST < n
 }
 
 // Whether the bytes of a record so far leave it undecided.
 pub fn is_undecided(bs: &[u8]) -> bool
     ensures { result ≡ undecided bs.now }
 {
-    if bs.len() < HEAD {
-        return true;
-    }
     let n = length_told(bs);
-    if is_bad_length(n) {
-        return false;
-    }
-    bs.len() < n
+    bs.len() < HEAD || !is_bad_length(n) && bs.len() < n
 }

@@ -3,10 +3,10 @@
 use mathlib.Core.Path.{◌≡◌, refl, sym, ◌∙◌}
 use mathlib.Core.Bool.{Bool, true, false, false≢true}
 use mathlib.Core.List.{List}
-use Prim.Native.Nat.{ℕ, ◌+◌, ◌-◌, ◌≤◌, ◌<◌}
+use Prim.Native.Nat.{ℕ, ◌+◌, ◌≤◌, ◌<◌}
 use native.Mathlib.Omega.{arith}
 use borrow.Author.Tests.{ltb-true, ltb-false, leb-true, eqb-true}
-use lib.Dec.{ltb, leb, eqb}
+use lib.Dec.{ltb, eqb}
 use lib.ListN.{length, get_or, get_or-eq_default}
 use Rattle.text.proofs.Bools.{and_both, not-holds}
 use Rattle.line_kinds.specs.Kinds.{fits}
@@ -15,7 +15,6 @@ use Rattle.line_items.specs.Items.{item_count}
 use Rattle.desk_log.specs.Record.{head_length, bench_told, item_told, value_told}
 use Rattle.desk_state.specs.Desks.{bench_count}
 use Rattle.desk_soundness.specs.SoundLog.{log_most}
-use Rattle.desk_soundness.proofs.Counts.{count-taken}
 use Rattle.reader_records.specs.Shape.{shaped}
 
 -- the tests of the shape, one by one
@@ -49,10 +48,6 @@ short-shapeless start r h =
     let k = fitting (item_told r) (value_told r) p.fit in
     let z : item_told r ≡ 0 = get_or-eq_default r 0 (omega arith) in
     omega (arith, k.some, z))
-
--- what is left of the log holds a record exactly when it ends within the log
-pub ends-within : (start n most : ℕ) → start ≤ most → leb n (most - start) ≡ leb (start + n) most
-ends-within start n most h = sym (count-taken start n most h)
 
 -- a record of that shape has a whole head, and its item is known
 pub shaped-long : (start : ℕ) (r : List ℕ) → shaped start r ≡ true → head_length ≤ length r

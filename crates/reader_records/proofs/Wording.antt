@@ -10,7 +10,7 @@ use lib.ListN.{length, get_or, drop}
 use Rattle.line_values.proofs.Values.{value-is, value_taken}
 use Rattle.line_items.specs.Items.{item_row}
 use Rattle.line_items.specs.Typed.{line_most}
-use Rattle.line_kinds.specs.Kinds.{passes, fits}
+use Rattle.line_kinds.specs.Kinds.{fits}
 use Rattle.line_kinds.proofs.Wording.{passes-is, passes-taken}
 use Rattle.line_kinds.proofs.Fitting.{fitting}
 use Rattle.desk_log.specs.Record.{head_length, record_length, record_of, length_told, bench_told, item_told, value_told}

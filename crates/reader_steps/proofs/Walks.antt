@@ -5,7 +5,7 @@ use mathlib.Core.Bool.{Bool, true, false}
 use mathlib.Core.List.{List, [], append-nil}
 use Prim.Native.Nat.{ℕ, ◌+◌, ◌-◌, ◌≤◌}
 use native.Mathlib.Omega.{arith}
-use borrow.Author.Tests.{eqb-true, eqb-false}
+use borrow.Author.Tests.{eqb-true, eqb-false, ne_eqb}
 use lib.Dec.{eqb}
 use lib.ListN.{length, take, drop, length-drop}
 use lib.Seq.{length-take-le, drop-drop}
@@ -48,9 +48,6 @@ pub record Walked (t₀ n₀ part t n : List ℕ) (i : ℕ) : Type 0 where
   pub sound : sound_here t₀ n₀ ≡ true → sound_here t n ≡ true
   pub walked : sound_here t₀ n₀ ≡ true → (last : Bool) → read_on last (desk_of t₀ n₀) (used_of n₀) part ≡ read_on last (desk_of t n) (used_of n) (drop i part)
 
-pub walk_none : (t n part : List ℕ) → Walked t n part t n 0
-walk_none t n part = record { within = omega arith; same_length = (refl, refl); sound = λ s. s; walked = λ s last. refl }
-
 module _ (t₀ n₀ part t n : List ℕ) (i : ℕ) (w : Walked t₀ n₀ part t n i) (b a : ℕ) (t' n' : List ℕ)
     (lent : FirstLent t n (take (length part - i) (drop i part)) b a t' n') where
   -- the bytes as they are lent are the rest of the part
@@ -85,6 +82,17 @@ module _ (t₀ n₀ part t n : List ℕ) (i : ℕ) (w : Walked t₀ n₀ part t 
           rw e
           (ap (read_on last (desk_of t n) (used_of n)) (sym (append-nil (drop i part))) ∙ g.stops last [] (eqb-false a 0 e)
           ∙ ap (λ (d : Desk). ended a d (used_of n)) (sym same.0) ∙ ap (λ (u : ℕ). ended a (desk_of t' n') u) (sym same.1))
+
+  -- a record that is refused
+  pub walk-refused : b ≡ 0 → (a ≡ 0 → ⊥) → PartLent t₀ n₀ part 0 a t' n'
+  walk-refused z ne = record {
+    read = λ s last.
+        let e : stopped_as last i a (desk_of t' n') (used_of n') part ≡ stopped_as last 0 a (desk_of t' n') (used_of n') part = rw (ne_eqb a 0 ne) in
+        (walk-stops z).read s last ∙ e;
+    waits = λ s e. absurd (ne e);
+    within = omega arith;
+    same_length = lengths;
+  }
 
   pub walk-goes : (b ≡ 0 → ⊥) → Walked t₀ n₀ part t' n' (i + b)
   walk-goes ne = record {

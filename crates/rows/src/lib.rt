@@ -2,7 +2,7 @@
 #![tactic(auto)]
 
 ghost use Rattle.std.specs.Prelude.{◌≡◌};
-ghost use Rattle.rows.specs.Rows.{row_of, no_rows, missing};
+ghost use Rattle.rows.specs.Rows.{row_of, judged_row, no_rows, missing};
 
 pub const ROW_COUNT: usize = 25;
 
@@ -32,6 +32,16 @@ pub fn make_row(level: u8, reason: u8) -> Row
     Row { level, reason }
 }
 
+// The row of a value by its level, or of one that cannot be judged, which is C.
+pub fn judged_row(level: Option<u8>) -> Row
+    ensures { result ≡ judged_row level }
+{
+    match level {
+        Some(level) => make_row(level, 0),
+        None => make_row(2, 2),
+    }
+}
+
 // Rows with no alert.
 pub fn no_rows() -> Rows
     ensures { result ≡ no_rows }
@@ -46,11 +56,9 @@ pub fn no_rows() -> Rows
 }
 
 // Whether the value of an item is missing: empty or unassigned.
+#[tactic(auto, unfolding(crate::specs::Rows::missing))]
 pub fn is_missing(v: &[u8]) -> bool
     ensures { result ≡ missing v.now }
 {
-    if v.len() == 0 {
-        return true;
-    }
-    line_values::is_unassigned(v)
+    v.is_empty() || line_values::is_unassigned(v)
 }

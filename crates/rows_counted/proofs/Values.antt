@@ -40,9 +40,9 @@ in_table : (k : ℕ) → k < 12 → of_items (rule_of (13 + k)) ≡ true
 unfolding rules rule_of
 in_table = agree (λ (k : ℕ). of_items (rule_of (13 + k))) (λ (k : ℕ). true) true 12 refl
 
-pub rule-items : (row : ℕ) → of_items (rule_of row) ≡ true
+pub rule_items : (row : ℕ) → of_items (rule_of row) ≡ true
 unfolding rule_of
-rule-items row = go (leb 13 row) (leb row 24) refl refl
+rule_items row = go (leb 13 row) (leb row 24) refl refl
   where
     go : (a b : Bool) → leb 13 row ≡ a → leb row 24 ≡ b → of_items (rule_of row) ≡ true
     go false b e f = simp e

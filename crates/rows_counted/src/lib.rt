@@ -1,28 +1,28 @@
 // Rows 13 to 24 of a sheet's block of memory, by the table of rules (document 02, No. 11).
 #![tactic(auto)]
 
-ghost use Rattle.std.specs.Prelude.{◌≡◌, true};
+ghost use Rattle.std.specs.Prelude.{◌≡◌, ◌-◌, true};
 ghost use Rattle.line_items.specs.Items.{is_item};
-ghost use Rattle.desk_memory.specs.Memory.{sheet_from};
+ghost use Rattle.desk_memory.specs.Memory.{item_in, sheet_from};
 ghost use Rattle.rows_counts.specs.Counts.{rule_row, count_row};
-ghost use Rattle.desk_state.specs.Sheets.{value_at};
+ghost use Rattle.desk_state.specs.Sheets.{value_in, value_at};
 ghost use Rattle.rows_counted.specs.Items.{of_items};
 
 use rows::{Row, make_row};
 use rows_counts::{Rule, above_row, agree_row, differ_row, present_row, rising_row};
 
-// The value of an item that is there.
-fn value_of<'a>(texts: &'a [u8], numbers: &[usize], item: usize) -> &'a [u8]
-    requires { is_item item ≡ true }
-    ensures { result.now ≡ value_at (sheet_from texts.now numbers.now) item }
+// The value at the place of an item, which is that of the item in a sheet's block of memory.
+pub fn value_of<'a>(texts: &'a [u8], numbers: &[usize], item: usize) -> &'a [u8]
+    ensures place { result.now ≡ value_in (item_in texts.now numbers.now (item - 1)) }
+    ensures item { is_item item ≡ true → result.now ≡ value_at (sheet_from texts.now numbers.now) item }
 {
-    desk_memory::value_at(texts, numbers, item - 1)
+    desk_memory::value_at(texts, numbers, item.saturating_sub(1))
 }
 
 // The row of a rule, of the values of the items that it names.
 fn ruled_row(rule: Rule, texts: &[u8], numbers: &[usize]) -> Row
-    requires { of_items rule ≡ true }
-    ensures { result ≡ rule_row (value_at (sheet_from texts.now numbers.now)) rule }
+    requires { of_items (Some rule) ≡ true }
+    ensures { result ≡ rule_row (value_at (sheet_from texts.now numbers.now)) (Some rule) }
 {
     match rule {
         Rule::Present(i) => present_row(value_of(texts, numbers, i)),
@@ -42,16 +42,16 @@ fn ruled_row(rule: Rule, texts: &[u8], numbers: &[usize]) -> Row
             value_of(texts, numbers, b),
             value_of(texts, numbers, c),
         ),
-        Rule::NoRule => make_row(0, 0),
     }
 }
 
 // A row from 13 to 24 in a profile; other rows have no alert.
+#[tactic(auto, unfolding(rows_counts::specs::Counts::count_row))]
 pub fn counted_row(profile: u64, row: usize, texts: &[u8], numbers: &[usize]) -> Row
     ensures { result ≡ count_row profile (value_at (sheet_from texts.now numbers.now)) row }
 {
-    if !rows_counts::is_kept(profile, row) {
-        return make_row(0, 0);
+    match rows_counts::rule_of(row) {
+        Some(rule) if rows_counts::is_kept(profile, row) => ruled_row(rule, texts, numbers),
+        _ => make_row(0, 0),
     }
-    ruled_row(rows_counts::rule_of(row), texts, numbers)
 }

@@ -1,83 +1,64 @@
 -- What rows 13 to 24 say in the request's words: shown once over the table, by the rule and not by the row.
 -- Assumes nothing.
+use Rattle.std.specs.Prelude.{Option, Some, None}
 use mathlib.Core.Path.{◌≡◌, refl, sym, ap, ◌∙◌}
-use mathlib.Core.Bool.{Bool, true, false, cond, not, ◌||◌, false≢true, true≢false}
+use mathlib.Core.Bool.{Bool, true, false, cond, false≢true}
 use mathlib.Core.List.{List}
 use mathlib.Core.Logic.{◌⊎◌, inl, inr, ◌↔◌}
 use Prim.Native.Nat.{ℕ, ◌+◌, ◌-◌, ◌≤◌, ◌<◌}
 use native.Mathlib.Omega.{arith}
-use borrow.Author.Tests.{ltb-false, not-true}
-use lib.Dec.{ltb, T}
-use lib.IntN.{ℤ, pos, negsuc}
-use lib.Signed.{lt_z, ◌<ℤ◌, <ℤ_irrefl}
+use Rattle.std.proofs.lemmas.Int.{ints}
+use lib.IntN.{ℤ, pos}
+use lib.Signed.{◌<ℤ◌, <ℤ_irrefl}
 use Rattle.text.specs.Quote.{bytes}
 use Rattle.text.specs.Run.{run_of, has_at, kind_at, between}
-use Rattle.text.proofs.Bools.{not-holds, or-neither, and_is, or_is}
+use Rattle.text.proofs.Bools.{and_is, or_is}
 use Rattle.text.proofs.Tables.{agree}
 use Rattle.number_decimal.specs.Reading.{reading_of, unsigned_of, size_of, is_tail}
 use Rattle.number_decimal.specs.Digits.{value_from}
-use Rattle.number_decimal.specs.declared.Reading.{Reading}
-use Rattle.number_decimal.specs.declared.Reading.TheVariants.{Number, Nothing}
 use Rattle.rows.specs.Rows.{row_of, no_alert, missing}
 use Rattle.rows_counts.specs.declared.Rule.{Rule}
-use Rattle.rows_counts.specs.declared.Rule.TheVariants.{Present, PresentIfDiffer, ZeroIfAgree, NotAbove, Rising, NoRule}
-use Rattle.rows_counts.specs.declared.Order.{Order}
+use Rattle.rows_counts.specs.declared.Rule.TheVariants.{Present, PresentIfDiffer, ZeroIfAgree, NotAbove, Rising}
+use Rattle.std.specs.Option.{is_some}
+use Rattle.std.specs.declared.cmp.Ordering.{Ordering}
+use Rattle.std.specs.declared.cmp.Ordering.TheVariants.{Less, Equal, Greater}
+use Rattle.std.specs.Ordering.{MatchOrdering, int_cmp, is_eq, is_ne, is_gt, is_some_and}
+use Rattle.std.proofs.lemmas.Cmp.{int_ranked}
 use Rattle.rows_counts.specs.Counts.{rules, rule_of, keeps, order_of, compared_row, rule_row, count_row}
 use Rattle.rows_counts.specs.Wording.{Holds, There, Both, compared, AllThere, Broken, reason_of, Judges}
 use Rattle.rows_counts.proofs.Orders.{first-missing, second-missing, both-known}
 
--- tests of whole numbers, and what they tell
-holds : (b : Bool) → T b → b ≡ true
-holds true t = refl
-holds false t = absurd t
+-- the three tests of how two numbers stand, and what they tell
+apart : {x y : ℤ} → x <ℤ y → x ≡ y → ⊥
+apart l q = <ℤ_irrefl (rw q at l)
 
-told : (b : Bool) → b ≡ true → T b
-told true e = tt
-told false e = absurd (false≢true e)
+not-both : {x y : ℤ} → x <ℤ y → y <ℤ x → ⊥
+not-both h k = omega (arith, ints)
 
-pub above-is : (x y : ℤ) → (lt_z y x ≡ true) ↔ (y <ℤ x)
-above-is x y = (λ e. record { lt = told (lt_z y x) e }, λ h. holds (lt_z y x) h.lt)
+module _ (x y : ℤ) where
+  above-by : (o : Ordering) → MatchOrdering o (x <ℤ y) (x ≡ y) (y <ℤ x) → (is_gt o ≡ true) ↔ (y <ℤ x)
+  above-by Less l = (λ e. absurd (false≢true e), λ h. absurd (not-both l h))
+  above-by Equal q = (λ e. absurd (false≢true e), λ h. absurd (apart h (sym q)))
+  above-by Greater g = (λ e. g, λ h. refl)
 
-same-so : (x y : ℤ) → (lt_z y x || lt_z x y) ≡ false → x ≡ y
-same-so (pos a) (pos b) e =
-    let h = or-neither (ltb b a) (ltb a b) e in
-    let l = ltb-false b a h.0 in
-    let m = ltb-false a b h.1 in
-    let q : a ≡ b = omega arith in
-    ap pos q
-same-so (pos a) (negsuc b) e = absurd (true≢false e)
-same-so (negsuc a) (pos b) e = absurd (true≢false e)
-same-so (negsuc a) (negsuc b) e =
-    let h = or-neither (ltb a b) (ltb b a) e in
-    let l = ltb-false a b h.0 in
-    let m = ltb-false b a h.1 in
-    let q : a ≡ b = omega arith in
-    ap negsuc q
+  same-by : (o : Ordering) → MatchOrdering o (x <ℤ y) (x ≡ y) (y <ℤ x) → (is_eq o ≡ true) ↔ (x ≡ y)
+  same-by Less l = (λ e. absurd (false≢true e), λ q. absurd (apart l q))
+  same-by Equal q = (λ e. q, λ h. refl)
+  same-by Greater g = (λ e. absurd (false≢true e), λ q. absurd (apart g (sym q)))
 
-not-below-itself : (x : ℤ) → lt_z x x ≡ false
-not-below-itself x = not-holds (lt_z x x) (λ e. <ℤ_irrefl ((above-is x x).0 e))
-
-same_none : (x y : ℤ) → x ≡ y → (lt_z y x || lt_z x y) ≡ false
-same_none x y q = rw (sym q) (simp (not-below-itself x))
-
-pub same-is : (x y : ℤ) → (not (lt_z y x || lt_z x y) ≡ true) ↔ (x ≡ y)
-same-is x y = (λ e. same-so x y (not-true _ e), λ q. ap not (same_none x y q))
-
-pub apart-is : (x y : ℤ) → ((lt_z y x || lt_z x y) ≡ true) ↔ (x ≡ y → ⊥)
-apart-is x y = (λ e q. true≢false (sym e ∙ same_none x y q), λ n. go (lt_z y x || lt_z x y) refl n)
-  where
-    go : (t : Bool) → (lt_z y x || lt_z x y) ≡ t → (x ≡ y → ⊥) → t ≡ true
-    go true e n = refl
-    go false e n = absurd (n (same-so x y e))
+  apart-by : (o : Ordering) → MatchOrdering o (x <ℤ y) (x ≡ y) (y <ℤ x) → (is_ne o ≡ true) ↔ (x ≡ y → ⊥)
+  apart-by Less l = (λ e q. apart l q, λ n. refl)
+  apart-by Equal q = (λ e. absurd (false≢true e), λ n. absurd (n q))
+  apart-by Greater g = (λ e q. apart g (sym q), λ n. refl)
 
 -- the two texts of an order, by what was read of them
-pub known_is : (v w : List ℕ) → ((order_of v w).known ≡ true) ↔ (There v × There w)
-known_is v w = (go (reading_of v) (reading_of w) refl refl, λ h. ap (λ (o : Order). o.known) (both-known v w h.0.worth h.1.worth h.0.read h.1.read))
+pub known_is : (v w : List ℕ) → (is_some (order_of v w) ≡ true) ↔ (There v × There w)
+known_is v w = (go (reading_of v) (reading_of w) refl refl, λ h. ap is_some (both-known v w h.0.worth h.1.worth h.0.read h.1.read))
   where
-    go : (r s : Reading) → reading_of v ≡ r → reading_of w ≡ s → (order_of v w).known ≡ true → There v × There w
-    go (Number x) (Number y) e f k = (record { worth = x; read = e; so = tt }, record { worth = y; read = f; so = tt })
-    go (Number x) Nothing e f k = absurd (false≢true (sym (ap (λ (o : Order). o.known) (second-missing v w x e f)) ∙ k))
-    go Nothing s e f k = absurd (false≢true (sym (ap (λ (o : Order). o.known) (first-missing v w e)) ∙ k))
+    go : (r s : Option ℤ) → reading_of v ≡ r → reading_of w ≡ s → is_some (order_of v w) ≡ true → There v × There w
+    go (Some x) (Some y) e f k = (record { worth = x; read = e; so = tt }, record { worth = y; read = f; so = tt })
+    go (Some x) None e f k = absurd (false≢true (sym (ap is_some (second-missing v w x e f)) ∙ k))
+    go None s e f k = absurd (false≢true (sym (ap is_some (first-missing v w e)) ∙ k))
 
 -- of two numbers that are there, what holds of the two that were read
 module _ (v w : List ℕ) (a : There v) (b : There w) where
@@ -93,21 +74,22 @@ module _ (v w : List ℕ) (a : There v) (b : There w) where
       subst2 : (R : ℤ → ℤ → Type 0) {x x' y y' : ℤ} → x ≡ x' → y ≡ y' → R x y → R x' y'
       subst2 R p q h = rw (p, q) at h
 
-  joined : (f : Order → Bool) (R : ℤ → ℤ → Type 0)
-      → (f (record { known = true; differ = lt_z b.worth a.worth || lt_z a.worth b.worth; above = lt_z b.worth a.worth }) ≡ true) ↔ R a.worth b.worth
-      → (f (order_of v w) ≡ true) ↔ Both R v w
+  joined : (f : Ordering → Bool) (R : ℤ → ℤ → Type 0) → (f (int_cmp a.worth b.worth) ≡ true) ↔ R a.worth b.worth → (is_some_and f (order_of v w) ≡ true) ↔ Both R v w
   joined f R h =
-      let e = ap f (both-known v w a.worth b.worth a.read b.read) in
+      let e = ap (is_some_and f) (both-known v w a.worth b.worth a.read b.read) in
       (λ t. both R (h.0 (sym e ∙ t)), λ r. e ∙ h.1 (of-both R r))
 
-  pub above-both : ((order_of v w).above ≡ true) ↔ Both (λ x y. y <ℤ x) v w
-  above-both = joined (λ o. o.above) (λ x y. y <ℤ x) (above-is a.worth b.worth)
+  abbrev stands : MatchOrdering (int_cmp a.worth b.worth) (a.worth <ℤ b.worth) (a.worth ≡ b.worth) (b.worth <ℤ a.worth)
+  stands = int_ranked a.worth b.worth (int_cmp a.worth b.worth) refl
 
-  pub apart-both : ((order_of v w).differ ≡ true) ↔ Both (λ x y. x ≡ y → ⊥) v w
-  apart-both = joined (λ o. o.differ) (λ x y. x ≡ y → ⊥) (apart-is a.worth b.worth)
+  pub above-both : (is_some_and is_gt (order_of v w) ≡ true) ↔ Both (λ x y. y <ℤ x) v w
+  above-both = joined is_gt (λ x y. y <ℤ x) (above-by a.worth b.worth _ stands)
 
-  pub same-both : (not (order_of v w).differ ≡ true) ↔ Both (λ x y. x ≡ y) v w
-  same-both = joined (λ o. not o.differ) (λ x y. x ≡ y) (same-is a.worth b.worth)
+  pub apart-both : (is_some_and is_ne (order_of v w) ≡ true) ↔ Both (λ x y. x ≡ y → ⊥) v w
+  apart-both = joined is_ne (λ x y. x ≡ y → ⊥) (apart-by a.worth b.worth _ stands)
+
+  pub same-both : (is_some_and is_eq (order_of v w) ≡ true) ↔ Both (λ x y. x ≡ y) v w
+  same-both = joined is_eq (λ x y. x ≡ y) (same-by a.worth b.worth _ stands)
 
 -- a rule whose row is by two tests: whether all is there, and whether the rule is broken
 compared-judges : {whole breaks : Type 0} (known broken : Bool) → (known ≡ true) ↔ whole → (whole → (broken ≡ true) ↔ breaks) → Judges whole breaks 0 (compared_row known broken)
@@ -144,16 +126,16 @@ present-judges v false e =
     }
 
 -- the reason that a rule fires with
-abbrev rule_reason : Rule → ℕ
-rule_reason (Present i) = 1
-rule_reason (PresentIfDiffer i a b) = 0
-rule_reason (ZeroIfAgree i a b) = 0
-rule_reason (NotAbove a b) = 0
-rule_reason (Rising a b c) = 0
-rule_reason NoRule = 0
+abbrev rule_reason : Option Rule → ℕ
+rule_reason (Some (Present i)) = 1
+rule_reason (Some (PresentIfDiffer i a b)) = 0
+rule_reason (Some (ZeroIfAgree i a b)) = 0
+rule_reason (Some (NotAbove a b)) = 0
+rule_reason (Some (Rising a b c)) = 0
+rule_reason None = 0
 
 -- zero is the number that `0` writes
-zero-read : reading_of (bytes "0") ≡ Number (pos 0)
+zero-read : reading_of (bytes "0") ≡ Some (pos 0)
 unfolding reading_of unsigned_of size_of run_of has_at kind_at between is_tail value_from
 zero-read = refl
 
@@ -162,21 +144,21 @@ zero-there = record { worth = pos 0; read = zero-read; so = tt }
 
 -- every rule judges its row
 module _ (at : ℕ → List ℕ) where
-  pair-there : (v w : List ℕ) → ((order_of v w).known ≡ true) ↔ (There v × (There w × Unit {0}))
+  pair-there : (v w : List ℕ) → (is_some (order_of v w) ≡ true) ↔ (There v × (There w × Unit {0}))
   pair-there v w = (λ e. let h = (known_is v w).0 e in (h.0, (h.1, tt)), λ h. (known_is v w).1 (h.0, h.1.0))
 
-  pub rule-judges : (rule : Rule) → Judges (AllThere at (compared rule)) (Broken at rule) (rule_reason rule) (rule_row at rule)
-  rule-judges (Present i) = present-judges (at i) (missing (at i)) refl
-  rule-judges (PresentIfDiffer i a b) =
+  pub rule-judges : (rule : Option Rule) → Judges (AllThere at (compared rule)) (Broken at rule) (rule_reason rule) (rule_row at rule)
+  rule-judges (Some (Present i)) = present-judges (at i) (missing (at i)) refl
+  rule-judges (Some (PresentIfDiffer i a b)) =
       compared-judges _ _ (pair-there (at a) (at b)) (λ h. and_is (apart-both (at a) (at b) h.0 h.1.0) ((λ e. e), (λ e. e)))
-  rule-judges (ZeroIfAgree i a b) =
+  rule-judges (Some (ZeroIfAgree i a b)) =
       compared-judges _ _ (
         (λ e. let h = (and_is (known_is (at i) (bytes "0")) (known_is (at a) (at b))).0 e in (h.0.0, (h.1.0, (h.1.1, tt)))),
         λ h. (and_is (known_is (at i) (bytes "0")) (known_is (at a) (at b))).1 ((h.0, zero-there), (h.1.0, h.1.1.0)),
       )
       (λ h. and_is (same-both (at a) (at b) h.1.0 h.1.1.0) (not-zero h.0))
     where
-      not-zero : There (at i) → ((order_of (at i) (bytes "0")).differ ≡ true) ↔ Holds (λ z. z ≡ pos 0 → ⊥) (at i)
+      not-zero : There (at i) → (is_some_and is_ne (order_of (at i) (bytes "0")) ≡ true) ↔ Holds (λ z. z ≡ pos 0 → ⊥) (at i)
       not-zero h =
           let p = apart-both (at i) (bytes "0") h zero-there in (
             (λ e. let q = p.0 e in record { worth = q.worth; read = q.read; so = λ z. q.so.so (z ∙ zero q.so) }),
@@ -185,14 +167,14 @@ module _ (at : ℕ → List ℕ) where
         where
           zero : {P : ℤ → Type 0} (n : Holds P (bytes "0")) → pos 0 ≡ n.worth
           zero n = cc (n.read, zero-read)
-  rule-judges (NotAbove a b) = compared-judges _ _ (pair-there (at a) (at b)) (λ h. above-both (at a) (at b) h.0 h.1.0)
-  rule-judges (Rising a b c) =
+  rule-judges (Some (NotAbove a b)) = compared-judges _ _ (pair-there (at a) (at b)) (λ h. above-both (at a) (at b) h.0 h.1.0)
+  rule-judges (Some (Rising a b c)) =
       compared-judges _ _ (
         (λ e. let h = (and_is (known_is (at a) (at b)) (known_is (at b) (at c))).0 e in (h.0.0, (h.0.1, (h.1.1, tt)))),
         λ h. (and_is (known_is (at a) (at b)) (known_is (at b) (at c))).1 ((h.0, h.1.0), (h.1.0, h.1.1.0)),
       )
       (λ h. or_is (above-both (at a) (at b) h.0 h.1.0) (above-both (at b) (at c) h.1.0 h.1.1.0))
-  rule-judges NoRule =
+  rule-judges None =
       record { fires = (λ q. absurd (omega arith), λ h. absurd h.1); fired = λ q. absurd (omega arith); gap = λ n. absurd (n tt); quiet = λ h n. refl }
 
 -- "reason 1 in 13 to 19, else 0": one test that antt computes

@@ -3,11 +3,10 @@
 #![tactic(auto)]
 
 ghost use Rattle.std.specs.Prelude.{◌≡◌};
-ghost use Rattle.rows.specs.Rows.{missing};
-ghost use Rattle.rows_counts.specs.Counts.{no_order, order_of, present_row, differ_row, agree_row, above_row, rising_row, rule_of, keeps};
+ghost use Rattle.rows_counts.specs.Counts.{order_of, present_row, differ_row, agree_row, above_row, rising_row, rule_of, keeps};
 
-use number_decimal::Reading;
 use rows::{POWDER, Row, is_missing, make_row};
+use std::cmp::Ordering;
 
 // A rule on items, by their numbers.
 #[derive(Clone, Copy)]
@@ -22,23 +21,14 @@ pub enum Rule {
     NotAbove(usize, usize),
     // They run without falling.
     Rising(usize, usize, usize),
-    // A row that is not of the table.
-    NoRule,
 }
 
-// How the numbers of two texts stand: whether both are there, whether they differ, and whether the first is above the second.
-#[derive(Clone, Copy)]
-pub struct Order {
-    pub known: bool,
-    pub differ: bool,
-    pub above: bool,
-}
-
-// The table: the rule of each row from 13 to 24.
-pub fn rule_of(row: usize) -> Rule
+// The table: the rule of each row from 13 to 24; other rows have none.
+#[tactic(auto, using(crate::proofs::Table::none), unfolding(crate::specs::Counts::rules, crate::specs::Counts::rule_of))]
+pub fn rule_of(row: usize) -> Option<Rule>
     ensures { result ≡ rule_of row }
 {
-    match row {
+    let rule = match row {
         13 => Rule::Present(11),
         14 => Rule::Present(12),
         15 => Rule::Present(13),
@@ -51,57 +41,27 @@ pub fn rule_of(row: usize) -> Rule
         22 => Rule::NotAbove(12, 11),
         23 => Rule::NotAbove(13, 12),
         24 => Rule::Rising(17, 16, 15),
-        _ => Rule::NoRule,
-    }
+        _ => return None,
+    };
+    Some(rule)
 }
 
 // Whether a profile keeps a row.
+#[tactic(auto, unfolding(crate::specs::Counts::keeps))]
 pub fn is_kept(profile: u64, row: usize) -> bool
     ensures { result ≡ keeps profile row }
 {
-    if profile != POWDER {
-        return true;
-    }
-    match row {
-        13..=18 => false,
-        20..=21 => false,
-        _ => true,
-    }
+    profile != POWDER || !matches!(row, 13..=18 | 20..=21)
 }
 
-// How the numbers of two texts stand; a text that is no number is as a missing one.
-fn order_of(a: &[u8], b: &[u8]) -> Order
+// How the numbers of two texts stand, if both are numbers; a text that is no number is as a missing one.
+#[tactic(auto, unfolding(crate::specs::Counts::order_of))]
+fn order_of(a: &[u8], b: &[u8]) -> Option<Ordering>
     ensures { result ≡ order_of a.now b.now }
 {
-    let Reading::Number(x) = number_decimal::read_number(a) else {
-        return no_order();
-    };
-    let Reading::Number(y) = number_decimal::read_number(b) else {
-        return no_order();
-    };
-    if y < x {
-        return Order {
-            known: true,
-            differ: true,
-            above: true,
-        };
-    }
-    Order {
-        known: true,
-        differ: x < y,
-        above: false,
-    }
-}
-
-// One of the two is missing.
-fn no_order() -> Order
-    ensures { result ≡ no_order }
-{
-    Order {
-        known: false,
-        differ: false,
-        above: false,
-    }
+    let x = number_decimal::read_number(a)?;
+    let y = number_decimal::read_number(b)?;
+    Some(x.cmp(&y))
 }
 
 // The row of an item that must be present.
@@ -119,17 +79,10 @@ pub fn present_row(v: &[u8]) -> Row
 pub fn differ_row(v: &[u8], a: &[u8], b: &[u8]) -> Row
     ensures { result ≡ differ_row v.now a.now b.now }
 {
-    let counts = order_of(a, b);
-    if !counts.known {
-        return make_row(0, 1);
-    }
-    if !counts.differ {
-        return make_row(0, 0);
-    }
-    if is_missing(v) {
-        make_row(2, 0)
-    } else {
-        make_row(0, 0)
+    match order_of(a, b) {
+        Some(counts) if counts.is_ne() && is_missing(v) => make_row(2, 0),
+        Some(_) => make_row(0, 0),
+        None => make_row(0, 1),
     }
 }
 
@@ -137,21 +90,10 @@ pub fn differ_row(v: &[u8], a: &[u8], b: &[u8]) -> Row
 pub fn agree_row(v: &[u8], a: &[u8], b: &[u8]) -> Row
     ensures { result ≡ agree_row v.now a.now b.now }
 {
-    let zero = order_of(v, b"0");
-    let pair = order_of(a, b);
-    if !zero.known {
-        return make_row(0, 1);
-    }
-    if !pair.known {
-        return make_row(0, 1);
-    }
-    if pair.differ {
-        return make_row(0, 0);
-    }
-    if zero.differ {
-        make_row(2, 0)
-    } else {
-        make_row(0, 0)
+    match (order_of(v, b"0"), order_of(a, b)) {
+        (Some(zero), Some(pair)) if zero.is_ne() && pair.is_eq() => make_row(2, 0),
+        (Some(_), Some(_)) => make_row(0, 0),
+        _ => make_row(0, 1),
     }
 }
 
@@ -159,14 +101,10 @@ pub fn agree_row(v: &[u8], a: &[u8], b: &[u8]) -> Row
 pub fn above_row(a: &[u8], b: &[u8]) -> Row
     ensures { result ≡ above_row a.now b.now }
 {
-    let pair = order_of(a, b);
-    if !pair.known {
-        return make_row(0, 1);
-    }
-    if pair.above {
-        make_row(2, 0)
-    } else {
-        make_row(0, 0)
+    match order_of(a, b) {
+        Some(pair) if pair.is_gt() => make_row(2, 0),
+        Some(_) => make_row(0, 0),
+        None => make_row(0, 1),
     }
 }
 
@@ -174,20 +112,9 @@ pub fn above_row(a: &[u8], b: &[u8]) -> Row
 pub fn rising_row(a: &[u8], b: &[u8], c: &[u8]) -> Row
     ensures { result ≡ rising_row a.now b.now c.now }
 {
-    let low = order_of(a, b);
-    let high = order_of(b, c);
-    if !low.known {
-        return make_row(0, 1);
-    }
-    if !high.known {
-        return make_row(0, 1);
-    }
-    if low.above {
-        return make_row(2, 0);
-    }
-    if high.above {
-        make_row(2, 0)
-    } else {
-        make_row(0, 0)
+    match (order_of(a, b), order_of(b, c)) {
+        (Some(low), Some(high)) if low.is_gt() || high.is_gt() => make_row(2, 0),
+        (Some(_), Some(_)) => make_row(0, 0),
+        _ => make_row(0, 1),
     }
 }

@@ -1,2 +1,1 @@
-mod ClassCases
 pub mod AsBefore

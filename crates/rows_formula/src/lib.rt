@@ -22,6 +22,7 @@ fn tested_row(formula: &[u8], passed: bool, level: u8) -> Row
 }
 
 // Row 1: every term is well formed and recognised.
+#[tactic(auto, unfolding(crate::specs::FormulaRows::row1))]
 pub fn recognised_row(formula: &[u8]) -> Row
     ensures { result ≡ row1 formula.now }
 {
@@ -30,6 +31,7 @@ pub fn recognised_row(formula: &[u8]) -> Row
 }
 
 // Row 2: the symbols stand in order.
+#[tactic(auto, unfolding(crate::specs::FormulaRows::row2))]
 pub fn order_row(formula: &[u8]) -> Row
     ensures { result ≡ row2 formula.now }
 {
@@ -38,13 +40,11 @@ pub fn order_row(formula: &[u8]) -> Row
 }
 
 // Row 3: the class of the formula against the category.
+#[tactic(auto, unfolding(crate::specs::FormulaRows::row3))]
 pub fn class_row(formula: &[u8], category: &[u8]) -> Row
     ensures { result ≡ row3 formula.now category.now }
 {
-    if is_missing(formula) {
-        return make_row(1, 1);
-    }
-    if is_missing(category) {
+    if is_missing(formula) || is_missing(category) {
         return make_row(1, 1);
     }
     let t = line_quotes::text_of(formula);

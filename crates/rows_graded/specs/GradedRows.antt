@@ -1,9 +1,8 @@
 -- Rows 6 to 11, of the values with a new and an old name (document 01, "The twelve rows").
 -- Assumes nothing.
-use Rattle.std.specs.Prelude.{ℕ, cond, ◌&&◌, List}
+use Rattle.std.specs.Prelude.{ℕ, cond, ◌&&◌, List, Result, Ok, Err}
 use Rattle.rows_levels.specs.Bounds.{graded_of}
-use Rattle.rows_levels.specs.declared.Graded.{Graded}
-use Rattle.rows_levels.specs.declared.Graded.TheVariants.{Level, NoRow, NoNumber}
+use Rattle.rows_levels.specs.declared.Ungraded.{Ungraded}
 use Rattle.rows.specs.Rows.{row_of, no_alert, missing}
 use Rattle.rows.specs.declared.Row.{Row}
 
@@ -12,10 +11,9 @@ abbrev pub judged_value : List ℕ → List ℕ → List ℕ
 judged_value new old = cond (missing new) old new
 
 -- a value that is no number, which no sound sheet holds, cannot be judged
-abbrev pub grade_row : Graded → Row
-grade_row (Level l) = row_of l 0
-grade_row NoRow = row_of 2 2
-grade_row NoNumber = row_of 2 2
+abbrev pub grade_row : Result ℕ Ungraded → Row
+grade_row (Ok l) = row_of l 0
+grade_row (Err e) = row_of 2 2
 
 -- "6. RFACG_01 (000): above 0.20 A, 0.15 B, 0.10 C. Both names missing: C, reason 1", and rows 8 and 10 alike, by the row's own bounds
 unfoldable pub graded_row : ℕ → List ℕ → List ℕ → Row

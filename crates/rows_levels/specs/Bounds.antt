@@ -1,14 +1,12 @@
 -- The table of three-bound grades (document 01, "The twelve rows", rows 4, 6, 8, 10 and 12), and the wall screen's question.
 -- Assumes nothing.
-use Rattle.std.specs.Prelude.{ℕ, ◌+◌, ◌*◌, Bool, true, false, cond, ◌||◌, List, [], ◌∷◌, eqb, get_or, ℤ, pos, nat_abs}
+use Rattle.std.specs.Prelude.{ℕ, ◌+◌, ◌*◌, Bool, false, cond, ◌||◌, List, [], ◌∷◌, eqb, get_or, ℤ, pos, nat_abs, Option, Some, None, Result, Ok, Err}
 use Rattle.std.specs.Int.Signed.{lt_z}
 use Rattle.number_decimal.specs.Reading.{reading_of}
-use Rattle.number_decimal.specs.declared.Reading.{Reading}
-use Rattle.number_decimal.specs.declared.Reading.TheVariants.{Number, Nothing}
 use Rattle.rows_levels.specs.Level.{level_of}
 use Rattle.rows_levels.specs.declared.Bounds.{Bounds}
-use Rattle.rows_levels.specs.declared.Graded.{Graded}
-use Rattle.rows_levels.specs.declared.Graded.TheVariants.{Level, NoRow, NoNumber}
+use Rattle.rows_levels.specs.declared.Ungraded.{Ungraded}
+use Rattle.rows_levels.specs.declared.Ungraded.TheVariants.{NoRow, NoNumber}
 
 -- the bounds of A, B and C, three to a line
 unfoldable pub bounds : List ℕ
@@ -61,22 +59,21 @@ grade_of row z =
     level_of (above (bounds_of row false).a (judged_of row z)) (above (bounds_of row false).b (judged_of row z)) (above (bounds_of row false).c (judged_of row z))
 
 -- a typed value in a graded row, by what was read
-abbrev pub read_grade : ℕ → Reading → Graded
-read_grade row (Number z) = Level (grade_of row z)
-read_grade row Nothing = NoNumber
+abbrev pub read_grade : ℕ → Option ℤ → Result ℕ Ungraded
+read_grade row (Some z) = Ok (grade_of row z)
+read_grade row None = Err NoNumber
 
 -- the wall screen's question, "for row 6, 8 or 10 and one typed value"
-unfoldable pub graded_of : ℕ → List ℕ → Graded
-graded_of row t = cond (is_graded row) (read_grade row (reading_of t)) NoRow
+unfoldable pub graded_of : ℕ → List ℕ → Result ℕ Ungraded
+graded_of row t = cond (is_graded row) (read_grade row (reading_of t)) (Err NoRow)
 
 -- document 01's number: "the answer 0 with the level it earns, or 6 for another row, then 7 for a value that is not a number"
-abbrev pub graded_number : Graded → ℕ
-graded_number (Level l) = 0
-graded_number NoRow = 6
-graded_number NoNumber = 7
+abbrev pub graded_number : Result ℕ Ungraded → ℕ
+graded_number (Ok l) = 0
+graded_number (Err NoRow) = 6
+graded_number (Err NoNumber) = 7
 
 -- the level that goes with it, "both with level 0"
-abbrev pub graded_level : Graded → ℕ
-graded_level (Level l) = l
-graded_level NoRow = 0
-graded_level NoNumber = 0
+abbrev pub graded_level : Result ℕ Ungraded → ℕ
+graded_level (Ok l) = l
+graded_level (Err e) = 0

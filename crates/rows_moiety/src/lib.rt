@@ -19,13 +19,11 @@ fn totals_row(c: Compared) -> Row
 }
 
 // Row 25: the totals of each element in the moiety formula, item 19, against those in the formula, item 1. Both are values as typed.
+#[tactic(auto, unfolding(crate::specs::MoietyRow::row25))]
 pub fn moiety_row(formula: &[u8], moiety: &[u8]) -> Row
     ensures { result ≡ row25 formula.now moiety.now }
 {
-    if is_missing(formula) {
-        return make_row(0, 1);
-    }
-    if is_missing(moiety) {
+    if is_missing(formula) || is_missing(moiety) {
         return make_row(0, 1);
     }
     totals_row(formula_totals::compare(line_quotes::text_of(moiety), line_quotes::text_of(formula)))

@@ -1,16 +1,15 @@
 -- Demand 2 for every row with bounds: the level is the highest whose bound is broken, and none when none is. One law, of three tests, serves them all.
 -- Assumes nothing.
+use Rattle.std.specs.Prelude.{Some, Ok, Option}
 use Prim.Native.Nat.{ℕ}
 use mathlib.Core.Path.{◌≡◌, refl, sym, ap, subst, ◌∙◌}
 use mathlib.Core.Bool.{Bool, true, false, cond, ◌&&◌}
 use mathlib.Core.List.{List}
 use lib.IntN.{ℤ}
 use Rattle.number_decimal.specs.Reading.{reading_of}
-use Rattle.number_decimal.specs.declared.Reading.TheVariants.{Number}
 use Rattle.line_quotes.specs.Quoted.{text_of}
 use Rattle.rows_levels.specs.Level.{level_of, Highest}
 use Rattle.rows_levels.specs.Bounds.{bounds, is_graded, grade_of, read_grade, graded_of}
-use Rattle.rows_levels.specs.declared.Graded.TheVariants.{Level}
 use Rattle.rows_levels.proofs.Levels.{level-highest, grade-highest}
 use Rattle.rows.specs.Rows.{row_of, no_alert, missing}
 use Rattle.rows_weight.specs.WeightRows.{millionths, ratio_level, ratio_row, far_apart, is_weighed_category, difference_row}
@@ -40,7 +39,7 @@ graded-is : (row : ℕ) (new old : List ℕ) → (missing new && missing old) �
 unfolding graded_row
 graded-is row new old m = simp m
 
-grade-is : (row : ℕ) (t : List ℕ) (z : ℤ) → is_graded row ≡ true → reading_of t ≡ Number z → graded_of row t ≡ Level (grade_of row z)
+grade-is : (row : ℕ) (t : List ℕ) (z : ℤ) → is_graded row ≡ true → reading_of t ≡ Some z → graded_of row t ≡ Ok (grade_of row z)
 unfolding graded_of
 grade-is row t z p e = simp p (ap (read_grade row) e)
 
@@ -57,7 +56,7 @@ highest-broken (judged.ratio f w given s p q k e g) =
 highest-broken (judged.difference f w c given s p q r e g) =
     let t = far_apart given (millionths s) && is_weighed_category (text_of c) in
     at_level (level_of false false t)
-    (difference-judged f w c p q r ∙ ap (λ (x : Weighed). difference_row x (text_of c)) (weighed-both (text_of f) w given s e g) ∙ difference-is t)
+    (difference-judged f w c p q r ∙ ap (λ (x : Option Weighed). difference_row x (text_of c)) (weighed-both (text_of f) w given s e g) ∙ difference-is t)
     (level-highest false false t)
 highest-broken (judged.graded row new old z p m e) =
     at_level (grade_of row z) (graded-is row new old m ∙ ap grade_row (grade-is row (judged_value new old) z p e)) (grade-highest row z)

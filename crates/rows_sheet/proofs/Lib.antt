@@ -1,3 +1,2 @@
 pub mod Demand2
 pub mod Profiles
-pub mod Values

@@ -1,8 +1,9 @@
 -- Document 02, No. 4 leaves row 12 of every other text: an x that was a number before, without sign and uncertainty, is judged as before; a text with no such
 -- x is not judgeable, as before, unless its x begins or ends with a point.
 -- Assumes nothing.
+use Rattle.std.specs.Prelude.{Some}
 use mathlib.Core.Path.{◌≡◌, refl, sym, ap, ◌∙◌}
-use mathlib.Core.Bool.{Bool, true, false, cond, false≢true}
+use mathlib.Core.Bool.{Bool, false, cond, false≢true}
 use mathlib.Core.List.{List, [], ◌∷◌, ◌++◌}
 use Prim.Native.Nat.{ℕ, ◌-◌}
 use native.Mathlib.Omega.{arith}
@@ -16,7 +17,6 @@ use Rattle.number_decimal.proofs.AsBefore.{resize, point-stays}
 use Rattle.rows.specs.Rows.{row_of}
 use Rattle.rows_threshold.specs.Threshold.{multiplier_row, threshold_row}
 use Rattle.rows_threshold.specs.Wording.{Expression, IsMultiplier, IsThreshold}
-use Rattle.rows_threshold.specs.declared.Multiplier.TheVariants.{Times}
 use Rattle.rows_threshold.proofs.Wording.{ends_with, threshold-taken, threshold-other}
 
 -- without a sign the number is its size
@@ -26,7 +26,7 @@ size-alone m n SignText.plus e w = let long : length {A = ℕ} (43 ∷ []) ≡ 0
 size-alone m n SignText.minus e w = let long : length {A = ℕ} (45 ∷ []) ≡ 0 = ap length e in absurd (omega arith)
 
 pub row-12-as-before : (t x : List ℕ) (alone : Bool) (m : ℕ) → Expression t alone x → (h : NumberBefore x (pos m)) → h.sign ≡ [] → h.is_size.tail ≡ []
-    → threshold_row t ≡ multiplier_row alone (Times m)
+    → threshold_row t ≡ multiplier_row alone (Some m)
 row-12-as-before t x alone m e h unsigned certain =
     let text : x ≡ h.rest = h.text ∙ ap (λ (l : List ℕ). l ++ h.rest) unsigned in
     let worth : h.size ≡ m = size-alone m h.size h.is_sign unsigned h.worth in

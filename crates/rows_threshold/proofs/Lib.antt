@@ -1,3 +1,2 @@
-mod Shapes
 pub mod Wording
 pub mod AsBefore

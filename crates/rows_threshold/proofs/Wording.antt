@@ -1,5 +1,6 @@
 -- Row 12 judges exactly the expressions of document 01's words: each by its x, and any other text is not judgeable.
 -- Assumes nothing.
+use Rattle.std.specs.Prelude.{ℤ, Option, Some, None}
 use mathlib.Core.Path.{◌≡◌, refl, sym, ap, subst, ◌∙◌}
 use mathlib.Core.Bool.{Bool, true, false, cond, ◌||◌, and-false, false≢true}
 use mathlib.Core.List.{List, [], ◌∷◌, ◌++◌, append_assoc}
@@ -12,21 +13,17 @@ use lib.Seq.{take-append_seam, drop-append_seam, drop-append-add, drop-drop, get
 use lib.IntN.{pos, negsuc, neg_ℤ}
 use Rattle.text.specs.Quote.{bytes}
 use Rattle.text.specs.Run.{all, between, other, has_at, is_digit}
-use Rattle.text.proofs.Bools.{and_both}
+use Rattle.text.proofs.Bools.{and_both, not-holds}
 use Rattle.text.proofs.Runs.{all_append, all-lack, lacks-nowhere, has_here}
 use Rattle.text_equality.specs.Same.{exact, same_by}
 use Rattle.text_equality.proofs.Sames.{map→same, same-exact}
 use Rattle.number_decimal.specs.Reading.{reading_of}
 use Rattle.number_decimal.specs.Grammar.{SignText, PointText, UncertaintyText, IsSize, IsNumber}
-use Rattle.number_decimal.specs.declared.Reading.{Reading}
-use Rattle.number_decimal.specs.declared.Reading.TheVariants.{Number, Nothing}
 use Rattle.number_decimal.proofs.Complete.{first-no-sign, number-taken}
 use Rattle.number_decimal.proofs.Sound.{number_is}
 use Rattle.rows.specs.Rows.{row_of}
 use Rattle.rows_threshold.specs.Threshold.{has_shape, inside_of, unsigned_reading, multiplier_of, multiplier_row, threshold_row}
 use Rattle.rows_threshold.specs.Wording.{Expression, IsMultiplier, IsThreshold}
-use Rattle.rows_threshold.specs.declared.Multiplier.{Multiplier}
-use Rattle.rows_threshold.specs.declared.Multiplier.TheVariants.{Times, NoMultiplier}
 
 -- ---- the shape
 
@@ -65,6 +62,22 @@ shape_is p q t e =
     sym (take-append-drop (length p) t) ∙ ap (λ (l : List ℕ). l ++ d) (same-exact _ _ k.0)
     ∙ ap (λ (l : List ℕ). p ++ l) (sym (take-append-drop n d) ∙ ap (λ (l : List ℕ). take n d ++ l) ends)
 
+-- a text that does not begin with p has no shape of it
+pub no-first : (p q t : List ℕ) → ((rest : List ℕ) → t ≡ p ++ rest → ⊥) → has_shape p q t ≡ false
+no-first p q t n = not-holds (has_shape p q t) (λ e. n (inside_of p q t ++ q) (shape_is p q t e))
+
+-- nor one that begins with p, but whose rest does not end with q
+pub no-last : (p q t y : List ℕ) → t ≡ p ++ y → ((front : List ℕ) → y ≡ front ++ q → ⊥) → has_shape p q t ≡ false
+no-last p q t y text n =
+    not-holds (has_shape p q t)
+    (λ e. n (inside_of p q t) (sym (drop-append_seam p y) ∙ ap (drop (length p)) (sym text ∙ shape_is p q t e) ∙ drop-append_seam p (inside_of p q t ++ q)))
+
+-- a text of p, x and q has the shape, and x inside
+pub shape-at : (p q t y x : List ℕ) → t ≡ p ++ y → y ≡ x ++ q → (has_shape p q t ≡ true) × (x ≡ inside_of p q t)
+shape-at p q t y x text rest =
+    let e : t ≡ p ++ (x ++ q) = text ∙ ap (λ (l : List ℕ). p ++ l) rest in
+    (ap (has_shape p q) e ∙ shape-taken p q x, sym (ap (inside_of p q) e ∙ inside-taken p q x))
+
 -- ---- what stands for x
 
 -- neither a digit nor a point is the bracket that closes
@@ -89,7 +102,7 @@ module _ {x : List ℕ} {m : ℕ} (h : IsMultiplier x m) where
       ∙ all_append (other 41) s.before (s.pointed ++ s.tail) (digits-lack s.before s.before_digits)
       (all_append (other 41) s.pointed s.tail (point-lacks s.fraction_digits s.is_point) (ap (all (other 41)) h.certain))
 
-  multiplier-taken : multiplier_of x ≡ Times m
+  multiplier-taken : multiplier_of x ≡ Some m
   unfolding multiplier_of
   multiplier-taken =
       let s = h.is_size in
@@ -122,13 +135,13 @@ size-by {rest = rest} text SignText.plus s w f g = absurd (false≢true (sym f �
 size-by {rest = rest} text SignText.minus s w f g = absurd (false≢true (sym g ∙ ap (λ (y : List ℕ). has_at y 0 45) text ∙ has_here (45 ∷ rest) 0 45 (omega arith) refl))
 
 module _ (x : List ℕ) (m : ℕ) where
-  read_by : (r : Reading) → reading_of x ≡ r → unsigned_reading r ≡ Times m → reading_of x ≡ Number (pos m)
-  read_by (Number (pos n)) e q = let k : n ≡ m = cc in e ∙ ap (λ (i : ℕ). Number (pos i)) k
-  read_by (Number (negsuc n)) e q = let z : ◌≡◌ {A = ℕ} 0 1 = cc in absurd (omega arith)
-  read_by Nothing e q = let z : ◌≡◌ {A = ℕ} 0 1 = cc in absurd (omega arith)
+  read_by : (r : Option ℤ) → reading_of x ≡ r → unsigned_reading r ≡ Some m → reading_of x ≡ Some (pos m)
+  read_by (Some (pos n)) e q = let k : n ≡ m = cc in e ∙ ap (λ (i : ℕ). Some (pos i)) k
+  read_by (Some (negsuc n)) e q = let z : ◌≡◌ {A = ℕ} 0 1 = cc in absurd (omega arith)
+  read_by None e q = let z : ◌≡◌ {A = ℕ} 0 1 = cc in absurd (omega arith)
 
   is-by : (plus minus bracket : Bool) → has_at x 0 43 ≡ plus → has_at x 0 45 ≡ minus → has_at x (length x - 1) 41 ≡ bracket
-      → cond (plus || (minus || bracket)) NoMultiplier (unsigned_reading (reading_of x)) ≡ Times m → IsMultiplier x m
+      → cond (plus || (minus || bracket)) None (unsigned_reading (reading_of x)) ≡ Some m → IsMultiplier x m
   is-by true minus bracket p q b e = let z : ◌≡◌ {A = ℕ} 0 1 = cc in absurd (omega arith)
   is-by false true bracket p q b e = let z : ◌≡◌ {A = ℕ} 0 1 = cc in absurd (omega arith)
   is-by false false true p q b e = let z : ◌≡◌ {A = ℕ} 0 1 = cc in absurd (omega arith)
@@ -138,7 +151,7 @@ module _ (x : List ℕ) (m : ℕ) where
       record { is_size = s; certain = certain-by s.before s.pointed s.is_uncertainty (sym (ap (λ (y : List ℕ). has_at y (length y - 1) 41) s.text) ∙ b) }
 
   -- what is read is a number without sign and uncertainty
-  multiplier-is : multiplier_of x ≡ Times m → IsMultiplier x m
+  multiplier-is : multiplier_of x ≡ Some m → IsMultiplier x m
   unfolding multiplier_of
   multiplier-is e = is-by (has_at x 0 43) (has_at x 0 45) (has_at x (length x - 1) 41) refl refl refl e
 
@@ -179,13 +192,13 @@ expression-row (Expression.intensity x) = simp (shape-taken i-first i-last x, in
 expression-row (Expression.f_squared x) = simp (not-intensity, shape-taken f2-first f2-last x, inside-taken f2-first f2-last x)
 expression-row (Expression.f_alone x) = simp (not-intensity, not-f-squared, shape-taken f-first f-last x, inside-taken f-first f-last x)
 
-pub threshold-taken : (t : List ℕ) (alone : Bool) (m : ℕ) → IsThreshold t alone m → threshold_row t ≡ multiplier_row alone (Times m)
+pub threshold-taken : (t : List ℕ) (alone : Bool) (m : ℕ) → IsThreshold t alone m → threshold_row t ≡ multiplier_row alone (Some m)
 threshold-taken t alone m h = expression-row h.expression ∙ ap (multiplier_row alone) (multiplier-taken h.multiplier)
 
 -- a text that is none cannot be judged
-none-by : (alone : Bool) (x : List ℕ) (r : Multiplier) → multiplier_of x ≡ r → ((m : ℕ) → IsMultiplier x m → ⊥) → multiplier_row alone r ≡ row_of 2 2
-none-by alone x (Times m) e never = absurd (never m (multiplier-is x m e))
-none-by alone x NoMultiplier e never = refl
+none-by : (alone : Bool) (x : List ℕ) (r : Option ℕ) → multiplier_of x ≡ r → ((m : ℕ) → IsMultiplier x m → ⊥) → multiplier_row alone r ≡ row_of 2 2
+none-by alone x (Some m) e never = absurd (never m (multiplier-is x m e))
+none-by alone x None e never = refl
 
 module _ (t : List ℕ) (never : (alone : Bool) (m : ℕ) → IsThreshold t alone m → ⊥) where
   shaped_row : (p q : List ℕ) (alone : Bool) → ((x : List ℕ) → Expression (p ++ (x ++ q)) alone x) → has_shape p q t ≡ true

@@ -1,19 +1,15 @@
 -- Row 12, the threshold expression (document 01, "The twelve rows").
 -- Assumes nothing.
-use Rattle.std.specs.Prelude.{ℕ, ◌+◌, ◌-◌, Bool, true, false, cond, ◌&&◌, ◌||◌, List, leb, length, take, drop, pos, negsuc}
+use Rattle.std.specs.Prelude.{ℕ, ◌+◌, ◌-◌, Bool, true, false, cond, ◌&&◌, ◌||◌, List, leb, length, take, drop, pos, negsuc, ℤ, Option, Some, None}
 use Rattle.text.specs.Quote.{bytes}
 use Rattle.text.specs.Run.{has_at}
 use Rattle.text_equality.specs.Same.{exact, same_by}
 use Rattle.number_decimal.specs.Reading.{reading_of}
-use Rattle.number_decimal.specs.declared.Reading.{Reading}
-use Rattle.number_decimal.specs.declared.Reading.TheVariants.{Number, Nothing}
 use Rattle.line_quotes.specs.Quoted.{text_of}
 use Rattle.rows_levels.specs.Level.{level_of}
 use Rattle.rows_levels.specs.Bounds.{bounds_of}
 use Rattle.rows.specs.Rows.{row_of, missing}
 use Rattle.rows.specs.declared.Row.{Row}
-use Rattle.rows_threshold.specs.declared.Multiplier.{Multiplier}
-use Rattle.rows_threshold.specs.declared.Multiplier.TheVariants.{Times, NoMultiplier}
 
 -- a text begins with p and ends with q, one after the other
 unfoldable pub has_shape : List ℕ → List ℕ → List ℕ → Bool
@@ -25,23 +21,23 @@ abbrev pub inside_of : List ℕ → List ℕ → List ℕ → List ℕ
 inside_of p q t = take (length t - length p - length q) (drop (length p) t)
 
 -- a number not below zero
-abbrev pub unsigned_reading : Reading → Multiplier
-unsigned_reading (Number (pos n)) = Times n
-unsigned_reading (Number (negsuc n)) = NoMultiplier
-unsigned_reading Nothing = NoMultiplier
+abbrev pub unsigned_reading : Option ℤ → Option ℕ
+unsigned_reading (Some (pos n)) = Some n
+unsigned_reading (Some (negsuc n)) = None
+unsigned_reading None = None
 
 -- "x a number without sign or uncertainty": it begins with no sign and ends with no bracket
-unfoldable pub multiplier_of : List ℕ → Multiplier
-multiplier_of x = cond (has_at x 0 43 || (has_at x 0 45 || has_at x (length x - 1) 41)) NoMultiplier (unsigned_reading (reading_of x))
+unfoldable pub multiplier_of : List ℕ → Option ℕ
+multiplier_of x = cond (has_at x 0 43 || (has_at x 0 45 || has_at x (length x - 1) 41)) None (unsigned_reading (reading_of x))
 
 -- "For I and F^2^: x at least 6 A, 5 B, 4 C. For F: 12, 10, 8.": row 12's bounds, or the second ones for F alone. x is in millionths.
 unfoldable pub threshold_level : Bool → ℕ → ℕ
 threshold_level alone x = level_of (leb (bounds_of 12 alone).a x) (leb (bounds_of 12 alone).b x) (leb (bounds_of 12 alone).c x)
 
 -- "Otherwise shaped: C, reason 2."
-abbrev pub multiplier_row : Bool → Multiplier → Row
-multiplier_row alone (Times x) = row_of (threshold_level alone x) 0
-multiplier_row alone NoMultiplier = row_of 2 2
+abbrev pub multiplier_row : Bool → Option ℕ → Row
+multiplier_row alone (Some x) = row_of (threshold_level alone x) 0
+multiplier_row alone None = row_of 2 2
 
 -- "the text without quotes is I > x\s(I), F^2^ > x\s(F^2^) or F > x\s(F)"
 unfoldable pub threshold_row : List ℕ → Row

@@ -1,69 +1,39 @@
 // Row 12: the threshold expression (document 01, "The twelve rows").
 #![tactic(auto)]
 
-ghost use Rattle.std.specs.Prelude.{◌≡◌, ◌+◌, ◌-◌, ◌≤◌, length, take, drop};
+ghost use Rattle.std.specs.Prelude.{◌≡◌, ◌-◌, length, true, false, MatchOption};
 ghost use Rattle.text.specs.Run.{has_at};
-ghost use Rattle.rows_threshold.specs.Threshold.{has_shape, multiplier_of, threshold_level, multiplier_row, threshold_row, row12};
+ghost use Rattle.rows_threshold.specs.Threshold.{has_shape, inside_of, multiplier_of, threshold_level, multiplier_row, threshold_row, row12};
 
-use number_decimal::Reading;
-use rows::{Row, is_missing, make_row};
+use rows::{Row, is_missing, judged_row, make_row};
 
-// What stands for x: a number without sign and uncertainty, in millionths, or something else.
-#[derive(Clone, Copy)]
-pub enum Multiplier {
-    Times(u64),
-    NoMultiplier,
-}
-
-// Whether t begins with p and ends with q, one after the other.
-fn has_shape(t: &[u8], p: &[u8], q: &[u8]) -> bool
-    ensures { result ≡ has_shape p.now q.now t.now }
+// What stands in t between p, with which t begins, and q, with which the rest ends.
+fn inside<'a>(t: &'a [u8], p: &[u8], q: &[u8]) -> Option<&'a [u8]>
+    ensures { MatchOption result (has_shape p.now q.now t.now ≡ false) (λ x. (has_shape p.now q.now t.now ≡ true) × (x.now ≡ inside_of p.now q.now t.now)) }
 {
-    let m = p.len();
-    let n = q.len();
-    if t.len() < m + n {
-        return false;
-    }
-    if !text_equality::same(&t[..m], p) {
-        return false;
-    }
-    let end = t.len() - n;
-    text_equality::same(&t[end..], q)
+    t.strip_prefix(p)?.strip_suffix(q)
 }
 
 // Whether x ends with the byte b.
 fn ends_with(x: &[u8], b: u8) -> bool
     ensures { result ≡ has_at x.now (length x.now - 1) b }
 {
-    if x.len() < 1 {
-        return false;
-    }
-    text::has(x, x.len() - 1, b)
+    !x.is_empty() && text::has(x, x.len() - 1, b)
 }
 
 // The multiplier that x is.
-fn read_multiplier(x: &[u8]) -> Multiplier
+#[tactic(auto, unfolding(crate::specs::Threshold::multiplier_of))]
+fn read_multiplier(x: &[u8]) -> Option<u64>
     ensures { result ≡ multiplier_of x.now }
 {
-    if text::has(x, 0, b'+') {
-        return Multiplier::NoMultiplier;
+    if text::has(x, 0, b'+') || text::has(x, 0, b'-') || ends_with(x, b')') {
+        return None;
     }
-    if text::has(x, 0, b'-') {
-        return Multiplier::NoMultiplier;
-    }
-    if ends_with(x, b')') {
-        return Multiplier::NoMultiplier;
-    }
-    let Reading::Number(v) = number_decimal::read_number(x) else {
-        return Multiplier::NoMultiplier;
-    };
-    if v < 0 {
-        return Multiplier::NoMultiplier;
-    }
-    Multiplier::Times(number_signed::magnitude(v))
+    u64::try_from(number_decimal::read_number(x)?).ok()
 }
 
 // The level of x, in millionths, for F alone or not.
+#[tactic(auto, unfolding(crate::specs::Threshold::threshold_level))]
 fn threshold_level(alone: bool, x: u64) -> u8
     ensures { result ≡ threshold_level alone x }
 {
@@ -71,47 +41,32 @@ fn threshold_level(alone: bool, x: u64) -> u8
     rows_levels::level(least.a <= x, least.b <= x, least.c <= x)
 }
 
-fn row_of_multiplier(alone: bool, m: Multiplier) -> Row
-    ensures { result ≡ multiplier_row alone m }
+// The row of what stands for x, of F alone or not.
+fn row_of_x(alone: bool, x: &[u8]) -> Row
+    ensures { result ≡ multiplier_row alone (multiplier_of x.now) }
 {
-    match m {
-        Multiplier::Times(x) => {
-            let level = threshold_level(alone, x);
-            Row { level, reason: 0 }
-        }
-        Multiplier::NoMultiplier => Row {
-            level: 2,
-            reason: 2,
-        },
-    }
-}
-
-// The row of a text that begins with m bytes and ends with n bytes of its shape.
-fn row_inside(alone: bool, t: &[u8], m: usize, n: usize) -> Row
-    requires { m + n ≤ length t.now }
-    ensures { result ≡ multiplier_row alone (multiplier_of (take (length t.now - m - n) (drop m t.now))) }
-{
-    let end = t.len() - n;
-    row_of_multiplier(alone, read_multiplier(&t[m..end]))
+    judged_row(read_multiplier(x).map(|m| threshold_level(alone, m)))
 }
 
 // The row of the text without quotes.
+#[tactic(auto, unfolding(crate::specs::Threshold::threshold_row))]
 fn row_of_text(t: &[u8]) -> Row
     ensures { result ≡ threshold_row t.now }
 {
-    if has_shape(t, b"I > ", b"\\s(I)") {
-        return row_inside(false, t, 4, 5);
+    if let Some(x) = inside(t, b"I > ", b"\\s(I)") {
+        return row_of_x(false, x);
     }
-    if has_shape(t, b"F^2^ > ", b"\\s(F^2^)") {
-        return row_inside(false, t, 7, 8);
+    if let Some(x) = inside(t, b"F^2^ > ", b"\\s(F^2^)") {
+        return row_of_x(false, x);
     }
-    if has_shape(t, b"F > ", b"\\s(F)") {
-        return row_inside(true, t, 4, 5);
+    if let Some(x) = inside(t, b"F > ", b"\\s(F)") {
+        return row_of_x(true, x);
     }
     make_row(2, 2)
 }
 
 // Row 12.
+#[tactic(auto, unfolding(crate::specs::Threshold::row12))]
 pub fn threshold_row(threshold: &[u8]) -> Row
     ensures { result ≡ row12 threshold.now }
 {

@@ -1,30 +1,30 @@
-// The answers of the check of a list of symmetry operators, and their numbers (document 02, No. 5).
+// Why the check of a list of symmetry operators refuses it, and the numbers of its answers (document 02, No. 5).
 #![tactic(auto)]
 
 ghost use Rattle.std.specs.Prelude.{◌≡◌};
 ghost use Rattle.symmetry_answers.specs.Number.{list_number};
 
-// The answers of the check of a list.
+// Why a list is refused. A missing product comes with the number of pairs looked at, that of the missing one included.
 #[derive(Clone, Copy)]
-pub enum ListAnswer {
-    Accepted,
+pub enum ListRefusal {
     NoList,
     BadDeterminant,
     NoIdentity,
     EqualRows,
-    ProductMissing,
+    ProductMissing(u64),
 }
 
-// The number of an answer.
-pub fn list_number(a: ListAnswer) -> u8
-    ensures { result ≡ list_number a }
+// The number of what the check of a list answers: 0 with the number of pairs looked at where the list is accepted, else the refusal's.
+// A function and no `From`, since a `Result` is a type of the library.
+pub fn list_number(checked: Result<u64, ListRefusal>) -> u8
+    ensures { result ≡ list_number checked }
 {
-    match a {
-        ListAnswer::Accepted => 0,
-        ListAnswer::NoList => 13,
-        ListAnswer::BadDeterminant => 14,
-        ListAnswer::NoIdentity => 15,
-        ListAnswer::EqualRows => 16,
-        ListAnswer::ProductMissing => 17,
+    match checked {
+        Ok(_) => 0,
+        Err(ListRefusal::NoList) => 13,
+        Err(ListRefusal::BadDeterminant) => 14,
+        Err(ListRefusal::NoIdentity) => 15,
+        Err(ListRefusal::EqualRows) => 16,
+        Err(ListRefusal::ProductMissing(_)) => 17,
     }
 }

@@ -10,12 +10,10 @@ pub fn has_code(codes: &[u64], c: u64) -> bool
     ensures { result ≡ has eqb codes.now c }
 {
     let mut found = false;
-    let mut i = 0;
-    while i < codes.len() {
-        if codes[i] == c {
+    for code in codes {
+        if *code == c {
             found = true;
         }
-        i += 1;
     }
     found
 }
@@ -24,20 +22,18 @@ pub fn has_code(codes: &[u64], c: u64) -> bool
 pub fn are_distinct(codes: &[u64]) -> bool
     ensures { result ≡ distinct eqb codes.now }
 {
-    let mut i = 0;
-    while i < codes.len() {
-        let next = i + 1;
-        if has_code(&codes[next..], codes[i]) {
+    for (i, code) in codes.iter().enumerate() {
+        if has_code(&codes[i + 1..], *code) {
             return false;
         }
-        i = next;
     }
     true
 }
 
 // Where a code's hint stands.
 fn hint_of(c: u64) -> usize
-    ensures { (result ≡ hint_of c) × (result < 4096) }
+    ensures is { result ≡ hint_of c }
+    ensures within { result < 4096 }
 {
     (c % 4051) as usize
 }
@@ -47,23 +43,18 @@ pub fn hints_of(codes: &[u64]) -> [u8; 4096]
     ensures { result ≡ hints_of codes.now }
 {
     let mut hints = [0u8; 4096];
-    let mut i = 0;
-    while i < codes.len() {
-        hints[hint_of(codes[i])] = (i % 256) as u8;
-        i += 1;
+    for (i, code) in codes.iter().enumerate() {
+        hints[hint_of(*code)] = (i % 256) as u8;
     }
     hints
 }
 
 // Whether a code is there: first where its hint says, then everywhere. The hints may be any.
+// Codes and hints are no struct: the promise is of the codes alone, whatever the hints are.
+#[tactic(auto, using(crate::proofs::Search::is_there))]
 pub fn has_hinted(codes: &[u64], hints: &[u8; 4096], c: u64) -> bool
     ensures { result ≡ has eqb codes.now c }
 {
-    let at = text::wide(hints[hint_of(c)]);
-    if at < codes.len() {
-        if codes[at] == c {
-            return true;
-        }
-    }
-    has_code(codes, c)
+    let at = usize::from(hints[hint_of(c)]);
+    codes.get(at) == Some(&c) || has_code(codes, c)
 }

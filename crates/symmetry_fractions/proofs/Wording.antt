@@ -9,6 +9,8 @@ use native.Mathlib.Omega.{arith}
 use borrow.Author.Tests.{le-leb, leb-true, lt-ltb, ltb-true, eqb-true}
 use lib.Dec.{leb, eqb}
 use lib.ListN.{length, get_or}
+use Rattle.std.specs.Prelude.{Option, Some, None, option_map}
+use Rattle.std.proofs.lemmas.Option.{none-some, same_Some}
 use Rattle.text.specs.Run.{all, between}
 use Rattle.text.proofs.Bools.{and_both}
 use Rattle.text.proofs.Runs.{between-taken}
@@ -16,7 +18,7 @@ use Rattle.symmetry_fractions.specs.Grammar.{one_in24ths, IsDenominator, IsFract
 use Rattle.symmetry_fractions.specs.Reading.{unit_of, fraction_of}
 use Rattle.symmetry_fractions.proofs.Units.{UnitOf, unit-of}
 
-fraction-by : (a d : ℕ) (r : List ℕ) → 49 ≤ a → a < d → fraction_of (a ∷ (47 ∷ (d ∷ r))) ≡ (a - 48) * unit_of d
+fraction-by : (a d : ℕ) (r : List ℕ) → 49 ≤ a → a < d → fraction_of (a ∷ (47 ∷ (d ∷ r))) ≡ option_map (λ (u : ℕ). (a - 48) * u) (unit_of d)
 unfolding fraction_of
 fraction-by a d r l b =
     let long : 3 ≤ length (a ∷ (47 ∷ (d ∷ r))) = omega arith in
@@ -28,31 +30,31 @@ pub record Sized (n d u : ℕ) : Type 0 where
   pub below_one : u < one_in24ths
   pub few : n ≤ 7
   pub digit : d ≤ 8
-  pub units : u ≡ n * unit_of (48 + d)
+  pub units : option_map (λ (x : ℕ). n * x) (unit_of (48 + d)) ≡ Some u
 
 pub sized : (n u : ℕ) {d : ℕ} → IsDenominator d → 1 ≤ n → n < d → u * d ≡ one_in24ths * n → Sized n d u
 unfolding unit_of
-sized n u IsDenominator.two l b w = omega arith
-sized n u IsDenominator.three l b w = omega arith
-sized n u IsDenominator.four l b w = omega arith
-sized n u IsDenominator.six l b w = omega arith
-sized n u IsDenominator.eight l b w = omega arith
+sized n u IsDenominator.two l b w = record { some = omega arith; below_one = omega arith; few = omega arith; digit = omega arith; units = let e : n * 12 ≡ u = omega arith in ap Some e }
+sized n u IsDenominator.three l b w = record { some = omega arith; below_one = omega arith; few = omega arith; digit = omega arith; units = let e : n * 8 ≡ u = omega arith in ap Some e }
+sized n u IsDenominator.four l b w = record { some = omega arith; below_one = omega arith; few = omega arith; digit = omega arith; units = let e : n * 6 ≡ u = omega arith in ap Some e }
+sized n u IsDenominator.six l b w = record { some = omega arith; below_one = omega arith; few = omega arith; digit = omega arith; units = let e : n * 4 ≡ u = omega arith in ap Some e }
+sized n u IsDenominator.eight l b w = record { some = omega arith; below_one = omega arith; few = omega arith; digit = omega arith; units = let e : n * 3 ≡ u = omega arith in ap Some e }
 
 module _ {t : List ℕ} {size : ℕ} (h : IsFraction t size) where
   known : Sized h.numerator h.denominator size
   known = sized h.numerator size h.is_denominator h.least h.below h.worth
 
-  digits-taken : (r : List ℕ) → fraction_of ((48 + h.numerator) ∷ (47 ∷ ((48 + h.denominator) ∷ r))) ≡ size
+  digits-taken : (r : List ℕ) → fraction_of ((48 + h.numerator) ∷ (47 ∷ ((48 + h.denominator) ∷ r))) ≡ Some size
   digits-taken r =
       let off : 48 + h.numerator - 48 ≡ h.numerator = omega arith in
-      fraction-by (48 + h.numerator) (48 + h.denominator) r (omega (arith, h.least)) (omega (arith, h.below)) ∙ rw off (sym known.units)
+      fraction-by (48 + h.numerator) (48 + h.denominator) r (omega (arith, h.least)) (omega (arith, h.below)) ∙ rw off known.units
 
   -- a text that begins with a fraction is read as that fraction
-  pub fraction-taken : (r : List ℕ) → fraction_of (t ++ r) ≡ size
+  pub fraction-taken : (r : List ℕ) → fraction_of (t ++ r) ≡ Some size
   fraction-taken r = rw h.text (digits-taken r)
 
   -- and so is a fraction alone
-  pub fraction-alone : fraction_of t ≡ size
+  pub fraction-alone : fraction_of t ≡ Some size
   fraction-alone = rw h.text (digits-taken [])
 
   -- a fraction is between zero and one
@@ -75,13 +77,13 @@ module _ {t : List ℕ} {size : ℕ} (h : IsFraction t size) where
       rw h.text (simp (n, d, between-taken 47 56 47 (omega arith) (omega arith)))
 
 -- a text that begins with the fraction of so many 24ths, and what follows it
-pub record Begins (s : List ℕ) : Type 0 where
+pub record Begins (s : List ℕ) (size : ℕ) : Type 0 where
   pub fraction : List ℕ
   pub rest : List ℕ
   pub text : s ≡ fraction ++ rest
-  pub is-fraction : IsFraction fraction (fraction_of s)
+  pub is-fraction : IsFraction fraction size
 
-module _ (a d : ℕ) (l : 49 ≤ a) (b : a < d) (size : ℕ) (e : size ≡ (a - 48) * unit_of d) (some : 1 ≤ size) where
+module _ (a d : ℕ) (l : 49 ≤ a) (b : a < d) (size : ℕ) (e : option_map (λ (u : ℕ). (a - 48) * u) (unit_of d) ≡ Some size) where
   fraction-is : IsFraction (a ∷ (47 ∷ (d ∷ []))) size
   fraction-is = by (unit-of d)
     where
@@ -89,43 +91,45 @@ module _ (a d : ℕ) (l : 49 ≤ a) (b : a < d) (size : ℕ) (e : size ≡ (a - 
       scaled n u k m p q = rw p (mul_assoc n u k ∙ rw q (mul_comm n 24))
 
       by : UnitOf d → IsFraction (a ∷ (47 ∷ (d ∷ []))) size
-      by (UnitOf.none q) = absurd (omega (arith, e ∙ ap (λ (x : ℕ). (a - 48) * x) q))
-      by (UnitOf.digit k is q w) =
+      by (UnitOf.none q) = absurd (none-some size (sym (ap (option_map (λ (u : ℕ). (a - 48) * u)) q) ∙ e))
+      by (UnitOf.digit k u is q f w) =
           let top : 48 + (a - 48) ≡ a = omega arith in
           let less : a - 48 < k = omega arith in
+          let worth = scaled (a - 48) u k size (sym (same_Some _ _ (sym (ap (option_map (λ (u : ℕ). (a - 48) * u)) f) ∙ e))) w in
           record {
             numerator = a - 48;
             denominator = k;
             text = rw (top, q) refl;
             least = omega arith;
-            most = (sized (a - 48) size is (omega arith) less (scaled (a - 48) (unit_of d) k size e w)).few;
+            most = (sized (a - 48) size is (omega arith) less worth).few;
             below = less;
             is_denominator = is;
-            worth = scaled (a - 48) (unit_of d) k size e w;
+            worth = worth;
           }
 
-some_of : (t : Bool) (n : ℕ) → 1 ≤ cond t n 0 → t ≡ true
-some_of true n h = refl
-some_of false n h = absurd (omega arith)
+some_of : (t : Bool) (x : Option ℕ) (n : ℕ) → cond t x None ≡ Some n → t ≡ true
+some_of true x n h = refl
+some_of false x n h = absurd (none-some n h)
 
 -- what is read as some 24ths begins with that fraction
-pub begins : (s : List ℕ) → 1 ≤ fraction_of s → Begins s
+pub begins : (s : List ℕ) (size : ℕ) → fraction_of s ≡ Some size → Begins s size
 unfolding fraction_of
-begins [] h = absurd (omega arith)
-begins (a ∷ []) h = absurd (omega arith)
-begins (a ∷ (b ∷ [])) h = absurd (omega arith)
-begins (a ∷ (b ∷ (d ∷ r))) h =
+begins [] size h = absurd (none-some size h)
+begins (a ∷ []) size h = absurd (none-some size h)
+begins (a ∷ (b ∷ [])) size h = absurd (none-some size h)
+begins (a ∷ (b ∷ (d ∷ r))) size h =
     let s : List ℕ = a ∷ (b ∷ (d ∷ r)) in
-    let p = and_both (leb 3 (length s)) _ (some_of _ _ h) in
+    let p = and_both (leb 3 (length s)) _ (some_of _ _ size h) in
     let q = and_both (eqb b 47) _ p.1 in
     let v = and_both (leb 49 a) _ q.1 in
     let slash : b ≡ 47 = eqb-true b 47 q.0 in
     let l = leb-true 49 a v.0 in
     let below = ltb-true a d v.1 in
-    let e : fraction_of s ≡ (a - 48) * unit_of d = ap (λ (x : ℕ). fraction_of (a ∷ (x ∷ (d ∷ r)))) slash ∙ fraction-by a d r l below in
+    let e : option_map (λ (u : ℕ). (a - 48) * u) (unit_of d) ≡ Some size
+    = sym (ap (λ (x : ℕ). fraction_of (a ∷ (x ∷ (d ∷ r)))) slash ∙ fraction-by a d r l below) ∙ h in
     record {
       fraction = a ∷ (b ∷ (d ∷ []));
       rest = r;
       text = refl;
-      is-fraction = subst (λ (x : ℕ). IsFraction (a ∷ (x ∷ (d ∷ []))) (fraction_of s)) (sym slash) (fraction-is a d l below (fraction_of s) e h);
+      is-fraction = subst (λ (x : ℕ). IsFraction (a ∷ (x ∷ (d ∷ []))) size) (sym slash) (fraction-is a d l below size e);
     }

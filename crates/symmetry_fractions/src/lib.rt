@@ -1,5 +1,5 @@
 // Signs and fractions of an operator's text (document 02, No. 5).
-// A client cites Reading (is_sign, signedOf, fraction_of). That `fraction_of` is the document's wording (Grammar) is shown in proofs/Wording.antt.
+// A client cites Reading (is_sign, signed24ths, fraction_of). That `fraction_of` is the document's wording (Grammar) is shown in proofs/Wording.antt.
 #![tactic(auto)]
 
 ghost use Rattle.std.specs.Prelude.{◌≡◌};
@@ -12,59 +12,50 @@ pub const WHOLE: u8 = 24;
 pub const FRACTION: usize = 3;
 
 // Whether a byte is a sign.
+#[tactic(auto, unfolding(crate::specs::Reading::is_sign))]
 pub fn is_sign(b: u8) -> bool
     ensures { result ≡ is_sign b }
 {
-    if b == b'+' {
-        return true;
-    }
-    b == b'-'
+    matches!(b, b'+' | b'-')
 }
 
 // A number of 24ths after a sign, modulo 1.
+#[tactic(auto, unfolding(crate::specs::Reading::signed24ths))]
 pub fn signed(sign: u8, n: u8) -> u8
     ensures { result ≡ signed24ths sign n }
 {
-    if sign != b'-' {
-        return n;
+    if sign == b'-' {
+        WHOLE.saturating_sub(n)
+    } else {
+        n
     }
-    if WHOLE < n {
-        return 0;
-    }
-    WHOLE - n
 }
 
-// How many 24ths one is, divided by the denominator with that digit; 0 if it is none.
-fn unit_of(d: u8) -> u8
+// How many 24ths one is, divided by the denominator with that digit.
+#[tactic(auto, unfolding(crate::specs::Reading::unit_of))]
+fn unit_of(d: u8) -> Option<u8>
     ensures { result ≡ unit_of d }
 {
     match d {
-        b'2' => 12,
-        b'3' => 8,
-        b'4' => 6,
-        b'6' => 4,
-        b'8' => 3,
-        _ => 0,
+        b'2' => Some(12),
+        b'3' => Some(8),
+        b'4' => Some(6),
+        b'6' => Some(4),
+        b'8' => Some(3),
+        _ => None,
     }
 }
 
-// How many 24ths the fraction is that s begins with; 0 if it begins with none.
-pub fn read_fraction(s: &[u8]) -> u8
+// How many 24ths the fraction is that s begins with.
+#[tactic(auto, using(crate::proofs::Units::fraction_below_one), unfolding(crate::specs::Reading::fraction_of))]
+pub fn read_fraction(s: &[u8]) -> Option<u8>
     ensures { result ≡ fraction_of s.now }
 {
-    if s.len() < FRACTION {
-        return 0;
+    let [n, b'/', d, ..] = s else {
+        return None;
+    };
+    if *n < b'1' || *d <= *n {
+        return None;
     }
-    if s[1] != b'/' {
-        return 0;
-    }
-    let n = s[0];
-    let d = s[2];
-    if n < b'1' {
-        return 0;
-    }
-    if d <= n {
-        return 0;
-    }
-    (n - b'0') * unit_of(d)
+    Some((*n - b'0') * unit_of(*d)?)
 }

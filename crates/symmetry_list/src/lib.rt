@@ -7,8 +7,8 @@ ghost use Rattle.symmetry_operators.specs.Operator.{fine};
 ghost use Rattle.symmetry_operators.specs.Check.{operator_rows, checked};
 ghost use Rattle.symmetry_judged.specs.Answer.{outcome_of};
 
-use symmetry_answers::ListAnswer;
-use symmetry_judged::{Checked, judge, refused};
+use symmetry_answers::ListRefusal;
+use symmetry_judged::judge;
 use symmetry_operators::ROW_LENGTH;
 use symmetry_rows::row_fine;
 
@@ -16,28 +16,19 @@ use symmetry_rows::row_fine;
 fn all_fine(rows: &[i8]) -> bool
     ensures { result ≡ all fine (operator_rows rows.now) }
 {
-    let n = rows.len() / ROW_LENGTH;
-    let mut i = 0;
-    let mut at = 0;
-    while i < n {
-        if !row_fine(&rows[at..]) {
-            return false;
-        }
-        i += 1;
-        at += ROW_LENGTH;
-    }
-    true
+    rows.chunks_exact(ROW_LENGTH).all(row_fine)
 }
 
 // The check of a list of operators. The list is only read.
-pub fn check_list(rows: &[i8]) -> Checked
+#[tactic(auto, using(crate::proofs::Answers::part_row, crate::proofs::Answers::out_of_range, crate::proofs::Answers::in_range))]
+pub fn check_list(rows: &[i8]) -> Result<u64, ListRefusal>
     ensures { outcome_of result ≡ checked rows.now }
 {
     if rows.len() % ROW_LENGTH != 0 {
-        return refused(ListAnswer::NoList);
+        return Err(ListRefusal::NoList);
     }
     if !all_fine(rows) {
-        return refused(ListAnswer::NoList);
+        return Err(ListRefusal::NoList);
     }
     judge(rows)
 }

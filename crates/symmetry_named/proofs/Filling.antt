@@ -5,84 +5,66 @@ use mathlib.Core.List.{List, [], ◌∷◌, ◌++◌, append_assoc, append-nil}
 use Prim.Native.Nat.{ℕ, zero, suc, ◌+◌, ◌*◌, ◌<◌, ◌≤◌}
 use native.Mathlib.Omega.{arith}
 use native.Mathlib.Nat.{le_refl}
-use borrow.Author.Tests.{lt-ltb, le-ltb, le-leb, lt-leb, leb-true, leb-false}
+use borrow.Author.Tests.{lt-ltb, le-leb, lt-leb, leb-true, leb-false}
 use lib.Dec.{leb}
 use lib.IntN.{ℤ, pos}
-use Rattle.text.proofs.Tables.{tabulate, entry}
-use native.Mathlib.Numerals.{add-one}
-use lib.ListN.{length-set, length, get_or, take, drop, set, length-append, length-replicate}
-use lib.Seq.{sets, sets-eq, length-sets, take-suc, take-append_seam, take-length, length-take-le, take_all}
+use Rattle.text.proofs.Tables.{tabulate}
+use lib.ListN.{length, get_or, take, drop, length-append, length-replicate, length-drop, drop_of_length-le, take-append-drop}
+use lib.Seq.{sets, sets-eq, length-sets, take-suc, take-append_seam, take-length, length-take-le, drop-cons}
+use borrow.Rule.Slice.PartMut.{put_mid, same_len_mid}
+use Rattle.std.proofs.lemmas.Slice.{take-put_mid, drop-put_mid}
 use Rattle.symmetry_named.specs.declared.Operator.{Operator}
 use Rattle.symmetry_named.specs.declared.Flat.{Flat}
-use Rattle.symmetry_named.specs.Named.{no_operator, factor_at, translation_at, twelve, all_numbers, flat_of_zeros, stored_row, with_row, filled_to, flat_checked, checked_named}
-use lib.Signed.{mag}
-use mir.Syntax.{w8}
-use mir.Val.{to_z, of_z}
-use mir.Facts.{to_z-of_z}
+use Rattle.symmetry_named.specs.Named.{no_operator, twelve, all_numbers, flat_of_zeros, with_row, filled_to, flat_checked, checked_named}
 use Rattle.symmetry_operators.proofs.Pigeon.{by_cases}
 use Rattle.symmetry_operators.proofs.Words.{not-list}
 use Rattle.symmetry_operators.specs.Check.{outcome, checked}
 use Rattle.symmetry_operators.specs.Wording.{too_many}
 
 -- ---- the numbers of a row, stored one after the other
-sets-append : (xs ys l : List ℤ) (k : ℕ) → sets l k (xs ++ ys) ≡ sets (sets l k xs) (k + length xs) ys
-sets-append [] ys l k = let e : k ≡ k + 0 = omega arith in ap (λ (n : ℕ). sets l n ys) e
-sets-append (x ∷ xs) ys l k =
-    let e : suc k + length xs ≡ k + suc (length xs) = omega arith in
-    sets-append xs ys (set l k x) (suc k) ∙ ap (λ (n : ℕ). sets (sets (set l k x) (suc k) xs) n ys) e
+numbers_from : (l : List ℤ) (k n : ℕ) → k + n ≡ length l → drop k l ≡ tabulate (λ (i : ℕ). get_or l i (pos 0)) k n
+numbers_from l k zero e = drop_of_length-le l (omega arith)
+numbers_from l k (suc n) e = drop-cons l k (pos 0) (omega arith) ∙ ap (λ (r : List ℤ). get_or l k (pos 0) ∷ r) (numbers_from l (suc k) n (omega arith))
 
-long-table : (f : ℕ → ℤ) (i n : ℕ) → length (tabulate f i n) ≡ n
-long-table f i zero = refl
-long-table f i (suc n) = ap suc (long-table f (suc i) n)
+-- an operator's twelve numbers are its factors and its translations
+twelve-is : (o : Operator) → length o.factors ≡ 9 → length o.translations ≡ 3 → o.factors ++ o.translations ≡ twelve o
+twelve-is o f t = λ j. numbers_from o.factors 0 9 (sym f) j ++ numbers_from o.translations 0 3 (sym t) j
 
--- of the n numbers f 0, f 1, .., k stand in the list l from a place on
-pub record Storing (f : ℕ → ℤ) (n : ℕ) (l : List ℤ) (at k : ℕ) (v : List ℤ) : Type 0 where
-  pub within : k ≤ n
-  pub long : length v ≡ 2304
-  pub is : v ≡ sets l at (take k (tabulate f 0 n))
+-- two lists, stored one after the other in a part of a list
+stored_both : (l f t : List ℤ) (at m n k : ℕ) → length f ≡ m → length t ≡ n → k ≡ at + m → k + n ≤ length l
+    → put_mid k n (put_mid at m l f) t ≡ sets l at (f ++ t)
+stored_both l f t at m n k e g p fits =
+    let w = put_mid at m l f in
+    let size : length (f ++ t) ≡ m + n = length-append f t ∙ omega arith in
+    let room : m ≤ length (drop at l) = rw length-drop (omega arith) in
+    let kept : length w ≡ length l = same_len_mid at m l f (e ∙ sym (length-take-le m (drop at l) room)) in
+    let front : take (k + n) (put_mid k n w t) ≡ (take at l ++ f) ++ t
+    = take-put_mid k n w t (k + n) (omega arith) (omega arith) ∙ ap (λ (x : List ℤ). x ++ t) (take-put_mid at m l f k (omega arith) (omega arith)) in
+    let back : drop (k + n) (put_mid k n w t) ≡ drop (k + n) l
+    = drop-put_mid k n w t (k + n) (omega arith) (omega arith) g ∙ drop-put_mid at m l f (k + n) (omega arith) (omega arith) e in
+    let last : k + n ≡ at + length (f ++ t) = omega arith in
+    sym (take-append-drop (k + n) (put_mid k n w t))
+    ∙ (λ j. front j ++ back j)
+    ∙ ap (λ (x : List ℤ). x ++ drop (k + n) l) (append_assoc (take at l) f t)
+    ∙ ap (λ (x : ℕ). (take at l ++ (f ++ t)) ++ drop x l) last
+    ∙ sym (sets-eq (f ++ t) l at (omega arith))
 
-pub storing-none : (f : ℕ → ℤ) (n : ℕ) (l : List ℤ) (at : ℕ) → length l ≡ 2304 → Storing f n l at 0 l
-storing-none f n l at e = record { within = omega arith; long = e; is = refl }
-
-pub storing-more : {f : ℕ → ℤ} {n : ℕ} {l : List ℤ} {at k : ℕ} {v : List ℤ} → Storing f n l at k v → k < n → mag (f k) < 128
-    → Storing f n l at (k + 1) (set v (at + k) (to_z w8 (of_z w8 (f k))))
-storing-more {f} {n} {l} {at} {k} {v} h m b =
-    let xs = tabulate f 0 n in
-    let size = long-table f 0 n in
-    let w = to_z w8 (of_z w8 (f k)) in
-    let here : w ≡ get_or xs k (pos 0) = to_z-of_z {w = w8} {z = f k} (record { sfits = b }) ∙ sym (entry f (pos 0) n k m) in
-    record {
-      within = omega arith;
-      long = length-set v (at + k) w ∙ h.long;
-      is = (λ j. set (h.is j) (at + k) (here j))
-          ∙ ap (λ (i : ℕ). set (sets l at (take k xs)) (at + i) (get_or xs k (pos 0))) (sym (length-take-le k xs (omega arith)))
-          ∙ sym (ap (λ (i : ℕ). sets l at (take i xs)) (add-one k) ∙ ap (sets l at) (take-suc xs k (pos 0) (omega arith))
-          ∙ sets-append (take k xs) (get_or xs k (pos 0) ∷ []) l at);
-    }
-
-stored-all : {f : ℕ → ℤ} {n : ℕ} {l : List ℤ} {at k : ℕ} {v : List ℤ} → Storing f n l at k v → n ≤ k → v ≡ sets l at (tabulate f 0 n)
-stored-all {f} {n} {l} {at} {k} h m = let size = long-table f 0 n in h.is ∙ ap (sets l at) (take_all k (tabulate f 0 n) (omega arith))
-
-pub stored-law : (f : Flat) (i : ℕ) (o : Operator) {k m : ℕ} {u v : List ℤ} → Storing (factor_at o) 9 f.numbers (12 * i) k u → 9 ≤ k
-    → Storing (translation_at o) 3 u (12 * i + 9) m v → 3 ≤ m → ◌≡◌ {A = Flat} (record { numbers = v }) (stored_row f i o)
-stored-law f i o h p g q =
-    ap {B = Flat} (λ (w : List ℤ). record { numbers = w })
-    (stored-all g q ∙ ap (λ (w : List ℤ). sets w (12 * i + 9) (tabulate (translation_at o) 0 3)) (stored-all h p)
-    ∙ sym (sets-append (tabulate (factor_at o) 0 9) (tabulate (translation_at o) 0 3) f.numbers (12 * i)))
-
-pub with-room : (f : Flat) (i : ℕ) (o : Operator) → i < 192 → stored_row f i o ≡ with_row f i o
+pub store_law : (f : Flat) (i : ℕ) (o : Operator) (a b : List ℤ) (m n k : ℕ) → i < 192 → length f.numbers ≡ 2304 → length o.factors ≡ 9 → length o.translations ≡ 3
+    → a ≡ o.factors → b ≡ o.translations → m ≡ 9 → n ≡ 3 → k ≡ 12 * i + 9
+    → ◌≡◌ {A = Flat} (record { numbers = put_mid k n (put_mid (12 * i) m f.numbers a) b }) (with_row f i o)
 unfolding with_row
-with-room f i o h = rw (lt-ltb i 192 h)
+store_law f i o a b m n k h long nine three p q e g at =
+    rw (lt-ltb i 192 h)
+    (ap {B = Flat} (λ (w : List ℤ). record { numbers = w })
+    (stored_both f.numbers a b (12 * i) m n k (ap length p ∙ nine ∙ sym e) (ap length q ∙ three ∙ sym g) (omega arith) (omega arith)
+    ∙ (λ j. sets f.numbers (12 * i) (p j ++ q j))
+    ∙ ap (sets f.numbers (12 * i)) (twelve-is o nine three)))
 
-pub no_room : (f : Flat) (i : ℕ) (o : Operator) → 192 ≤ i → f ≡ with_row f i o
-unfolding with_row
-no_room f i o h = rw (le-ltb i 192 h)
-
-pub few-rows : (f : Flat) (n : ℕ) → n ≤ 192 → checked (take (12 * n) f.numbers) ≡ flat_checked f n
+few-rows : (f : Flat) (n : ℕ) → n ≤ 192 → checked (take (12 * n) f.numbers) ≡ flat_checked f n
 unfolding flat_checked
 few-rows f n h = rw (le-leb n 192 h)
 
-pub many-rows : (f : Flat) (n : ℕ) → 192 < n → outcome 13 0 ≡ flat_checked f n
+many-rows : (f : Flat) (n : ℕ) → 192 < n → outcome 13 0 ≡ flat_checked f n
 unfolding flat_checked
 many-rows f n h = rw (lt-leb n 192 h)
 
@@ -125,9 +107,9 @@ filled l (suc i) h k = step (filled l i (omega arith) (omega arith))
         ∙ ap (λ (w : List ℤ). all_numbers (take i l) ++ w) (append-nil (twelve o))) in
         record { long = rw (lt-ltb i 192 k) (length-sets v (12 * i) (twelve o) ∙ long); so-far = rw (lt-ltb i 192 k) cut }
 
-pub named-law : (l : List Operator) → flat_checked (filled_to l (length l)) (length l) ≡ checked_named l
+pub named_law : (l : List Operator) → flat_checked (filled_to l (length l)) (length l) ≡ checked_named l
 unfolding checked_named
-named-law l = by_cases (leb (length l) 192)
+named_law l = by_cases (leb (length l) 192)
     (λ t. let h = leb-true (length l) 192 t in
     sym (few-rows (filled_to l (length l)) (length l) h) ∙ ap checked ((filled l (length l) (le_refl _) h).so-far ∙ ap all_numbers (take-length l)))
     (λ t. let h = leb-false (length l) 192 t in let e = numbers-length l in

@@ -1,13 +1,11 @@
 // Operators by name, and the list of numbers that their check is lent (document 02, No. 5).
 #![tactic(auto)]
 
-ghost use Rattle.std.specs.Prelude.{◌≡◌, ◌<◌};
-ghost use Rattle.symmetry_operators.specs.Check.{row_most};
+ghost use Rattle.std.specs.Prelude.{◌≡◌};
 ghost use Rattle.symmetry_judged.specs.Answer.{outcome_of};
-ghost use Rattle.symmetry_named.specs.Named.{flat_of_zeros, stored_row, with_row, flat_checked};
+ghost use Rattle.symmetry_named.specs.Named.{flat_of_zeros, with_row, flat_checked};
 
-use symmetry_answers::ListAnswer;
-use symmetry_judged::{Checked, refused};
+use symmetry_answers::ListRefusal;
 use symmetry_list::check_list;
 use symmetry_operators::{LIST_MOST, ROW_LENGTH, ROW_MOST};
 
@@ -19,60 +17,43 @@ pub struct Operator {
 }
 
 // The numbers of 192 rows, and room for no more.
+// How many rows there are is the caller's to say: `with_row` and `flat_checked` promise it for any place and any number.
 #[derive(Clone, Copy)]
 pub struct Flat {
     pub numbers: [i8; LIST_MOST],
 }
 
-// No rows yet.
-pub fn no_rows() -> Flat
-    ensures { result ≡ flat_of_zeros }
-{
-    Flat {
-        numbers: [0; LIST_MOST],
+impl Flat {
+    // No rows yet.
+    #[tactic(auto, unfolding(crate::specs::Named::flat_of_zeros))]
+    pub fn new() -> Flat
+        ensures { result ≡ flat_of_zeros }
+    {
+        Flat {
+            numbers: [0; LIST_MOST],
+        }
     }
-}
 
-// The numbers of an operator, stored as row i.
-fn stored(f: Flat, i: usize, o: Operator) -> Flat
-    requires { i < row_most }
-    ensures { result ≡ stored_row f i o }
-{
-    let mut v = f.numbers;
-    let a = o.factors;
-    let t = o.translations;
-    let at = ROW_LENGTH * i;
-    let mut k = 0;
-    while k < 9 {
-        v[at + k] = a[k];
-        k += 1;
+    // Stores the numbers of an operator as row i, where there is room.
+    #[tactic(auto, using(crate::proofs::Filling::store_law), unfolding(crate::specs::Named::with_row))]
+    pub fn store(&mut self, i: usize, o: Operator)
+        ensures { self.new ≡ with_row self.old i o }
+    {
+        if i < ROW_MOST {
+            let at = ROW_LENGTH * i;
+            self.numbers[at..at + 9].copy_from_slice(&o.factors);
+            self.numbers[at + 9..at + 12].copy_from_slice(&o.translations);
+        }
     }
-    let mut m = 0;
-    while m < 3 {
-        v[at + 9 + m] = t[m];
-        m += 1;
-    }
-    Flat { numbers: v }
-}
 
-// The same where there is room.
-pub fn with_row(f: Flat, i: usize, o: Operator) -> Flat
-    ensures { result ≡ with_row f i o }
-{
-    if i < ROW_MOST {
-        return stored(f, i, o);
+    // The check of the first n rows.
+    #[tactic(auto, unfolding(crate::specs::Named::flat_checked))]
+    pub fn check(&self, n: usize) -> Result<u64, ListRefusal>
+        ensures { outcome_of result ≡ flat_checked self.now n }
+    {
+        if n > ROW_MOST {
+            return Err(ListRefusal::NoList);
+        }
+        check_list(&self.numbers[..ROW_LENGTH * n])
     }
-    f
-}
-
-// The check of the first n rows.
-pub fn check_flat(f: Flat, n: usize) -> Checked
-    ensures { outcome_of result ≡ flat_checked f n }
-{
-    if n <= ROW_MOST {
-        let v = f.numbers;
-        let end = ROW_LENGTH * n;
-        return check_list(&v[..end]);
-    }
-    refused(ListAnswer::NoList)
 }

@@ -6,33 +6,26 @@ use mathlib.Core.Logic.{◌⊎◌, inl, inr}
 use mathlib.Core.List.{List, [], ◌∷◌, ◌++◌, append-nil}
 use Prim.Native.Nat.{ℕ, ◌+◌, ◌≤◌, ◌<◌}
 use native.Mathlib.Omega.{arith}
-use borrow.Author.Tests.{eqb-true, eqb-false, leb-false}
+use borrow.Author.Tests.{eqb-true, leb-false}
 use lib.Dec.{eqb, leb}
-use lib.ListN.{length, get_or, drop, length-append}
+use lib.ListN.{length, drop, length-append}
 use lib.Seq.{drop_at}
 use lib.IntN.{ℤ, pos}
+use Rattle.std.specs.Prelude.{Option, Some, None, option_map}
+use Rattle.std.proofs.lemmas.Option.{none-some, same_Some}
 use Rattle.text.proofs.Bools.{or-either, cond-first}
 use Rattle.symmetry_operators.specs.Operator.{Part}
 use Rattle.symmetry_fractions.specs.Grammar.{sign_byte, with_sign, IsFraction}
 use Rattle.symmetry_fractions.specs.Reading.{is_sign, signed24ths, fraction_of}
 use Rattle.symmetry_fractions.proofs.Wording.{fraction-size, fraction-length, begins}
 use Rattle.symmetry_parts.specs.Grammar.{Letter, letter_byte, Signed, sum_text, times_in, WithFraction, MayLackPlus, IsPart}
-use Rattle.symmetry_parts.specs.Reading.{part_numbers, is_free, with_letter, last_fraction, more_of, after_first_sign, part_of}
+use Rattle.symmetry_parts.specs.Reading.{part_numbers, is_free, with_letter, with_translation, last_fraction, more_of, first_of, after_first_sign, part_of}
 use Rattle.symmetry_parts.specs.declared.Sum.{Sum}
-use Rattle.symmetry_parts.specs.declared.PartReading.{PartReading}
-use Rattle.symmetry_parts.specs.declared.PartReading.TheVariants.{Found, NoPart}
-use Rattle.symmetry_parts.proofs.Turns.{free-within, sign-within}
 use Rattle.symmetry_parts.proofs.Letters.{put_all, fits, all-translation}
 use Rattle.symmetry_parts.proofs.Worth.{Tail, start, factors, sum-worth, own-worth, fit-once, signed-residue, signed-some}
 
-not_found : (q : Sum) → NoPart ≡ Found q → ⊥
-not_found q e = let z : ◌≡◌ {A = ℕ} 0 1 = cc in omega arith
-
-found-same : (p q : Sum) → Found p ≡ Found q → p ≡ q
-found-same p q e = cc
-
 -- a choice that is not its first side is its second, and the test fails
-cond-second : (t : Bool) (x y z : PartReading) → (x ≡ z → ⊥) → cond t x y ≡ z → (t ≡ false) × (y ≡ z)
+cond-second : (t : Bool) (x y z : Option Sum) → (x ≡ z → ⊥) → cond t x y ≡ z → (t ≡ false) × (y ≡ z)
 cond-second true x y z n e = absurd (n e)
 cond-second false x y z n e = (refl, e)
 
@@ -69,23 +62,25 @@ empty_of : (r : List ℕ) → length r ≡ 0 → r ≡ []
 empty_of [] e = refl
 empty_of (b ∷ r) e = absurd (omega arith)
 
-fraction-whole : (s : List ℕ) → length s ≡ 3 → 1 ≤ fraction_of s → IsFraction s (fraction_of s)
-fraction-whole s e some =
-    let b = begins s some in
+fraction-whole : (s : List ℕ) (size : ℕ) → length s ≡ 3 → fraction_of s ≡ Some size → IsFraction s size
+fraction-whole s size e some =
+    let b = begins s size some in
     let long : length s ≡ length b.fraction + length b.rest = ap length b.text ∙ length-append b.fraction b.rest in
     let none : b.rest ≡ [] = empty_of b.rest (omega (arith, fraction-length b.is-fraction)) in
     let same : b.fraction ≡ s = sym (b.text ∙ ap (λ (r : List ℕ). b.fraction ++ r) none ∙ append-nil b.fraction) in
-    subst (λ (t : List ℕ). IsFraction t (fraction_of s)) same b.is-fraction
+    subst (λ (t : List ℕ). IsFraction t size) same b.is-fraction
 
-last-is : (p : Sum) (minus : Bool) (s : List ℕ) (q : Sum) → last_fraction p (sign_byte minus) s ≡ Found q → Tail p (sign_byte minus ∷ s) q
+last-by : (p : Sum) (minus : Bool) (s : List ℕ) (q : Sum) (x : Option ℕ) → fraction_of s ≡ x → length s ≡ 3 → p.t ≡ 0
+    → option_map (λ (size : ℕ). with_translation p (signed24ths (sign_byte minus) size)) x ≡ Some q → Tail p (sign_byte minus ∷ s) q
+last-by p minus s q None h l z e = absurd (none-some q e)
+last-by p minus s q (Some n) h l z e = subst (Tail p (sign_byte minus ∷ s)) (same_Some _ q e) (Tail.last minus s n (fraction-whole s n l h) z)
+
+last-is : (p : Sum) (minus : Bool) (s : List ℕ) (q : Sum) → last_fraction p (sign_byte minus) s ≡ Some q → Tail p (sign_byte minus ∷ s) q
 unfolding last_fraction
 last-is p minus s q e =
-    let a = cond-first (eqb p.t 0) _ NoPart (Found q) (not_found q) e in
-    let b = cond-first (eqb (length s) 3) _ NoPart (Found q) (not_found q) a.1 in
-    let c = cond-second (eqb (fraction_of s) 0) NoPart _ (Found q) (not_found q) b.1 in
-    let some : fraction_of s ≡ 0 → ⊥ = eqb-false _ _ c.0 in
-    subst (Tail p (sign_byte minus ∷ s)) (found-same _ q c.1)
-    (Tail.last minus s (fraction_of s) (fraction-whole s (eqb-true _ _ b.0) (omega (arith, some))) (eqb-true _ _ a.0))
+    let a = cond-first (eqb p.t 0) _ None (Some q) (none-some q) e in
+    let b = cond-first (eqb (length s) 3) _ None (Some q) (none-some q) a.1 in
+    last-by p minus s q (fraction_of s) refl (eqb-true _ _ b.0) (eqb-true _ _ a.0) b.1
 
 -- what is read after p: signed letters that fit, and the tail
 record Rest (p : Sum) (s : List ℕ) (q : Sum) : Type 0 where
@@ -107,8 +102,8 @@ added p minus c r q f k =
       is-tail = k.is-tail;
     }
 
-more_by : (p : Sum) (sign b : ℕ) (r : List ℕ) (q : Sum) → (more_of (with_letter p b (signed24ths sign 1)) r ≡ Found q → Rest (with_letter p b (signed24ths sign 1)) r q)
-    → (t : Bool) → is_free p b ≡ t → SignOf sign → cond t (more_of (with_letter p b (signed24ths sign 1)) r) (last_fraction p sign (b ∷ r)) ≡ Found q → Rest p (sign ∷ (b ∷ r)) q
+more_by : (p : Sum) (sign b : ℕ) (r : List ℕ) (q : Sum) → (more_of (with_letter p b (signed24ths sign 1)) r ≡ Some q → Rest (with_letter p b (signed24ths sign 1)) r q)
+    → (t : Bool) → is_free p b ≡ t → SignOf sign → cond t (more_of (with_letter p b (signed24ths sign 1)) r) (last_fraction p sign (b ∷ r)) ≡ Some q → Rest p (sign ∷ (b ∷ r)) q
 unfolding fits put_all sum_text
 more_by p sign b r q ih true f s e =
     let l = letter-of p b f in
@@ -127,12 +122,12 @@ more_by p sign b r q ih false f s e =
       is-tail = subst (λ (x : ℕ). Tail p (x ∷ (b ∷ r)) q) (sym s.is) last;
     }
 
-more-is : (p : Sum) (s : List ℕ) (q : Sum) → more_of p s ≡ Found q → Rest p s q
+more-is : (p : Sum) (s : List ℕ) (q : Sum) → more_of p s ≡ Some q → Rest p s q
 unfolding more_of fits put_all sum_text
-more-is p [] q e = record { letters = []; tail = []; text = refl; fit = refl; is-tail = subst (Tail p []) (found-same p q e) Tail.none }
-more-is p (sign ∷ []) q e = absurd (not_found q e)
+more-is p [] q e = record { letters = []; tail = []; text = refl; fit = refl; is-tail = subst (Tail p []) (same_Some p q e) Tail.none }
+more-is p (sign ∷ []) q e = absurd (none-some q e)
 more-is p (sign ∷ (b ∷ r)) q e =
-    let h = cond-first (is_sign sign) _ NoPart (Found q) (not_found q) e in
+    let h = cond-first (is_sign sign) _ None (Some q) (none-some q) e in
     more_by p sign b r q (more-is (with_letter p b (signed24ths sign 1)) r q) (is_free p b) refl (sign_of sign h.0) h.1
 
 -- a part's text with every sign
@@ -198,39 +193,36 @@ fraction-full minus {t} {n} r q h some k = by k.letters k.fit k.text k.is-tail
         }
     by l f e (Tail.last _ _ _ _ z) = let size = fraction-size h in absurd (signed-some minus n size.0 size.1 (sym (all-translation (start m) l) ∙ z))
 
-letter-first : (minus : Bool) (s : List ℕ) (q : Sum) → is_free (start 0) (get_or s 0 0) ≡ true
-    → more_of (with_letter (start 0) (get_or s 0 0) (signed24ths (sign_byte minus) 1)) (drop 1 s) ≡ Found q → Full (sign_byte minus ∷ s) (part_numbers q)
-letter-first minus [] q f e = absurd (omega (arith, free-within (start 0) [] 0 f))
-letter-first minus (b ∷ r) q f e =
+letter-first : (minus : Bool) (b : ℕ) (r : List ℕ) (q : Sum) → is_free (start 0) b ≡ true
+    → more_of (with_letter (start 0) b (signed24ths (sign_byte minus) 1)) r ≡ Some q → Full (sign_byte minus ∷ (b ∷ r)) (part_numbers q)
+letter-first minus b r q f e =
     let l = letter-of (start 0) b f in
     let c = l.letter in
     let k = subst (λ (x : ℕ). Rest (with_letter (start 0) x (signed24ths (sign_byte minus) 1)) r q) l.is (more-is _ r q e) in
     subst (λ (x : ℕ). Full (sign_byte minus ∷ (x ∷ r)) (part_numbers q)) (sym l.is) (letter-full minus c r q (ap (is_free (start 0)) (sym l.is) ∙ f) k)
 
-fraction-first-is : (minus : Bool) (s : List ℕ) (q : Sum) → 1 ≤ fraction_of s → 3 < length s
-    → more_of (start (signed24ths (sign_byte minus) (fraction_of s))) (drop 3 s) ≡ Found q → Full (sign_byte minus ∷ s) (part_numbers q)
-fraction-first-is minus s q some long e =
-    let b = begins s some in
+fraction-first-is : (minus : Bool) (s : List ℕ) (n : ℕ) (q : Sum) → fraction_of s ≡ Some n → 3 < length s
+    → more_of (start (signed24ths (sign_byte minus) n)) (drop 3 s) ≡ Some q → Full (sign_byte minus ∷ s) (part_numbers q)
+fraction-first-is minus s n q some long e =
+    let b = begins s n some in
     let f = b.is-fraction in
     let rest : drop 3 s ≡ b.rest = ap (drop 3) b.text ∙ drop_at b.fraction b.rest 3 (fraction-length f) in
     let total : length s ≡ length b.fraction + length b.rest = ap length b.text ∙ length-append b.fraction b.rest in
     let more : 1 ≤ length b.rest = omega (arith, fraction-length f) in
-    let k = more-is (start (signed24ths (sign_byte minus) (fraction_of s))) b.rest q (ap (more_of (start (signed24ths (sign_byte minus) (fraction_of s)))) (sym rest) ∙ e) in
+    let k = more-is (start (signed24ths (sign_byte minus) n)) b.rest q (ap (more_of (start (signed24ths (sign_byte minus) n))) (sym rest) ∙ e) in
     subst (λ (u : List ℕ). Full (sign_byte minus ∷ u) (part_numbers q)) (sym b.text) (fraction-full minus b.rest q f more k)
 
-first_by : (minus : Bool) (s : List ℕ) (q : Sum) (t : Bool) → eqb (fraction_of s) 0 ≡ t
-    → cond t (cond (is_free (start 0) (get_or s 0 0)) (more_of (with_letter (start 0) (get_or s 0 0) (signed24ths (sign_byte minus) 1)) (drop 1 s)) NoPart)
-    (cond (leb (length s) 3) NoPart (more_of (start (signed24ths (sign_byte minus) (fraction_of s))) (drop 3 s))) ≡ Found q
+first_by : (minus : Bool) (s : List ℕ) (q : Sum) (x : Option ℕ) → fraction_of s ≡ x → first_of (sign_byte minus) s x ≡ Some q
     → Full (sign_byte minus ∷ s) (part_numbers q)
-first_by minus s q true z e = let h = cond-first (is_free (start 0) (get_or s 0 0)) _ NoPart (Found q) (not_found q) e in letter-first minus s q h.0 h.1
-first_by minus s q false z e =
-    let h = cond-second (leb (length s) 3) NoPart _ (Found q) (not_found q) e in
-    let some : fraction_of s ≡ 0 → ⊥ = eqb-false _ _ z in
-    fraction-first-is minus s q (omega (arith, some)) (leb-false _ _ h.0) h.1
+first_by minus [] q None z e = absurd (none-some q e)
+first_by minus (b ∷ r) q None z e = let h = cond-first (is_free (start 0) b) _ None (Some q) (none-some q) e in letter-first minus b r q h.0 h.1
+first_by minus s q (Some n) z e =
+    let h = cond-second (leb (length s) 3) None _ (Some q) (none-some q) e in
+    fraction-first-is minus s n q z (leb-false _ _ h.0) h.1
 
-first-is : (minus : Bool) (s : List ℕ) (q : Sum) → after_first_sign (sign_byte minus) s ≡ Found q → Full (sign_byte minus ∷ s) (part_numbers q)
+first-is : (minus : Bool) (s : List ℕ) (q : Sum) → after_first_sign (sign_byte minus) s ≡ Some q → Full (sign_byte minus ∷ s) (part_numbers q)
 unfolding after_first_sign
-first-is minus s q e = first_by minus s q (eqb (fraction_of s) 0) refl e
+first-is minus s q e = first_by minus s q (fraction_of s) refl e
 
 written_is : {full t : List ℕ} {p : Part ℤ} → Full full p → MayLackPlus full t → IsPart t p
 written_is {full} k w =
@@ -245,15 +237,16 @@ written_is {full} k w =
       worth = k.worth;
     }
 
-part_by : (s : List ℕ) (q : Sum) (t : Bool) → is_sign (get_or s 0 0) ≡ t → cond t (after_first_sign (get_or s 0 0) (drop 1 s)) (after_first_sign 43 s) ≡ Found q → IsPart s (part_numbers q)
-part_by [] q true h e = absurd (omega (arith, sign-within [] 0 h))
-part_by (b ∷ r) q true h e =
+part_by : (b : ℕ) (r : List ℕ) (q : Sum) (t : Bool) → is_sign b ≡ t → cond t (after_first_sign b r) (after_first_sign 43 (b ∷ r)) ≡ Some q
+    → IsPart (b ∷ r) (part_numbers q)
+part_by b r q true h e =
     let s = sign_of b h in
     let full = first-is s.minus r q (ap (λ (x : ℕ). after_first_sign x r) (sym s.is) ∙ e) in
     subst (λ (x : ℕ). IsPart (x ∷ r) (part_numbers q)) (sym s.is) (written_is full (MayLackPlus.in_full _))
-part_by s q false h e = written_is (first-is false s q e) (MayLackPlus.plus_missing s)
+part_by b r q false h e = written_is (first-is false (b ∷ r) q e) (MayLackPlus.plus_missing (b ∷ r))
 
 -- what is read as a part the grammar takes for it
-pub part-is : (s : List ℕ) (q : Sum) → part_of s ≡ Found q → IsPart s (part_numbers q)
+pub part-is : (s : List ℕ) (q : Sum) → part_of s ≡ Some q → IsPart s (part_numbers q)
 unfolding part_of
-part-is s q e = part_by s q (is_sign (get_or s 0 0)) refl e
+part-is [] q e = written_is (first-is false [] q e) (MayLackPlus.plus_missing [])
+part-is (b ∷ r) q e = part_by b r q (is_sign b) refl e

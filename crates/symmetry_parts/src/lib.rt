@@ -2,12 +2,13 @@
 // A client cites Reading (part_of). That this reading is the document's wording (Grammar) is shown in proofs/Sound.antt and proofs/Complete.antt.
 #![tactic(auto)]
 
-ghost use Rattle.std.specs.Prelude.{◌≡◌, get_or};
+ghost use Rattle.std.specs.Prelude.{◌≡◌};
 ghost use Rattle.symmetry_parts.specs.Reading.{is_free, with_letter, last_fraction, more_of, after_first_sign, part_of};
 
-use symmetry_fractions::FRACTION;
+use symmetry_fractions::{FRACTION, is_sign, read_fraction, signed};
 
 // What is read of a part: the factors of x, y, z and the translation in 24ths, all modulo 24, so that −1 is 23; 0 for what is not there.
+// It is no generic part with `RowPart` of symmetry_readings: these are residues, and no function takes both.
 #[derive(Clone, Copy)]
 pub struct Sum {
     pub x: u8,
@@ -16,21 +17,16 @@ pub struct Sum {
     pub t: u8,
 }
 
-// What reading a part finds: its numbers, or that a text is none.
-#[derive(Clone, Copy)]
-pub enum PartReading {
-    Found(Sum),
-    NoPart,
-}
-
-// The byte at a place, or 0 past the end.
-fn byte_at(s: &[u8], at: usize) -> u8
-    ensures { result ≡ get_or s.now at 0 }
-{
-    if at < s.len() { s[at] } else { 0 }
-}
+// A part of which nothing is read.
+const NOTHING: Sum = Sum {
+    x: 0,
+    y: 0,
+    z: 0,
+    t: 0,
+};
 
 // Whether b is a letter that is not yet in p.
+#[tactic(auto, unfolding(crate::specs::Reading::is_free))]
 fn is_free(p: Sum, b: u8) -> bool
     ensures { result ≡ is_free p b }
 {
@@ -43,116 +39,79 @@ fn is_free(p: Sum, b: u8) -> bool
 }
 
 // p with the factor n of the letter b.
+#[tactic(auto, unfolding(crate::specs::Reading::with_letter))]
 fn with_letter(p: Sum, b: u8, n: u8) -> Sum
     ensures { result ≡ with_letter p b n }
 {
     match b {
-        b'x' => Sum {
-            x: n,
-            y: p.y,
-            z: p.z,
-            t: p.t,
-        },
-        b'y' => Sum {
-            x: p.x,
-            y: n,
-            z: p.z,
-            t: p.t,
-        },
-        _ => Sum {
-            x: p.x,
-            y: p.y,
-            z: n,
-            t: p.t,
-        },
+        b'x' => Sum { x: n, ..p },
+        b'y' => Sum { y: n, ..p },
+        _ => Sum { z: n, ..p },
     }
 }
 
 // After p and a sign there is no further letter: s is the fraction, if there was none before.
-fn read_last(p: Sum, sign: u8, s: &[u8]) -> PartReading
+#[tactic(auto, unfolding(crate::specs::Reading::last_fraction))]
+fn read_last(p: Sum, sign: u8, s: &[u8]) -> Option<Sum>
     ensures { result ≡ last_fraction p sign s.now }
 {
     if p.t != 0 {
-        return PartReading::NoPart;
+        return None;
     }
     if s.len() != FRACTION {
-        return PartReading::NoPart;
+        return None;
     }
-    let size = symmetry_fractions::read_fraction(s);
-    if size == 0 {
-        return PartReading::NoPart;
-    }
-    PartReading::Found(Sum {
-        x: p.x,
-        y: p.y,
-        z: p.z,
-        t: symmetry_fractions::signed(sign, size),
-    })
+    let t = signed(sign, read_fraction(s)?);
+    Some(Sum { t, ..p })
 }
 
 // The part that begins with p and goes on with s: signed letters, and at the end the fraction, if there was none before.
-fn read_more(p: Sum, s: &[u8]) -> PartReading
+#[tactic(auto, using(crate::proofs::Turns::turn), unfolding(crate::specs::Reading::more_of))]
+fn read_more(p: Sum, s: &[u8]) -> Option<Sum>
     ensures { result ≡ more_of p s.now }
 {
     let mut sum = p;
-    let mut i = 0;
-    while i < s.len() {
-        let sign = s[i];
-        if !symmetry_fractions::is_sign(sign) {
-            return PartReading::NoPart;
+    let mut left = s;
+    while let [sign, b, rest @ ..] = left {
+        if !is_sign(*sign) {
+            return None;
         }
-        let b = byte_at(s, i + 1);
-        if !is_free(sum, b) {
-            return read_last(sum, sign, &s[i + 1..]);
+        if !is_free(sum, *b) {
+            return read_last(sum, *sign, &left[1..]);
         }
-        sum = with_letter(sum, b, symmetry_fractions::signed(sign, 1));
-        i += 2;
+        sum = with_letter(sum, *b, signed(*sign, 1));
+        left = rest;
     }
-    PartReading::Found(sum)
+    left.is_empty().then_some(sum)
 }
 
 // The part that s is after its first sign.
-fn read_first(sign: u8, s: &[u8]) -> PartReading
+#[tactic(auto, unfolding(crate::specs::Reading::after_first_sign))]
+fn read_first(sign: u8, s: &[u8]) -> Option<Sum>
     ensures { result ≡ after_first_sign sign s.now }
 {
-    let size = symmetry_fractions::read_fraction(s);
-    if size != 0 {
+    if let Some(size) = read_fraction(s) {
         if s.len() <= FRACTION {
-            return PartReading::NoPart;
+            return None;
         }
-        return read_more(
-            Sum {
-                x: 0,
-                y: 0,
-                z: 0,
-                t: symmetry_fractions::signed(sign, size),
-            },
-            &s[FRACTION..],
-        );
+        let t = signed(sign, size);
+        return read_more(Sum { t, ..NOTHING }, &s[FRACTION..]);
     }
-    let b = byte_at(s, 0);
-    let none = Sum {
-        x: 0,
-        y: 0,
-        z: 0,
-        t: 0,
-    };
-    if !is_free(none, b) {
-        return PartReading::NoPart;
+    match s {
+        [b, rest @ ..] if is_free(NOTHING, *b) => {
+            read_more(with_letter(NOTHING, *b, signed(sign, 1)), rest)
+        }
+        _ => None,
     }
-    read_more(
-        with_letter(none, b, symmetry_fractions::signed(sign, 1)),
-        &s[1..],
-    )
 }
 
 // The part that s is.
-pub fn read_part(s: &[u8]) -> PartReading
+#[tactic(auto, unfolding(crate::specs::Reading::part_of))]
+pub fn read_part(s: &[u8]) -> Option<Sum>
     ensures { result ≡ part_of s.now }
 {
-    let b = byte_at(s, 0);
-    if symmetry_fractions::is_sign(b) {
-        return read_first(b, &s[1..]);
+    match s {
+        [sign, rest @ ..] if is_sign(*sign) => read_first(*sign, rest),
+        _ => read_first(b'+', s),
     }
-    read_first(b'+', s)
 }

@@ -1,19 +1,14 @@
--- What the products compute, from what each step gives.
+-- The determinant, from what each step gives.
 -- Assumes nothing.
 use mathlib.Core.Path.{◌≡◌, sym, ap, ◌∙◌}
 use mathlib.Core.Bool.{Bool, ◌||◌}
 use mathlib.Core.List.{List}
-use Prim.Native.Nat.{ℕ, ◌+◌, ◌*◌, ◌/◌, ◌%◌, ◌≤◌, ◌<◌}
-use native.Mathlib.Nat.{mul-le-mul, mul_assoc}
-use native.Mathlib.Omega.{arith}
+use Prim.Native.Nat.{ℕ, ◌+◌, ◌*◌, ◌%◌}
+use native.Mathlib.Nat.{mul_assoc}
 use lib.Dec.{eqb}
 use lib.ListN.{get_or}
-use Rattle.symmetry_operators.specs.Operator.{part}
-use Rattle.symmetry_operators.specs.Residues.{minor_n, det_n, turns_n, packed, word_after, product_code, row_from_n}
+use Rattle.symmetry_operators.specs.Residues.{minor_n, det_n, turns_n, row_from_n}
 use Rattle.symmetry_operators.proofs.Modulo.{strip-right}
-
-pub product-most : (a b : ℕ) → a < 65536 → b < 65536 → a * b ≤ 4294836225
-product-most a b h k = let f : a ≤ 65535 = omega arith in let g : b ≤ 65535 = omega arith in mul-le-mul f g
 
 module _ (r : List ℕ) where
   abbrev at : ℕ → ℕ
@@ -23,21 +18,12 @@ module _ (r : List ℕ) where
       % 12288
   expand m n o = rw (sym (mul_assoc 12287 (at 1) (n % 12288)), sym (mul_assoc 12287 (at 1) n)) (strip-right m n o (at 0) (12287 * at 1) (at 2))
 
-  pub unit-law : {m n o d : ℕ} {t : Bool} → m ≡ minor_n (at 4) (at 5) (at 7) (at 8) % 12288 → n ≡ minor_n (at 3) (at 5) (at 6) (at 8) % 12288
+  pub unit_law : {m n o d : ℕ} {t : Bool} → m ≡ minor_n (at 4) (at 5) (at 7) (at 8) % 12288 → n ≡ minor_n (at 3) (at 5) (at 6) (at 8) % 12288
       → o ≡ minor_n (at 3) (at 4) (at 6) (at 7) % 12288 → d ≡ (at 0 * m + 12287 * (at 1 * n) + at 2 * o) % 12288 → t ≡ (eqb d 1 || eqb d 12287)
       → t ≡ turns_n (row_from_n r)
   unfolding turns_n row_from_n
-  unit-law {m} {n} {o} {d} e f g h i =
+  unit_law {m} {n} {o} {d} e f g h i =
       let det : d ≡ det_n (row_from_n r) % 12288
       = h ∙ (λ j. (at 0 * e j + 12287 * (at 1 * f j) + at 2 * g j) % 12288)
       ∙ expand (minor_n (at 4) (at 5) (at 7) (at 8)) (minor_n (at 3) (at 5) (at 6) (at 8)) (minor_n (at 3) (at 4) (at 6) (at 7)) in
       i ∙ ap (λ (n : ℕ). eqb n 1 || eqb n 12287) det
-
-  pub product_law : (c : ℕ) {i j k f g h n : ℕ} → i ≡ c / 4294967296 % 65536 → j ≡ c / 65536 % 65536 → k ≡ c % 65536
-      → f ≡ word_after (part (at 0) (at 1) (at 2) (at 9)) i j k → g ≡ word_after (part (at 3) (at 4) (at 5) (at 10)) i j k
-      → h ≡ word_after (part (at 6) (at 7) (at 8) (at 11)) i j k → n ≡ packed f g h → n ≡ product_code (row_from_n r) c
-  unfolding product_code row_from_n
-  product_law c p q s a b d e =
-      e ∙ (λ t. packed (a t) (b t) (d t))
-      ∙ (λ t. packed (word_after (part (at 0) (at 1) (at 2) (at 9)) (p t) (q t) (s t))
-      (word_after (part (at 3) (at 4) (at 5) (at 10)) (p t) (q t) (s t)) (word_after (part (at 6) (at 7) (at 8) (at 11)) (p t) (q t) (s t)))

@@ -1,7 +1,7 @@
 // Operators modulo 12288, as twelve residues: the determinant, and codes of products.
 #![tactic(auto)]
 
-ghost use Rattle.std.specs.Prelude.{◌≡◌, ◌||◌, ◌+◌, ◌*◌, ◌%◌, ◌≤◌, eqb};
+ghost use Rattle.std.specs.Prelude.{◌≡◌, ◌||◌, ◌+◌, ◌*◌, ◌/◌, ◌%◌, ◌≤◌, eqb};
 ghost use Rattle.symmetry_operators.specs.Operator.{part};
 ghost use Rattle.symmetry_operators.specs.Residues.{minor_n, turns_n, packed, word_after, product_code, row_from_n};
 
@@ -12,9 +12,10 @@ const NEGATED: u64 = MODULUS - 1;
 
 // A product, and a bound of it.
 fn mul(a: u16, b: u16) -> u64
-    ensures { (result ≡ a * b) × (result ≤ 4294836225) }
+    ensures value { result ≡ a * b }
+    ensures most { result ≤ 4294836225 }
 {
-    a as u64 * b as u64
+    u64::from(a) * u64::from(b)
 }
 
 fn minor(a: u16, b: u16, c: u16, d: u16) -> u16
@@ -33,13 +34,11 @@ fn expanded(a: u16, m: u16, b: u16, n: u16, c: u16, o: u16) -> u16
 fn is_unit(n: u16) -> bool
     ensures { result ≡ (eqb n 1 || eqb n 12287) }
 {
-    if n == 1 {
-        return true;
-    }
-    n == MINUS_ONE
+    n == 1 || n == MINUS_ONE
 }
 
 // Whether the determinant of a row of residues is 1 or −1.
+#[tactic(auto, using(crate::proofs::Laws::unit_law))]
 pub fn has_unit(numbers: [u16; 12]) -> bool
     ensures { result ≡ turns_n (row_from_n numbers) }
 {
@@ -49,35 +48,54 @@ pub fn has_unit(numbers: [u16; 12]) -> bool
     is_unit(expanded(numbers[0], m, numbers[1], n, numbers[2], o))
 }
 
-// The word of the part x, y, z, t after an operator with the words a, b and c.
-fn word_after(x: u16, y: u16, z: u16, t: u16, a: u16, b: u16, c: u16) -> u16
-    ensures { result ≡ word_after (part x y z t) a b c }
-{
-    ((mul(x, a) + mul(y, b) + mul(z, c) + t as u64) % MODULUS) as u16
+// The words of an operator's three parts.
+#[derive(Clone, Copy)]
+struct Words {
+    first: u16,
+    second: u16,
+    third: u16,
 }
 
-fn pack(a: u16, b: u16, c: u16) -> u64
-    ensures { result ≡ packed a b c }
-{
-    (a as u64 * 65536 + b as u64) * 65536 + c as u64
-}
+impl Words {
+    // Those of a code.
+    fn of(code: u64) -> Words
+        ensures first { result.first ≡ code / 4294967296 % 65536 }
+        ensures second { result.second ≡ code / 65536 % 65536 }
+        ensures third { result.third ≡ code % 65536 }
+    {
+        Words {
+            first: (code / 4294967296 % 65536) as u16,
+            second: (code / 65536 % 65536) as u16,
+            third: (code % 65536) as u16,
+        }
+    }
 
-fn last_word(c: u64) -> u16
-    ensures { result ≡ c % 65536 }
-{
-    (c % 65536) as u16
+    // The code of the operator with these words.
+    fn code(self) -> u64
+        ensures { result ≡ packed self.first self.second self.third }
+    {
+        (u64::from(self.first) * 65536 + u64::from(self.second)) * 65536 + u64::from(self.third)
+    }
+
+    // The word of the part x, y, z, t after the operator with these words.
+    fn after(self, x: u16, y: u16, z: u16, t: u16) -> u16
+        ensures { result ≡ word_after (part x y z t) self.first self.second self.third }
+    {
+        let sum = mul(x, self.first) + mul(y, self.second) + mul(z, self.third) + u64::from(t);
+        (sum % MODULUS) as u16
+    }
 }
 
 // The code of the product of a row of residues and an operator of which the code is known, which is applied first.
+#[tactic(auto, unfolding(symmetry_operators::specs::Residues::product_code, symmetry_operators::specs::Residues::row_from_n))]
 pub fn product_code(first: [u16; 12], second: u64) -> u64
     ensures { result ≡ product_code (row_from_n first) second }
 {
-    let i = last_word(second / 4294967296);
-    let j = last_word(second / 65536);
-    let k = last_word(second);
-    pack(
-        word_after(first[0], first[1], first[2], first[9], i, j, k),
-        word_after(first[3], first[4], first[5], first[10], i, j, k),
-        word_after(first[6], first[7], first[8], first[11], i, j, k),
-    )
+    let words = Words::of(second);
+    let product = Words {
+        first: words.after(first[0], first[1], first[2], first[9]),
+        second: words.after(first[3], first[4], first[5], first[10]),
+        third: words.after(first[6], first[7], first[8], first[11]),
+    };
+    product.code()
 }

@@ -1,4 +1,4 @@
-// What reading an operator's text answers (document 02, No. 5).
+// What reading an operator's text answers (document 02, No. 5): its row, or none.
 // A client cites Answers (reading_number, numbers).
 #![tactic(auto)]
 
@@ -14,32 +14,36 @@ pub struct RowPart {
     pub t: i8,
 }
 
-// What reading an operator's text finds: its row, or that it is none.
+// A row: the three parts of an operator.
 #[derive(Clone, Copy)]
-pub enum Reading {
-    Row(RowPart, RowPart, RowPart),
-    NoOperator,
+pub struct OperatorRow {
+    pub first: RowPart,
+    pub second: RowPart,
+    pub third: RowPart,
 }
 
 // The numbers of a row.
 pub const NUMBERS: usize = 12;
 
 // The number of a reading: 0 for a row, 13 for none.
-pub fn reading_number(r: Reading) -> u8
-    ensures { result ≡ reading_number r }
+// A function and no `From`, since an `Option` is a type of the library.
+pub fn reading_number(reading: Option<OperatorRow>) -> u8
+    ensures { result ≡ reading_number reading }
 {
-    match r {
-        Reading::Row(_, _, _) => 0,
-        Reading::NoOperator => 13,
-    }
+    if reading.is_some() { 0 } else { 13 }
 }
 
 // The twelve numbers of a reading: nine factors, part by part, and three translations; zeros for none.
-pub fn reading_row(r: Reading) -> [i8; NUMBERS]
-    ensures { result ≡ numbers r }
+pub fn reading_row(reading: Option<OperatorRow>) -> [i8; NUMBERS]
+    ensures { result ≡ numbers reading }
 {
-    let Reading::Row(a, b, c) = r else {
+    let Some(row) = reading else {
         return [0; NUMBERS];
     };
+    let OperatorRow {
+        first: a,
+        second: b,
+        third: c,
+    } = row;
     [a.x, a.y, a.z, b.x, b.y, b.z, c.x, c.y, c.z, a.t, b.t, c.t]
 }

@@ -1,2 +1,1 @@
-pub mod Fine
 pub mod Cells

@@ -6,36 +6,28 @@ ghost use Rattle.symmetry_operators.specs.Operator.{part, fine_part, fine};
 ghost use Rattle.symmetry_operators.specs.Check.{row_from};
 ghost use Rattle.symmetry_rows.specs.Residues.{cell, cells};
 
-use symmetry_numbers::{factor_at, reduced_at, translation_at};
+use symmetry_numbers::{is_factor, is_translation, number_at, reduced};
 use symmetry_operators::{MODULUS, ROW_LENGTH};
 
 // Whether the numbers of a part, by their places, are in range.
+#[tactic(auto, unfolding(symmetry_operators::specs::Operator::fine_part))]
 fn part_fine(numbers: &[i8], x: usize, y: usize, z: usize, t: usize) -> bool
     ensures { result ≡ fine_part (part (get_or numbers.now x (pos 0)) (get_or numbers.now y (pos 0)) (get_or numbers.now z (pos 0)) (get_or numbers.now t (pos 0))) }
 {
-    if !factor_at(numbers, x) {
-        return false;
-    }
-    if !factor_at(numbers, y) {
-        return false;
-    }
-    if !factor_at(numbers, z) {
-        return false;
-    }
-    translation_at(numbers, t)
+    is_factor(number_at(numbers, x))
+        && is_factor(number_at(numbers, y))
+        && is_factor(number_at(numbers, z))
+        && is_translation(number_at(numbers, t))
 }
 
 // Whether the numbers of the row at the head of a list are in range.
+#[tactic(auto, unfolding(symmetry_operators::specs::Operator::fine, symmetry_operators::specs::Check::row_from))]
 pub fn row_fine(numbers: &[i8]) -> bool
     ensures { result ≡ fine (row_from numbers.now) }
 {
-    if !part_fine(numbers, 0, 1, 2, 9) {
-        return false;
-    }
-    if !part_fine(numbers, 3, 4, 5, 10) {
-        return false;
-    }
-    part_fine(numbers, 6, 7, 8, 11)
+    part_fine(numbers, 0, 1, 2, 9)
+        && part_fine(numbers, 3, 4, 5, 10)
+        && part_fine(numbers, 6, 7, 8, 11)
 }
 
 // The residue of the number at place k of a row, from the number modulo 12288.
@@ -43,9 +35,10 @@ fn cell(k: usize, n: u16) -> u16
     ensures { result ≡ cell k n }
 {
     if k < 9 {
-        return n;
+        n
+    } else {
+        (512 * u64::from(n) % MODULUS) as u16
     }
-    (512 * n as u64 % MODULUS) as u16
 }
 
 // The twelve residues of the row at the head of a list.
@@ -53,10 +46,8 @@ pub fn residues_of(numbers: &[i8]) -> [u16; ROW_LENGTH]
     ensures { result ≡ cells numbers.now }
 {
     let mut out = [0u16; ROW_LENGTH];
-    let mut k = 0;
-    while k < ROW_LENGTH {
-        out[k] = cell(k, reduced_at(numbers, k));
-        k += 1;
+    for (k, slot) in out.iter_mut().enumerate() {
+        *slot = cell(k, reduced(number_at(numbers, k)));
     }
     out
 }

@@ -1,30 +1,21 @@
 // The check of a lent slice of operators (document 02, No. 5).
 #![tactic(auto)]
 
-ghost use Rattle.std.specs.Prelude.{◌≡◌, ◌<◌, length, get_or};
+ghost use Rattle.std.specs.Prelude.{◌≡◌};
 ghost use Rattle.symmetry_judged.specs.Answer.{outcome_of};
-ghost use Rattle.symmetry_named.specs.Named.{no_operator, checked_named};
+ghost use Rattle.symmetry_named.specs.Named.{checked_named};
 
-use symmetry_judged::Checked;
-use symmetry_named::{Operator, check_flat, no_rows, with_row};
-
-// The operator at a place.
-fn operator_at(ops: &[Operator], i: usize) -> Operator
-    requires { i < length ops.now }
-    ensures { result ≡ get_or ops.now i no_operator }
-{
-    ops[i]
-}
+use symmetry_answers::ListRefusal;
+use symmetry_named::{Flat, Operator};
 
 // The check of a lent slice of operators: that of their numbers, one after the other.
-pub fn check_operators(ops: &[Operator]) -> Checked
+#[tactic(auto, using(symmetry_named::proofs::Filling::first_rows), unfolding(symmetry_named::specs::Named::filled_to))]
+pub fn check_operators(ops: &[Operator]) -> Result<u64, ListRefusal>
     ensures { outcome_of result ≡ checked_named ops.now }
 {
-    let mut f = no_rows();
-    let mut i = 0;
-    while i < ops.len() {
-        f = with_row(f, i, operator_at(ops, i));
-        i += 1;
+    let mut rows = Flat::new();
+    for (i, o) in ops.iter().enumerate() {
+        rows.store(i, *o);
     }
-    check_flat(f, i)
+    rows.check(ops.len())
 }

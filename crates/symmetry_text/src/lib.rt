@@ -2,15 +2,17 @@
 // A client cites Reading (reading_of). That this reading is the document's wording (Grammar) is the theorem `agree` of proofs/Agree.antt.
 #![tactic(auto)]
 
-ghost use Rattle.std.specs.Prelude.{◌≡◌};
+ghost use Rattle.std.specs.Prelude.{◌≡◌, ◌+◌, false, MatchOption};
+ghost use Rattle.text.specs.Run.{has_at};
 ghost use Rattle.symmetry_parts.specs.Reading.{factor};
-ghost use Rattle.symmetry_text.specs.Reading.{row_part, parts_of, second_of, reading_of};
+ghost use Rattle.symmetry_text.specs.Reading.{row_part, parts_of, before_comma, Parted, reading_of};
 
 use symmetry_fractions::WHOLE;
-use symmetry_parts::{PartReading, Sum};
-use symmetry_readings::{Reading, RowPart};
+use symmetry_parts::{Sum, read_part};
+use symmetry_readings::{OperatorRow, RowPart};
 
 // A factor by its residue modulo 24.
+#[tactic(auto, unfolding(symmetry_parts::specs::Reading::factor))]
 fn factor_of(n: u8) -> i8
     ensures { result ≡ factor n }
 {
@@ -34,40 +36,36 @@ fn row_part(p: Sum) -> RowPart
     }
 }
 
+// The texts before and after the first comma.
+#[tactic(auto, using(text::proofs::Runs::has_within))]
+fn at_comma(s: &[u8]) -> Option<(&[u8], &[u8])>
+    ensures { MatchOption result (has_at s.now (before_comma s.now) 44 ≡ false) (λ p. Parted s.now p.0.now p.1.now) }
+{
+    let n = text::run::run_other(s, b',');
+    if !text::has(s, n, b',') {
+        return None;
+    }
+    Some((&s[..n], &s[n + 1..]))
+}
+
 // The row of three parts' texts.
-fn read_parts(first: &[u8], second: &[u8], third: &[u8]) -> Reading
+#[tactic(auto, unfolding(crate::specs::Reading::parts_of))]
+fn read_parts(first: &[u8], second: &[u8], third: &[u8]) -> Option<OperatorRow>
     ensures { result ≡ parts_of first.now second.now third.now }
 {
-    let PartReading::Found(a) = symmetry_parts::read_part(first) else {
-        return Reading::NoOperator;
-    };
-    let PartReading::Found(b) = symmetry_parts::read_part(second) else {
-        return Reading::NoOperator;
-    };
-    let PartReading::Found(c) = symmetry_parts::read_part(third) else {
-        return Reading::NoOperator;
-    };
-    Reading::Row(row_part(a), row_part(b), row_part(c))
+    Some(OperatorRow {
+        first: row_part(read_part(first)?),
+        second: row_part(read_part(second)?),
+        third: row_part(read_part(third)?),
+    })
 }
 
-// The row of a first part's text and of s, which follows its comma.
-fn read_second(first: &[u8], s: &[u8]) -> Reading
-    ensures { result ≡ second_of first.now s.now }
-{
-    let n = text::run::run_other(s, b',');
-    if !text::has(s, n, b',') {
-        return Reading::NoOperator;
-    }
-    read_parts(first, &s[..n], &s[n + 1..])
-}
-
-// The row of the operator that s is, or that it is none.
-pub fn read_operator(s: &[u8]) -> Reading
+// The row of the operator that s is.
+#[tactic(auto, unfolding(crate::specs::Reading::at_comma))]
+pub fn read_operator(s: &[u8]) -> Option<OperatorRow>
     ensures { result ≡ reading_of s.now }
 {
-    let n = text::run::run_other(s, b',');
-    if !text::has(s, n, b',') {
-        return Reading::NoOperator;
-    }
-    read_second(&s[..n], &s[n + 1..])
+    let (first, rest) = at_comma(s)?;
+    let (second, third) = at_comma(rest)?;
+    read_parts(first, second, third)
 }

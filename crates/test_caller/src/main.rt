@@ -1,10 +1,7 @@
 // Reads calls of the library from standard input and writes what they answer, for the comparison of other builds alone: harness/src/frames.rs has their form.
 #![tactic(auto)]
 
-ghost use Rattle.std.specs.Prelude.{◌<◌};
-
 use desk_memory::{NUMBERS, TEXTS};
-use rows::ROW_COUNT;
 
 // Standard input and output.
 const STDIN: i32 = 0;
@@ -40,21 +37,15 @@ const KEY: u8 = 0;
 
 const REPORT: u8 = 1;
 
+// A number of a frame's head, of whose four bytes three count.
 fn number(a: u8, b: u8, c: u8) -> usize {
-    a as usize + 256 * (b as usize) + 65536 * (c as usize)
-}
-
-// Half of a number of eight bytes.
-fn half(a: u8, b: u8, c: u8, d: u8) -> u64
-    ensures { result < 4294967296 }
-{
-    a as u64 + 256 * (b as u64) + 65536 * (c as u64) + 16777216 * (d as u64)
+    u32::from_le_bytes([a, b, c, 0]) as usize
 }
 
 fn read_wide() -> u64 {
     let mut b = [0u8; 8];
     io::read_full(STDIN, &mut b);
-    half(b[0], b[1], b[2], b[3]) + 4294967296 * half(b[4], b[5], b[6], b[7])
+    u64::from_le_bytes(b)
 }
 
 fn read_byte() -> u8 {
@@ -69,47 +60,27 @@ fn put_byte(byte: u8) {
 }
 
 fn put_wide(n: u64) {
-    let bytes = [
-        (n % 256) as u8,
-        (n / 256 % 256) as u8,
-        (n / 65536 % 256) as u8,
-        (n / 16777216 % 256) as u8,
-        (n / 4294967296 % 256) as u8,
-        (n / 1099511627776 % 256) as u8,
-        (n / 281474976710656 % 256) as u8,
-        (n / 72057594037927936) as u8,
-    ];
-    io::write_all(STDOUT, &bytes);
+    io::write_all(STDOUT, &n.to_le_bytes());
 }
 
 fn read_numbers(numbers: &mut [usize]) {
-    let mut i = 0;
-    while i < numbers.len() {
-        let n = read_wide();
-        numbers[i] = n as usize;
-        i += 1;
+    for n in numbers.iter_mut() {
+        *n = read_wide() as usize;
     }
 }
 
 fn put_numbers(numbers: &[usize]) {
-    let mut i = 0;
-    while i < numbers.len() {
-        let n = numbers[i];
-        put_wide(n as u64);
-        i += 1;
+    for n in numbers {
+        put_wide(*n as u64);
     }
 }
 
 fn report(texts: &[u8], numbers: &[usize], sheet: u64, profile: u64) {
     let told = export_desk::desk_report(texts, numbers, sheet, profile);
     put_byte(told.answer);
-    let rows = told.rows;
-    let mut i = 0;
-    while i < ROW_COUNT {
-        let row = rows.rows[i];
+    for row in &told.rows.rows {
         put_byte(row.level);
         put_byte(row.reason);
-        i += 1;
     }
 }
 
@@ -137,10 +108,8 @@ fn call(texts: &mut [u8], numbers: &mut [usize], log: &mut [u8]) {
 }
 
 fn calls(count: usize, texts: &mut [u8], numbers: &mut [usize], log: &mut [u8]) {
-    let mut left = count;
-    while 0 < left {
+    for _ in 0..count {
         call(texts, numbers, log);
-        left -= 1;
     }
 }
 
@@ -231,15 +200,13 @@ fn turn(log: &mut [u8], name: &mut [u8], out: &mut [u8]) -> bool {
     true
 }
 
-// Answers every frame. A proved loop has to end, and nothing says that the input does: so the loop counts its turns down, from a number that no run
-// uses up.
+// Answers every frame. A proved loop has to end, and nothing says that the input does: so the loop counts its turns, up to a number that no run
+// reaches.
 fn run(log: &mut [u8], name: &mut [u8], out: &mut [u8]) {
-    let mut turns = u64::MAX;
-    while 0 < turns {
+    for _ in 0..u64::MAX {
         if !turn(log, name, out) {
             return;
         }
-        turns -= 1;
     }
 }
 

@@ -7,10 +7,7 @@ ghost use Rattle.line_items.specs.Items.{item_of};
 ghost use Rattle.line_reader.specs.Line.{split_of};
 ghost use Rattle.test_probe.specs.Probe.{number_told, form_told, line_told, name_told};
 
-use line_items::Named;
-use line_reader::line::Split;
-use number_decimal::Reading;
-
+// A number and what was found of it: no Option, since C reads it.
 #[repr(C)]
 #[derive(Clone, Copy)]
 pub struct ProbeNumber {
@@ -18,6 +15,7 @@ pub struct ProbeNumber {
     pub found: u64,
 }
 
+// The parts of a line, and whether they were found: no Option, since C reads it.
 #[repr(C)]
 #[derive(Clone, Copy)]
 pub struct ProbeLine {
@@ -31,19 +29,20 @@ pub struct ProbeLine {
 pub extern "C" fn probe_number(t: &[u8]) -> ProbeNumber
     ensures { result ≡ number_told (reading_of t.now) }
 {
-    let Reading::Number(millionths) = number_decimal::read_number(t) else {
-        return ProbeNumber {
+    match number_decimal::read_number(t) {
+        Some(millionths) => ProbeNumber {
+            millionths,
+            found: 1,
+        },
+        None => ProbeNumber {
             millionths: 0,
             found: 0,
-        };
-    };
-    ProbeNumber {
-        millionths,
-        found: 1,
+        },
     }
 }
 
 // The form of a value.
+#[tactic(auto, unfolding(crate::specs::Probe::form_told))]
 #[unsafe(no_mangle)]
 pub extern "C" fn probe_value(t: &[u8]) -> u64
     ensures { result ≡ form_told t.now }
@@ -65,17 +64,17 @@ pub extern "C" fn probe_value(t: &[u8]) -> u64
 pub extern "C" fn probe_line(t: &[u8]) -> ProbeLine
     ensures { result ≡ line_told (split_of t.now) }
 {
-    let Split::Parts(name, value) = line_reader::line::split_line(t) else {
-        return ProbeLine {
+    match line_reader::line::split_line(t) {
+        Some(parts) => ProbeLine {
+            found: 1,
+            name_end: parts.name_end as u64,
+            value_start: parts.value_start as u64,
+        },
+        None => ProbeLine {
             found: 0,
             name_end: 0,
             value_start: 0,
-        };
-    };
-    ProbeLine {
-        found: 1,
-        name_end: name as u64,
-        value_start: value as u64,
+        },
     }
 }
 
@@ -84,8 +83,5 @@ pub extern "C" fn probe_line(t: &[u8]) -> ProbeLine
 pub extern "C" fn probe_item(name: &[u8]) -> u64
     ensures { result ≡ name_told (item_of name.now) }
 {
-    let Named::Item(item) = line_lookup::item_named(name) else {
-        return 0;
-    };
-    item as u64
+    line_lookup::item_named(name).map_or(0, |item| item as u64)
 }

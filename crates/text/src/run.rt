@@ -10,44 +10,30 @@ const PART: usize = 8;
 pub fn run_between(s: &[u8], lo: u8, hi: u8) -> usize
     ensures { (result ≡ run_of (between lo hi) s.now) × (result ≤ length s.now) }
 {
-    let mut i = 0;
-    while i < s.len() {
-        let b = s[i];
-        if b < lo {
-            return i;
-        }
-        if hi < b {
-            return i;
-        }
-        i += 1;
-    }
-    i
+    s.iter()
+        .position(|b| !crate::is_between(*b, lo, hi))
+        .unwrap_or(s.len())
 }
 
 // A number of bytes other than x that s begins with, found by whole parts.
 fn skip_parts(s: &[u8], x: u8) -> usize
     ensures { (all (other x) (take result s.now) ≡ true) × (result ≤ length s.now) }
 {
-    let mut i = 0;
-    while PART <= s.len() - i {
-        if !crate::lacks(&s[i..i + PART], x) {
-            return i;
+    let mut passed = 0;
+    for part in s.chunks_exact(PART) {
+        if !crate::lacks(part, x) {
+            return passed;
         }
-        i += PART;
+        passed += PART;
     }
-    i
+    passed
 }
 
 // How many bytes other than x s begins with.
 pub fn run_other(s: &[u8], x: u8) -> usize
     ensures { (result ≡ run_of (other x) s.now) × (result ≤ length s.now) }
 {
-    let mut i = skip_parts(s, x);
-    while i < s.len() {
-        if s[i] == x {
-            return i;
-        }
-        i += 1;
-    }
-    i
+    let passed = skip_parts(s, x);
+    let rest = &s[passed..];
+    passed + rest.iter().position(|b| *b == x).unwrap_or(rest.len())
 }

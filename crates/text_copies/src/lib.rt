@@ -2,20 +2,8 @@
 // A client cites Copy (copied).
 #![tactic(auto)]
 
-ghost use Rattle.std.specs.Prelude.{◌≡◌, ◌+◌, ◌≤◌, length};
-ghost use Rattle.std.proofs.Math.Seq.{paste};
+ghost use Rattle.std.specs.Prelude.{◌≡◌};
 ghost use Rattle.text_copies.specs.Copy.{copied};
-
-fn copy_fitting(dst: &mut [u8], at: usize, src: &[u8])
-    requires { at + length src.now ≤ length dst.old }
-    ensures { dst.new ≡ paste dst.old at src.now (length src.now) }
-{
-    let mut j = 0;
-    while j < src.len() {
-        dst[at + j] = src[j];
-        j += 1;
-    }
-}
 
 // Copies src into dst from a place on, where it fits; else nothing.
 pub fn copy_in(dst: &mut [u8], at: usize, src: &[u8])
@@ -27,5 +15,5 @@ pub fn copy_in(dst: &mut [u8], at: usize, src: &[u8])
     if dst.len() - at < src.len() {
         return;
     }
-    copy_fitting(dst, at, src);
+    dst[at..at + src.len()].copy_from_slice(src);
 }

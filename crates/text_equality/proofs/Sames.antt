@@ -1,22 +1,19 @@
--- Laws of `same_by`, for every way f of seeing a byte. A loop that has compared i bytes keeps `Compared f a b i`.
+-- Laws of `same_by`, for every way f of seeing a byte.
 -- Assumes nothing.
 use mathlib.Core.Path.{◌≡◌, refl, sym, ap, ◌∙◌}
 use mathlib.Core.Bool.{Bool, true, false, ◌&&◌, and-true, and-false, and_assoc, false≢true}
-use mathlib.Core.List.{List, [], ◌∷◌, ◌++◌, map, map-id}
-use Prim.Native.Nat.{ℕ, suc, ◌+◌, ◌≤◌, ◌<◌}
-use native.Mathlib.Numerals.{add-one}
+use mathlib.Core.List.{List, [], ◌∷◌, map, map-id}
+use Prim.Native.Nat.{ℕ, suc, ◌≤◌, ◌<◌}
 use native.Mathlib.Omega.{arith}
-use borrow.Author.Tests.{eq-eqb, ne_eqb, eqb-true}
-use lib.Dec.{eqb}
-use lib.ListN.{length, get_or, take, drop, drop_of_length-le}
-use lib.Seq.{drop-cons, length-take-le, take-suc, take_all}
-use Rattle.text_equality.specs.Same.{exact, same_by}
+use borrow.Author.Tests.{eq-eqb, eqb-true, le-leb, lt-leb, ltb-true, ltb-false}
+use lib.Dec.{eqb, ltb}
+use lib.ListN.{length}
+use lib.Pointwise.{pointwise}
+use Rattle.std.specs.Char.{to_ascii_lowercase}
+use Rattle.std.specs.List.{fold, zip}
+use Rattle.text.specs.Run.{between}
+use Rattle.text_equality.specs.Same.{exact, lower, same_by}
 use Rattle.text.proofs.Bools.{and_both}
-
-pub record Compared (f : ℕ → ℕ) (a b : List ℕ) (i : ℕ) : Type 0 where
-  pub within : i ≤ length a
-  pub as_long : length a ≡ length b
-  pub rest : same_by f a b ≡ same_by f (drop i a) (drop i b)
 
 pub other_length : (f : ℕ → ℕ) (a b : List ℕ) → (length a ≡ length b → ⊥) → same_by f a b ≡ false
 unfolding same_by
@@ -24,25 +21,6 @@ other_length f [] [] h = absurd (h refl)
 other_length f [] (y ∷ ys) h = refl
 other_length f (x ∷ xs) [] h = refl
 other_length f (x ∷ xs) (y ∷ ys) h = rw (other_length f xs ys (λ e. h (ap suc e))) (and-false (eqb (f x) (f y)))
-
-module _ (f : ℕ → ℕ) (a b : List ℕ) where
-  pub start : length a ≡ length b → Compared f a b 0
-  start e = record { within = omega arith; as_long = e; rest = refl }
-
-  module _ {i : ℕ} (h : Compared f a b i) where
-    at : i < length a → (t : Bool) → eqb (f (get_or a i 0)) (f (get_or b i 0)) ≡ t → same_by f a b ≡ (t && same_by f (drop (suc i) a) (drop (suc i) b))
-    unfolding same_by
-    at l t e = let e' = h.as_long in let k : i < length b = omega arith in h.rest ∙ rw (drop-cons a i 0 l, drop-cons b i 0 k, e)
-
-    pub more : i < length a → f (get_or a i 0) ≡ f (get_or b i 0) → Compared f a b (i + 1)
-    more l e = rw (add-one i) (record { within = l; as_long = h.as_long; rest = at l true (eq-eqb _ _ e) })
-
-    pub differ : i < length a → (f (get_or a i 0) ≡ f (get_or b i 0) → ⊥) → same_by f a b ≡ false
-    differ l e = at l false (ne_eqb (f (get_or a i 0)) (f (get_or b i 0)) e)
-
-    pub end : length a ≤ i → same_by f a b ≡ true
-    unfolding same_by
-    end l = let e' = h.as_long in let k : length b ≤ i = omega arith in h.rest ∙ rw (drop_of_length-le a l, drop_of_length-le b k)
 
 -- the test says what it should: the texts are equal, seen through f
 pub map→same : (f : ℕ → ℕ) (a b : List ℕ) → map f a ≡ map f b → same_by f a b ≡ true
@@ -83,44 +61,36 @@ same-cong f (a ∷ s) (b ∷ t) (y ∷ ys) e =
     let i = same-cong f s t ys r in
     ap (λ (l : ℕ). eqb l (f y) && same_by f s ys) h ∙ ap (λ (c : Bool). eqb (f b) (f y) && c) i
 
--- one byte more on either side
-same-one : (f : ℕ → ℕ) (a b : List ℕ) (x y : ℕ) → length a ≡ length b → same_by f (a ++ (x ∷ [])) (b ++ (y ∷ [])) ≡ (same_by f a b && eqb (f x) (f y))
+-- the library's test of two lists, element for element
+pub same-pointwise : (a b : List ℕ) → pointwise eqb a b ≡ same_by exact a b
 unfolding same_by
-same-one f [] [] x y e = and-true (eqb (f x) (f y))
-same-one f [] (v ∷ vs) x y e = absurd (omega arith)
-same-one f (u ∷ us) [] x y e = absurd (omega arith)
-same-one f (u ∷ us) (v ∷ vs) x y e =
-    ap (λ (t : Bool). eqb (f u) (f v) && t) (same-one f us vs x y (omega arith)) ∙ sym (and_assoc (eqb (f u) (f v)) (same_by f us vs) (eqb (f x) (f y)))
+same-pointwise [] [] = refl
+same-pointwise [] (y ∷ ys) = refl
+same-pointwise (x ∷ xs) [] = refl
+same-pointwise (x ∷ xs) (y ∷ ys) = ap (λ (t : Bool). eqb x y && t) (same-pointwise xs ys)
 
--- a loop that looks at every byte: whether the first i agree
-pub record Agreed (f : ℕ → ℕ) (a b : List ℕ) (i : ℕ) (so_far : Bool) : Type 0 where
-  pub within : i ≤ length a
-  pub as_long : length a ≡ length b
-  pub firsts : so_far ≡ same_by f (take i a) (take i b)
+-- a fold over the pairs of two texts as long as each other joins the tests of their bytes
+pub fold-same : (f : ℕ → ℕ) (so_far : Bool) (a b : List ℕ) → length a ≡ length b → fold (λ (s : Bool) (p : ℕ × ℕ). s && eqb (f p.0) (f p.1)) so_far (zip a b) ≡ (so_far && same_by f a b)
+unfolding same_by
+fold-same f s [] [] e = sym (and-true s)
+fold-same f s [] (y ∷ ys) e = absurd (omega arith)
+fold-same f s (x ∷ xs) [] e = absurd (omega arith)
+fold-same f s (x ∷ xs) (y ∷ ys) e = fold-same f (s && eqb (f x) (f y)) xs ys (omega arith) ∙ and_assoc s (eqb (f x) (f y)) (same_by f xs ys)
 
-module _ (f : ℕ → ℕ) (a b : List ℕ) where
-  pub agree-none : length a ≡ length b → Agreed f a b 0 true
-  unfolding same_by
-  agree-none e = record { within = omega arith; as_long = e; firsts = refl }
+-- the library's small letter of a byte
+lower-by : (b : ℕ) (p q : Bool) → ltb b 65 ≡ p → ltb b 91 ≡ q → to_ascii_lowercase b ≡ lower b
+unfolding lower between
+lower-by b true q e f = simp (e, lt-leb 65 b (ltb-true b 65 e))
+lower-by b false true e f = let h = ltb-true b 91 f in let k : b ≤ 90 = omega arith in simp (e, f, le-leb 65 b (ltb-false b 65 e), le-leb b 90 k)
+lower-by b false false e f = let h = ltb-false b 91 f in let k : 90 < b = omega arith in simp (e, f, le-leb 65 b (ltb-false b 65 e), lt-leb b 90 k)
 
-  pub agree-next : {i : ℕ} {s n t : Bool} → Agreed f a b i s → i < length a → t ≡ eqb (f (get_or a i 0)) (f (get_or b i 0)) → n ≡ (s && t) → Agreed f a b (i + 1) n
-  agree-next {i} {s} {n} {t} h l e q =
-      let e' = h.as_long in
-      let k : i < length b = omega arith in
-      let la = length-take-le i a (omega arith) in
-      let lb = length-take-le i b (omega arith) in
-      let la₁ : take (i + 1) a ≡ take i a ++ (get_or a i 0 ∷ []) = ap (λ (m : ℕ). take m a) (add-one i) ∙ take-suc a i 0 l in
-      let lb₁ : take (i + 1) b ≡ take i b ++ (get_or b i 0 ∷ []) = ap (λ (m : ℕ). take m b) (add-one i) ∙ take-suc b i 0 k in
-      let more = ap (λ (x : List ℕ). same_by f x (take (i + 1) b)) la₁ ∙ ap (same_by f (take i a ++ (get_or a i 0 ∷ []))) lb₁
-      ∙ same-one f (take i a) (take i b) (get_or a i 0) (get_or b i 0) (omega arith) in
-      record {
-        within = omega arith;
-        as_long = e';
-        firsts = q ∙ ap (λ (x : Bool). x && t) h.firsts ∙ ap (λ (x : Bool). same_by f (take i a) (take i b) && x) e ∙ sym more;
-      }
+pub lower-is : (b : ℕ) → to_ascii_lowercase b ≡ lower b
+lower-is b = lower-by b _ _ refl refl
 
-  pub agree-all : {i : ℕ} {s : Bool} → Agreed f a b i s → length a ≤ i → s ≡ same_by f a b
-  agree-all {i} h l =
-      let e' = h.as_long in
-      let k : length b ≤ i = omega arith in
-      h.firsts ∙ ap (λ (x : List ℕ). same_by f x (take i b)) (take_all i a l) ∙ ap (same_by f a) (take_all i b k)
+-- two ways of seeing a byte that see the same
+pub same-agree : (f g : ℕ → ℕ) → ((b : ℕ) → f b ≡ g b) → (a b : List ℕ) → same_by f a b ≡ same_by g a b
+unfolding same_by
+same-agree f g e [] [] = refl
+same-agree f g e [] (y ∷ ys) = refl
+same-agree f g e (x ∷ xs) [] = refl
+same-agree f g e (x ∷ xs) (y ∷ ys) = rw (e x, e y, same-agree f g e xs ys)

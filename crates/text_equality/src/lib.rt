@@ -9,29 +9,7 @@ ghost use Rattle.text_equality.specs.Same.{lower, exact, same_by, same_folded, b
 pub fn same(a: &[u8], b: &[u8]) -> bool
     ensures { result ≡ same_by exact a.now b.now }
 {
-    if a.len() != b.len() {
-        return false;
-    }
-    let mut i = 0;
-    while i < a.len() {
-        if a[i] != b[i] {
-            return false;
-        }
-        i += 1;
-    }
-    true
-}
-
-fn to_lower(b: u8) -> u8
-    ensures { result ≡ lower b }
-{
-    if b < 65 {
-        return b;
-    }
-    if 90 < b {
-        return b;
-    }
-    b + 32
+    a == b
 }
 
 // Whether two texts are the same but for the case of A to Z. Of two as long as each other it looks at all bytes, many at a time.
@@ -41,15 +19,10 @@ pub fn same_folded(a: &[u8], b: &[u8]) -> bool
     if a.len() != b.len() {
         return false;
     }
-    let mut so_far = true;
-    let mut i = 0;
-    while i < a.len() {
-        if to_lower(a[i]) != to_lower(b[i]) {
-            so_far = false;
-        }
-        i += 1;
-    }
-    so_far
+    a.iter().zip(b).fold(
+        true,
+        |so_far, (x, y)| so_far & (x.to_ascii_lowercase() == y.to_ascii_lowercase()),
+    )
 }
 
 // Whether s begins with p, but for the case of A to Z.
@@ -57,8 +30,5 @@ pub fn begins_folded(s: &[u8], p: &[u8]) -> bool
     ensures { result ≡ begins_folded s.now p.now }
 {
     let n = p.len();
-    if s.len() < n {
-        return false;
-    }
-    same_folded(&s[..n], p)
+    n <= s.len() && same_folded(&s[..n], p)
 }

@@ -1,5 +1,6 @@
 -- Worked examples of formulas as one table, under one statement that antt computes: terms, order, class and sum.
 -- Assumes nothing.
+use Rattle.std.specs.Prelude.{ℕ, Option, Some, None}
 use mathlib.Core.Path.{◌≡◌, refl}
 use mathlib.Core.Bool.{Bool, true, false}
 use mathlib.Core.List.{List, [], ◌∷◌, map}
@@ -17,43 +18,41 @@ use Rattle.formula_class.specs.Class.{formula_class}
 use Rattle.formula_sum.specs.Sum.{total_weight, sum_of}
 use Rattle.line_categories.specs.declared.Class.{Class}
 use Rattle.line_categories.specs.declared.Class.TheVariants.{Inorganic, MetalOrganic, Organic}
-use Rattle.formula_elements.specs.declared.Weight.{Weight}
-use Rattle.formula_elements.specs.declared.Weight.TheVariants.{Thousandths, NoWeight}
 
 -- what is said of a formula
 pub record Answers : Type 0 where
   pub recognised : Bool
   pub ordered : Bool
   pub class : Class
-  pub sum : Weight
+  pub sum : Option ℕ
 
 pub record Example : Type 0 where
   pub formula : String
   pub answers : Answers
 
-abbrev example : String → Bool → Bool → Class → Weight → Example
+abbrev example : String → Bool → Bool → Class → Option ℕ → Example
 example f r o c s = record { formula = f; answers = record { recognised = r; ordered = o; class = c; sum = s } }
 
 unfoldable pub examples : List Example
 examples =
-    example "C18 H19 N7 O8 S" true true Organic (Thousandths 493451) ∷
-    example "C10 H20" true true Organic (Thousandths 140270) ∷
-    example "C10 H8 Fe" true true MetalOrganic (Thousandths 184019) ∷
-    example "C O2" true true Inorganic (Thousandths 44009) ∷
-    example "H Br" true false Inorganic (Thousandths 80912) ∷
-    example "Br H" true true Inorganic (Thousandths 80912) ∷
-    example "C H H" true false Organic (Thousandths 14027) ∷
-    example "N Na" true true Inorganic (Thousandths 36997) ∷
-    example "Na N" true false Inorganic (Thousandths 36997) ∷
-    example "Au2 O3" true true Inorganic NoWeight ∷
-    example "D2 O" false true Inorganic NoWeight ∷
-    example "C10H20" false true Inorganic NoWeight ∷
-    example "C9999 H" true true Organic (Thousandths 120098997) ∷
-    example "C10000 H" false true Inorganic NoWeight ∷
-    example "C01 H" false true Inorganic NoWeight ∷
-    example "C  H" false true Organic NoWeight ∷
-    example "C H " false true Organic NoWeight ∷
-    example "" false true Inorganic NoWeight ∷ []
+    example "C18 H19 N7 O8 S" true true Organic (Some 493451) ∷
+    example "C10 H20" true true Organic (Some 140270) ∷
+    example "C10 H8 Fe" true true MetalOrganic (Some 184019) ∷
+    example "C O2" true true Inorganic (Some 44009) ∷
+    example "H Br" true false Inorganic (Some 80912) ∷
+    example "Br H" true true Inorganic (Some 80912) ∷
+    example "C H H" true false Organic (Some 14027) ∷
+    example "N Na" true true Inorganic (Some 36997) ∷
+    example "Na N" true false Inorganic (Some 36997) ∷
+    example "Au2 O3" true true Inorganic None ∷
+    example "D2 O" false true Inorganic None ∷
+    example "C10H20" false true Inorganic None ∷
+    example "C9999 H" true true Organic (Some 120098997) ∷
+    example "C10000 H" false true Inorganic None ∷
+    example "C01 H" false true Inorganic None ∷
+    example "C  H" false true Organic None ∷
+    example "C H " false true Organic None ∷
+    example "" false true Inorganic None ∷ []
 
 -- the answers by the definitions
 abbrev answered : String → Answers

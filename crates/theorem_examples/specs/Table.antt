@@ -2,12 +2,10 @@
 -- "Errors a good programmer makes here", two sequences in which an item has an owner (document 02, No. 8), and one of both sheets (No. 9).
 -- `examples-hold`, in proofs/Hold.antt, is the one statement about it.
 -- Assumes nothing.
-use Rattle.std.specs.Prelude.{ℕ, ◌-◌, cond, List, [], ◌∷◌, ◌++◌, eqb, get_or, set, replicate}
+use Rattle.std.specs.Prelude.{ℕ, ◌-◌, cond, List, [], ◌∷◌, ◌++◌, eqb, get_or, set, replicate, Option, Some, None, Result}
 use Prim.Native.String.{String}
 use Rattle.text.specs.Quote.{bytes}
 use Rattle.formula_sum.specs.Sum.{sum_of}
-use Rattle.formula_elements.specs.declared.Weight.{Weight}
-use Rattle.formula_elements.specs.declared.Weight.TheVariants.{Thousandths, NoWeight}
 use Rattle.desk_state.specs.Sheets.{filled, empty_sheet}
 use Rattle.desk_state.specs.declared.sheet.Item.{Item}
 use Rattle.rows.specs.Rows.{row_of, no_rows}
@@ -15,7 +13,7 @@ use Rattle.rows_sheet.specs.Sheet.{rows_of}
 use Rattle.rows.specs.declared.Row.{Row}
 use Rattle.rows.specs.declared.Rows.{Rows}
 use Rattle.rows_levels.specs.Bounds.{graded_of, graded_number, graded_level}
-use Rattle.rows_levels.specs.declared.Graded.{Graded}
+use Rattle.rows_levels.specs.declared.Ungraded.{Ungraded}
 use Rattle.theorem_work.specs.Calls.{Call, key, ask, typing, Reply, keyed, reported, told}
 use Rattle.theorem_sequences.specs.Calls.{used_log}
 use Rattle.theorem_sequences.specs.Sequences.{desk_answers, state_after}
@@ -43,14 +41,14 @@ unfoldable pub sheet_with : List Typed → List Item
 sheet_with [] = empty_sheet.items
 sheet_with (t ∷ ts) = set (sheet_with ts) (t.item - 1) (filled 0 1 1 (bytes t.value))
 
-abbrev pub summed : Weight → List ℕ
-summed (Thousandths n) = n ∷ []
-summed NoWeight = []
+abbrev pub summed : Option ℕ → List ℕ
+summed (Some n) = n ∷ []
+summed None = []
 
 abbrev pub row_numbers : Row → List ℕ
 row_numbers r = r.level ∷ r.reason ∷ []
 
-abbrev pub graded_numbers : Graded → List ℕ
+abbrev pub graded_numbers : Result ℕ Ungraded → List ℕ
 graded_numbers g = graded_number g ∷ graded_level g ∷ []
 
 abbrev pub keyed_number : Reply Rows → List ℕ

@@ -1,5 +1,6 @@
 -- Worked examples as two tables, each under one statement that antt computes: new texts, and what the helper gives. With C hydrogen stands after it, without C by
 -- its letter; 1 is written H, and 0 drops the term. Assumes nothing.
+use Rattle.std.specs.Prelude.{Result, Ok, Err}
 use Prim.Native.Nat.{ℕ}
 use Prim.Native.String.{String}
 use mathlib.Core.Path.{◌≡◌, refl}
@@ -22,8 +23,8 @@ use Rattle.rows.specs.Rows.{missing}
 use Rattle.rows_levels.specs.Bounds.{bounds}
 use Rattle.rows_formula.specs.FormulaRows.{row1, row2}
 use Rattle.rows_weight.specs.WeightRows.{weighed_of, ratio_level, row4}
-use Rattle.hydrogen_answers.specs.declared.Proposed.{Proposed}
-use Rattle.hydrogen_answers.specs.declared.Proposed.TheVariants.{Count, NoStart}
+use Rattle.hydrogen_answers.specs.declared.Refusal.{Refusal}
+use Rattle.hydrogen_answers.specs.declared.Refusal.TheVariants.{NoStart}
 use Rattle.hydrogen_text.specs.Hydrogens.{decimal_of, hydrogen_text, other_words}
 use Rattle.hydrogen_text.specs.NewText.{placed, with_hydrogens, new_text}
 use Rattle.hydrogen_right.specs.Right.{all_weighed}
@@ -64,27 +65,27 @@ new-hold = refl
 pub record HelperExample : Type 0 where
   pub formula : String
   pub weight : String
-  pub answer : Proposed
+  pub answer : Result ℕ Refusal
 
-abbrev gives : String → String → Proposed → HelperExample
+abbrev gives : String → String → Result ℕ Refusal → HelperExample
 gives f w p = record { formula = f; weight = w; answer = p }
 
 unfoldable pub helper_examples : List HelperExample
 helper_examples =
-    gives "'C10 H20'" "142.286" (Count 21) ∷
-    gives "'C10 H20'" "140.270" (Count 19) ∷
-    gives "'Na O'" "40.00" (Count 1) ∷
-    gives "C" "12.011" (Count 0) ∷
-    gives "H9" "2.016(3)" (Count 2) ∷
-    gives "'H20 C10'" "140.270" NoStart ∷
-    gives "'Au H'" "198" NoStart ∷
-    gives "'C10 H20'" "?" NoStart ∷
-    gives "?" "140.270" NoStart ∷ []
+    gives "'C10 H20'" "142.286" (Ok 21) ∷
+    gives "'C10 H20'" "140.270" (Ok 19) ∷
+    gives "'Na O'" "40.00" (Ok 1) ∷
+    gives "C" "12.011" (Ok 0) ∷
+    gives "H9" "2.016(3)" (Ok 2) ∷
+    gives "'H20 C10'" "140.270" (Err NoStart) ∷
+    gives "'Au H'" "198" (Err NoStart) ∷
+    gives "'C10 H20'" "?" (Err NoStart) ∷
+    gives "?" "140.270" (Err NoStart) ∷ []
 
-abbrev helped : HelperExample → Proposed
+abbrev helped : HelperExample → Result ℕ Refusal
 helped e = helper_of (bytes e.formula) (bytes e.weight)
 
-abbrev answer : HelperExample → Proposed
+abbrev answer : HelperExample → Result ℕ Refusal
 answer e = e.answer
 
 pub helper-hold : map helped helper_examples ≡ map answer helper_examples

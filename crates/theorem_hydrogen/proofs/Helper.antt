@@ -1,5 +1,6 @@
 -- "The helper says none exactly if no count is right, and otherwise gives the smallest right one", by the definition of right; and the check accepts just
 -- what is right. Assumes nothing.
+use Rattle.std.specs.Prelude.{Result, Ok, Err}
 use Prim.Native.Nat.{ℕ, ◌+◌, ◌≤◌, ◌<◌}
 use mathlib.Core.Path.{◌≡◌, refl, sym, ap, ◌∙◌}
 use mathlib.Core.Bool.{Bool, true, false, cond, false≢true}
@@ -8,8 +9,8 @@ use mathlib.Core.List.{List}
 use native.Mathlib.Omega.{arith}
 use borrow.Author.Tests.{leb-true, leb-false}
 use lib.Dec.{leb}
-use Rattle.hydrogen_answers.specs.declared.Proposed.{Proposed}
-use Rattle.hydrogen_answers.specs.declared.Proposed.TheVariants.{Count, NoSheet, Unsound, NoStart, NoneRight, NotRight}
+use Rattle.hydrogen_answers.specs.declared.Refusal.{Refusal}
+use Rattle.hydrogen_answers.specs.declared.Refusal.TheVariants.{NoSheet, Unsound, NoStart, NoneRight, NotRight}
 use Rattle.hydrogen_answers.specs.Number.{proposed_number, proposed_count}
 use Rattle.hydrogen_text.specs.Hydrogens.{most_hydrogens}
 use Rattle.hydrogen_right.specs.Right.{Start, Right}
@@ -21,33 +22,33 @@ use Rattle.hydrogen_helper.specs.Helper.{first_from, helper_of}
 use Rattle.theorem_hydrogen.specs.Smallest.{HelperPromise, CheckPromise}
 use Rattle.theorem_hydrogen.proofs.First.{count-not, Firstly, Given, first_passes, first-fails, first_either}
 
-no_start : {n : ℕ} → NoStart ≡ Count n → ⊥
+no_start : {n : ℕ} → Err NoStart ≡ Ok n → ⊥
 no_start e = let z : ◌≡◌ {A = ℕ} 0 1 = cc in omega arith
 
-start-not : NoStart ≡ NoneRight → ⊥
+start-not : ◌≡◌ {A = Result ℕ Refusal} (Err NoStart) (Err NoneRight) → ⊥
 start-not e = let z : ◌≡◌ {A = ℕ} 0 1 = cc in omega arith
 
 -- 0 is the number of a count alone
-zero-counts : (p : Proposed) → proposed_number p ≡ 0 → p ≡ Count (proposed_count p)
-zero-counts (Count n) e = refl
-zero-counts NoSheet e = absurd (omega arith)
-zero-counts Unsound e = absurd (omega arith)
-zero-counts NoStart e = absurd (omega arith)
-zero-counts NoneRight e = absurd (omega arith)
-zero-counts NotRight e = absurd (omega arith)
+zero-counts : (p : Result ℕ Refusal) → proposed_number p ≡ 0 → p ≡ Ok (proposed_count p)
+zero-counts (Ok n) e = refl
+zero-counts (Err NoSheet) e = absurd (omega arith)
+zero-counts (Err Unsound) e = absurd (omega arith)
+zero-counts (Err NoStart) e = absurd (omega arith)
+zero-counts (Err NoneRight) e = absurd (omega arith)
+zero-counts (Err NotRight) e = absurd (omega arith)
 
 -- and 23 of none alone
-says_none : (p : Proposed) → proposed_number p ≡ 23 → p ≡ NoneRight
-says_none (Count n) e = absurd (omega arith)
-says_none NoSheet e = absurd (omega arith)
-says_none Unsound e = absurd (omega arith)
-says_none NoStart e = absurd (omega arith)
-says_none NoneRight e = refl
-says_none NotRight e = absurd (omega arith)
+says_none : (p : Result ℕ Refusal) → proposed_number p ≡ 23 → p ≡ Err NoneRight
+says_none (Ok n) e = absurd (omega arith)
+says_none (Err NoSheet) e = absurd (omega arith)
+says_none (Err Unsound) e = absurd (omega arith)
+says_none (Err NoStart) e = absurd (omega arith)
+says_none (Err NoneRight) e = refl
+says_none (Err NotRight) e = absurd (omega arith)
 
 module _ (f w : List ℕ) where
   -- what the helper looks for
-  abbrev pub sought : Proposed
+  abbrev pub sought : Result ℕ Refusal
   sought = first_from (is_right f w) 0 (most_hydrogens + 1)
 
   -- with a start as said it is the first count that is right
@@ -55,14 +56,14 @@ module _ (f w : List ℕ) where
   unfolding helper_of
   helper-sought e = rw e
 
-  pub helper-stops : is_start f w ≡ false → helper_of f w ≡ NoStart
+  pub helper-stops : is_start f w ≡ false → helper_of f w ≡ Err NoStart
   unfolding helper_of
   helper-stops e = rw e
 
   first-right : proposed_number (helper_of f w) ≡ 0 → Firstly (is_right f w) 0 (proposed_count (helper_of f w))
   first-right e = go (is_start f w) refl
     where
-      is : helper_of f w ≡ Count (proposed_count (helper_of f w))
+      is : helper_of f w ≡ Ok (proposed_count (helper_of f w))
       is = zero-counts (helper_of f w) e
 
       go : (b : Bool) → is_start f w ≡ b → Firstly (is_right f w) 0 (proposed_count (helper_of f w))
@@ -82,15 +83,15 @@ module _ (f w : List ℕ) where
       go false l = absurd (false≢true (sym ((first-right e).before m (omega arith) (leb-false (proposed_count (helper_of f w)) m l)) ∙ is-right f w m r))
 
   -- there is a first right count, or none
-  either : Given sought ⊎ (sought ≡ NoneRight)
+  either : Given sought ⊎ (sought ≡ Err NoneRight)
   either = first_either (is_right f w) 0 (most_hydrogens + 1)
 
-  none_right : sought ≡ NoneRight → (n : ℕ) → Right f w n → ⊥
+  none_right : sought ≡ Err NoneRight → (n : ℕ) → Right f w n → ⊥
   none_right e n r =
       let l : n < 0 + (most_hydrogens + 1) = omega (arith, r.count) in
       false≢true (sym (first-fails (is_right f w) 0 (most_hydrogens + 1) e n (omega arith) l) ∙ is-right f w n r)
 
-  right-none : ((n : ℕ) → Right f w n → ⊥) → sought ≡ NoneRight
+  right-none : ((n : ℕ) → Right f w n → ⊥) → sought ≡ Err NoneRight
   right-none h =
       ⊎_elim (λ (g : Given sought). absurd (h g.count (right_is f w g.count (first_passes (is_right f w) 0 (most_hydrogens + 1) g.count g.is).passes))) (λ e. e)
       either
@@ -104,7 +105,7 @@ module _ (f w : List ℕ) where
   pub helper-none : (proposed_number (helper_of f w) ≡ 23) ↔ (Start f w × ((n : ℕ) → Right f w n → ⊥))
   helper-none = (λ e. go (is_start f w) refl (says_none (helper_of f w) e), λ h. ap proposed_number (helper-sought (is-start f w h.0) ∙ right-none h.1))
     where
-      go : (b : Bool) → is_start f w ≡ b → helper_of f w ≡ NoneRight → Start f w × ((n : ℕ) → Right f w n → ⊥)
+      go : (b : Bool) → is_start f w ≡ b → helper_of f w ≡ Err NoneRight → Start f w × ((n : ℕ) → Right f w n → ⊥)
       go true s e = (start_is f w s, none_right (sym (helper-sought s) ∙ e))
       go false s e = absurd (start-not (sym (helper-stops s) ∙ e))
 
@@ -119,12 +120,12 @@ module _ (f w : List ℕ) where
     count = count (is_start f w) (is_right f w n);
   }
     where
-      go : (a b : Bool) → is_start f w ≡ a → is_right f w n ≡ b → proposed_number (cond a (cond b (Count n) NotRight) NoStart) ≡ 0 → Start f w × Right f w n
+      go : (a b : Bool) → is_start f w ≡ a → is_right f w n ≡ b → proposed_number (cond a (cond b (Ok n) (Err NotRight)) (Err NoStart)) ≡ 0 → Start f w × Right f w n
       go true true s r e = (start_is f w s, right_is f w n r)
       go true false s r e = absurd (omega arith)
       go false b s r e = absurd (omega arith)
 
-      count : (a b : Bool) → proposed_number (cond a (cond b (Count n) NotRight) NoStart) ≡ 0 → proposed_count (cond a (cond b (Count n) NotRight) NoStart) ≡ n
+      count : (a b : Bool) → proposed_number (cond a (cond b (Ok n) (Err NotRight)) (Err NoStart)) ≡ 0 → proposed_count (cond a (cond b (Ok n) (Err NotRight)) (Err NoStart)) ≡ n
       count true true e = refl
       count true false e = absurd (omega arith)
       count false b e = absurd (omega arith)

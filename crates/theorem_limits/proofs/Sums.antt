@@ -1,5 +1,6 @@
 -- "the sums of long formulas still exact" (document 02, No. 6).
 -- Assumes nothing.
+use Rattle.std.specs.Prelude.{Some}
 use native.Mathlib.Omega.{arith}
 use mathlib.Core.Path.{◌≡◌, refl}
 use mathlib.Core.Bool.{true, false}
@@ -15,8 +16,6 @@ use Rattle.line_items.specs.Typed.{line_most}
 use Rattle.formula_terms.specs.Term.{is_count, count_of, term_of}
 use Rattle.formula_terms.specs.Terms.{cut, terms_of}
 use Rattle.formula_elements.specs.Elements.{same_symbol, weights, weight_in, weight_of}
-use Rattle.formula_elements.specs.declared.Weight.{Weight}
-use Rattle.formula_elements.specs.declared.Weight.TheVariants.{Thousandths}
 use Rattle.formula_sum.specs.Sum.{most_summed, total_weight, sum_of}
 
 -- the sum of a text that a line can hold is the sum of its terms, each count times its weight
@@ -31,6 +30,6 @@ full_formula = bytes "Pb9999 Pb9999 Pb9999 Pb9999 Pb9999 Pb9999 Pb9999 Pb9999 Pb
 pub full-line : length (bytes "_chemical_formula_sum '" ++ (full_formula ++ bytes "'")) ≡ line_most
 full-line = refl
 
-pub full-sum : sum_of full_formula ≡ Thousandths 51794832011
+pub full-sum : sum_of full_formula ≡ Some 51794832011
 unfolding cut term_of kind_at is_count count_of all between value_from same_symbol sum_of total_weight weight_of weight_in weights
 full-sum = refl

@@ -1,15 +1,14 @@
 -- What stood before the limit of a line became 200 (document 02, No. 6), and what is claimed of it.
 -- Assumes nothing.
-use Rattle.std.specs.Prelude.{ℕ, ◌+◌, ◌*◌, ◌/◌, ◌%◌, ◌≡◌, Bool, cond, ◌&&◌, List, ◌∷◌, leb, ltb, length, take}
+use Rattle.std.specs.Prelude.{ℕ, ◌+◌, ◌*◌, ◌/◌, ◌%◌, ◌≡◌, Bool, cond, ◌&&◌, List, ◌∷◌, leb, ltb, length, take, Option, Some, None, Result, Err}
 use Rattle.text.specs.Run.{all}
 use Rattle.line_items.specs.Items.{items, find_from}
 use Rattle.line_items.specs.Typed.{is_typed}
-use Rattle.line_items.specs.declared.Named.{Named}
 use Rattle.line_reader.specs.Line.{split_of, named_class}
-use Rattle.line_reader.specs.declared.line.Split.{Split}
-use Rattle.line_reader.specs.declared.line.Split.TheVariants.{Parts, Malformed}
-use Rattle.line_reader.specs.declared.line.Class.{Class}
-use Rattle.line_reader.specs.declared.line.Class.TheVariants.{BadForm}
+use Rattle.line_reader.specs.declared.line.Parts.{Parts}
+use Rattle.line_reader.specs.declared.line.LineEntry.{LineEntry}
+use Rattle.line_reader.specs.declared.line.NoEntry.{NoEntry}
+use Rattle.line_reader.specs.declared.line.NoEntry.TheVariants.{BadForm}
 use Rattle.desk_log.specs.Record.{record_fits, record_length}
 use Rattle.desk_state.specs.Desks.{bench_count, is_sheet}
 use Rattle.rows.specs.Rows.{is_profile, no_rows}
@@ -30,17 +29,17 @@ abbrev pub old_count : ℕ
 old_count = 10
 
 -- the item of a name, if it is one of the ten
-abbrev pub old_item_of : List ℕ → Named
+abbrev pub old_item_of : List ℕ → Option ℕ
 old_item_of s = find_from 1 (take old_count items) s
 
 -- the line t by its parts, with those names
-abbrev pub old_split_class : List ℕ → Split → Class
-old_split_class t Malformed = BadForm
-old_split_class t (Parts n v) = named_class t v (old_item_of (take n t))
+abbrev pub old_split_class : List ℕ → Option Parts → Result LineEntry NoEntry
+old_split_class t None = Err BadForm
+old_split_class t (Some p) = named_class t p.value_start (old_item_of (take p.name_end t))
 
 -- what a line was by that limit, with those names
-unfoldable pub old_class : List ℕ → Class
-old_class t = cond (leb (length t) old_most && all is_typed t) (old_split_class t (split_of t)) BadForm
+unfoldable pub old_class : List ℕ → Result LineEntry NoEntry
+old_class t = cond (leb (length t) old_most && all is_typed t) (old_split_class t (split_of t)) (Err BadForm)
 
 -- a record, byte by byte: "length of the whole record (two bytes), kind 1 (two bytes), bench, item, the value as typed; numbers are little-endian"
 abbrev pub old_record : ℕ → ℕ → List ℕ → List ℕ

@@ -10,8 +10,7 @@ use lib.Dec.{ltb, leb, eqb}
 use lib.ListN.{length, drop, length-append}
 use Rattle.text.proofs.Bools.{cond-first}
 use Rattle.line_kinds.specs.Kinds.{fits}
-use Rattle.line_reader.specs.Line.{class_of}
-use Rattle.line_reader.specs.declared.line.Class.TheVariants as class
+use Rattle.line_reader.specs.Line.{class_of, entry_at}
 use Rattle.line_reader.proofs.Entries.{entry-is}
 use Rattle.desk_log.specs.Record.{record_length, record_of}
 use Rattle.desk_log.proofs.Records.{record-length}
@@ -76,7 +75,7 @@ pub record Made (len : ℕ) (es : List Entry) (bench item : ℕ) (v : List ℕ) 
   pub most : len ≤ log_most
   pub room : record_length v ≤ len - length (records_of es)
 
-made : (len : ℕ) (es : List Entry) (t : List ℕ) (bench item start : ℕ) → class_of t ≡ class.Entry item start → table_answer len es t bench 10 ≡ 0 → Made len es bench item (drop start t)
+made : (len : ℕ) (es : List Entry) (t : List ℕ) (bench item start : ℕ) → class_of t ≡ entry_at item start → table_answer len es t bench 10 ≡ 0 → Made len es bench item (drop start t)
 unfolding table_answer Rattle.text.specs.Run.between
 made len es t bench item start c h =
     let may : ℕ → Bool = λ k. may_write (entries_of (sheet_of_bench bench) es) k bench in
@@ -88,7 +87,7 @@ made len es t bench item start c h =
     let full : ◌≡◌ {A = ℕ} 8 0 → ⊥ = λ q. omega (arith, q) in
     let h1 = cond-first (ltb bench bench_count) (cond (leb len log_most) a 2) 1 0 no-bench h in
     let h2 = cond-first (leb len log_most) a 2 0 not_sound h1.1 in
-    let h3 : enter_number (class.Entry item start) t may free ≡ 0 = rw c at h2.1 in
+    let h3 : enter_number (entry_at item start) t may free ≡ 0 = rw c at h2.1 in
     let h4 = cond-first (may item) (cond (leb (record_length (drop start t)) free) 0 8) 9 0 foreign h3 in
     let h5 = cond-first (leb (record_length (drop start t)) free) 0 8 0 full h4.1 in
     record {

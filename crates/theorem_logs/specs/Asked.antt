@@ -1,7 +1,7 @@
 -- Questions asked of what was read from a used log (document 02, No. 10: it "gives back its sheets exactly"; document 01, "Two questions"): Who and Report are answered as
 -- by the desk that wrote the log. That it is so is `asked-same`, and however the log was cut `asked-same-in-parts` (proofs/Asked.antt).
 -- Assumes nothing.
-use Rattle.std.specs.Prelude.{ℕ, ◌≡◌, true, List, ◌++◌}
+use Rattle.std.specs.Prelude.{ℕ, ◌≡◌, List, ◌++◌}
 use Rattle.desk_state.specs.declared.sheet.Sheet.{Sheet}
 use Rattle.desk_state.specs.declared.desk.Desk.{Desk}
 use Rattle.desk_questions.specs.Who.{who_of}

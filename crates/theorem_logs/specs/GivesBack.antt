@@ -1,7 +1,7 @@
 -- "The used log of any desk grown by these rules gives back its sheets exactly" (document 02, No. 10). That it holds after every sequence of calls is `gives_back`
 -- (proofs/Back.antt), and that it is so however the log is cut `gives-back-in-parts` (proofs/Cut.antt).
 -- Assumes nothing.
-use Rattle.std.specs.Prelude.{ℕ, ◌≡◌, true, List, [], ◌++◌, length, replicate}
+use Rattle.std.specs.Prelude.{ℕ, ◌≡◌, true, List, ◌++◌, length, replicate}
 use Rattle.desk_state.specs.Desks.{fresh_desk}
 use Rattle.desk_state.specs.declared.sheet.Sheet.{Sheet}
 use Rattle.desk_state.specs.declared.desk.Desk.{Desk}

@@ -1,5 +1,6 @@
 -- The reports of a sound desk: an item of kind number holds a number or is missing, so that what the rules compare is there exactly when it is not missing.
 -- Assumes nothing.
+use Rattle.std.specs.Prelude.{ℤ, Option, Some, None}
 use mathlib.Core.Path.{◌≡◌, refl, sym, ap, subst, subst⁻¹, ◌∙◌}
 use mathlib.Core.Bool.{Bool, true, false, ◌&&◌, false≢true}
 use mathlib.Core.List.{List, [], ◌∷◌}
@@ -13,8 +14,6 @@ use Rattle.text.specs.Run.{all, between}
 use Rattle.text.proofs.Bools.{and_both}
 use Rattle.text.proofs.Tables.{agree}
 use Rattle.number_decimal.specs.Reading.{reading_of}
-use Rattle.number_decimal.specs.declared.Reading.{Reading}
-use Rattle.number_decimal.specs.declared.Reading.TheVariants.{Number, Nothing}
 use Rattle.number_decimal.proofs.Agree as agreed
 use Rattle.line_values.specs.Value.{is_unassigned}
 use Rattle.line_items.specs.Items.{items, item_row}
@@ -54,9 +53,9 @@ number-or-missing item v k (Passes.unassigned (Unassigned.question e)) = inl (rw
 number-or-missing item v k (Passes.unassigned (Unassigned.point e)) = inl (rw e)
 number-or-missing item v k (Passes.of_kind h) = inr (go (subst (λ (x : Kind). OfKind x v) k h) (reading_of v) refl)
   where
-    go : NumberText v → (r : Reading) → reading_of v ≡ r → There v
-    go n (Number z) e = record { worth = z; read = e; so = tt }
-    go n Nothing e = absurd (agreed.agree v Nothing (sym e) n.denoted n.is_number)
+    go : NumberText v → (r : Option ℤ) → reading_of v ≡ r → There v
+    go n (Some z) e = record { worth = z; read = e; so = tt }
+    go n None e = absurd (agreed.agree v None (sym e) n.denoted n.is_number)
 
 -- items 11 to 18 are of kind number: one test that antt computes
 numbers : (k : ℕ) → k < 8 → (item_row (11 + k)).kind ≡ kind.Number

@@ -19,13 +19,13 @@ use Rattle.desk_soundness.specs.SoundLog.{counts_of, sound_log}
 use Rattle.text.specs.Run as run
 use Rattle.text.proofs.Bools.{and_both}
 use Rattle.desk_entries.specs.Entry.{with_entry, open_to, own_item}
-use Rattle.reader_cuts.specs.Reading.{length_least, length_most, Reading, waiting, ended, place_for, place_answered, feed}
+use Rattle.reader_cuts.specs.Reading.{length_least, length_most, Reading, waiting, ended, place_for, place_answered}
 use Rattle.reader_cuts.specs.Called.{Called, called_with, all_bytes, calls_of, call, after_calls, answers_so_far}
 use Rattle.reader_cuts.proofs.Laws.{undecided-few}
 use Rattle.reader_cuts.proofs.Cuts.{feed-over, next-part, whole-over}
 use Rattle.reader_cuts.proofs.Agreement.{agrees, Good, read-good, after-good, call-good}
 use Rattle.reader_cuts.proofs.Told.{Known, answers-known, before-refused, no-20-before}
-use Rattle.reader_memory.specs.Memory.{kept_in, stands_at, answer_at}
+use Rattle.reader_memory.specs.Memory.{kept_in, stands_at}
 use Rattle.desk_log.specs.Record.{bench_told, item_told, value_told}
 use Rattle.reader_records.specs.Shape.{shaped}
 use Rattle.reader_entries.specs.Judged.{refusal_of, store_of, sound_at, read_on}
@@ -33,7 +33,7 @@ use Rattle.desk_entries.proofs.Camps.{sheet-in}
 use Rattle.reader_records.proofs.Shapes.{shaped-parts}
 use Rattle.reader_entries.proofs.Judged.{refusal-known, taken-shaped}
 use Rattle.reader_entries.proofs.Keeps.{Whole, keeps}
-use Rattle.reader_left.specs.Left.{Left, left, left_as}
+use Rattle.reader_left.specs.Left.{Left, left_as}
 use Rattle.reader_feed.specs.Feed.{sound_reader, again, unsound, feed_of}
 use Rattle.theorem_reader.specs.Parts.{Between, left_for, fresh, LogPart, fed, after_parts, part_answers, whole, so_far, told_so_far, PartsAgree, NeverUnsound, StoresBefore, RefusedBefore, ChangesNothing, SheetsThere, Ends, with_refusal, with_last, Repeats}
 use Rattle.theorem_reader.proofs.Follow.{view, left_called, follows, call_known, after-known, follows-after, follows-answers}

@@ -1,16 +1,14 @@
 -- A part in lent memory: its table, its place, and what changes nothing.
 -- Assumes nothing.
-use mathlib.Core.Path.{◌≡◌, refl, sym, ap, subst, subst⁻¹, ◌∙◌}
+use mathlib.Core.Path.{◌≡◌, refl, sym, ap, subst⁻¹, ◌∙◌}
 use mathlib.Core.Bool.{Bool, true, false}
-use mathlib.Core.List.{List, ◌++◌}
 use mathlib.Core.Logic.{◌↔◌}
 use Prim.Native.Nat.{ℕ}
 use native.Mathlib.Omega.{arith}
 use borrow.Author.Tests.{eqb-true, eqb-false}
 use lib.Dec.{eqb}
 use Rattle.text.proofs.Bools.{fails}
-use Rattle.desk_state.specs.declared.desk.Desk.{Desk}
-use Rattle.desk_memory.specs.Memory.{Sized, is_desk, desk_of, used_of}
+use Rattle.desk_memory.specs.Memory.{Sized, is_desk}
 use Rattle.desk_memory.proofs.Desks.{desk-sized, sized-desk, still-desk}
 use Rattle.desk_memory.proofs.Whole.{same-texts, same_numbers}
 use Rattle.reader_memory.specs.Memory.{stands_at}

@@ -1,5 +1,6 @@
 -- A graded value has the number of its table.
 -- Assumes nothing.
+use Rattle.std.specs.Prelude.{ℤ, Option, Some, None, Err}
 use mathlib.Core.Path.{◌≡◌, refl}
 use mathlib.Core.Bool.{Bool, true, false, cond, ◌||◌}
 use mathlib.Core.List.{List}
@@ -7,19 +8,17 @@ use Prim.Native.Nat.{ℕ}
 use borrow.Author.Tests.{eqb-true, eqb-false}
 use lib.Dec.{eqb}
 use Rattle.number_decimal.specs.Reading.{reading_of}
-use Rattle.number_decimal.specs.declared.Reading.{Reading}
-use Rattle.number_decimal.specs.declared.Reading.TheVariants.{Number, Nothing}
 use Rattle.number_decimal.proofs.Agree.{agree}
 use Rattle.rows_levels.specs.Bounds.{read_grade, graded_of, graded_number}
-use Rattle.rows_levels.specs.declared.Graded.TheVariants.{NoRow}
+use Rattle.rows_levels.specs.declared.Ungraded.TheVariants.{NoRow}
 use Rattle.theorem_refusals.specs.Table.{Answers}
 use Rattle.theorem_refusals.specs.Graded.{HasGrade, six, eight, ten, graded_table}
 use Rattle.theorem_refusals.proofs.Firsts.{First, this, next, answers}
 
 module _ (row : ℕ) (value : List ℕ) where
-  graded : HasGrade row → (r : Reading) → r ≡ reading_of value → First (graded_table row value) (graded_number (read_grade row r))
-  graded h (Number z) e = next (λ n. n h) (next (λ none. none z (agree value (Number z) e)) refl)
-  graded h Nothing e = next (λ n. n h) (this (agree value Nothing e) refl)
+  graded : HasGrade row → (r : Option ℤ) → r ≡ reading_of value → First (graded_table row value) (graded_number (read_grade row r))
+  graded h (Some z) e = next (λ n. n h) (next (λ none. none z (agree value (Some z) e)) refl)
+  graded h None e = next (λ n. n h) (this (agree value None e) refl)
 
   other_row : (row ≡ 6 → ⊥) → (row ≡ 8 → ⊥) → (row ≡ 10 → ⊥) → HasGrade row → ⊥
   other_row a b c (six e) = a e
@@ -27,7 +26,7 @@ module _ (row : ℕ) (value : List ℕ) where
   other_row a b c (ten e) = c e
 
   by_row : (p q r : Bool) → eqb row 6 ≡ p → eqb row 8 ≡ q → eqb row 10 ≡ r
-      → First (graded_table row value) (graded_number (cond (p || (q || r)) (read_grade row (reading_of value)) NoRow))
+      → First (graded_table row value) (graded_number (cond (p || (q || r)) (read_grade row (reading_of value)) (Err NoRow)))
   by_row true q r e6 e8 e10 = graded (six (eqb-true row 6 e6)) (reading_of value) refl
   by_row false true r e6 e8 e10 = graded (eight (eqb-true row 8 e8)) (reading_of value) refl
   by_row false false true e6 e8 e10 = graded (ten (eqb-true row 10 e10)) (reading_of value) refl

@@ -1,5 +1,6 @@
 -- A key call answers by its table: each number exactly when its condition holds and none above it does, 0 exactly when none does.
 -- Assumes nothing.
+use Rattle.std.specs.Prelude.{Result, Ok, Err}
 use mathlib.Core.Path.{◌≡◌, refl, ap, ◌∙◌, subst⁻¹}
 use mathlib.Core.Bool.{Bool, true, false, cond, ◌&&◌}
 use mathlib.Core.Logic.{◌↔◌}
@@ -16,8 +17,9 @@ use Rattle.line_items.specs.Items.{IsName}
 use Rattle.line_items.specs.Typed.{line_most, is_typed}
 use Rattle.line_reader.specs.Line.{class_of}
 use Rattle.line_reader.specs.Wording.{IsLine}
-use Rattle.line_reader.specs.declared.line.Class.{Class}
-use Rattle.line_reader.specs.declared.line.Class.TheVariants as class
+use Rattle.line_reader.specs.declared.line.LineEntry.{LineEntry}
+use Rattle.line_reader.specs.declared.line.NoEntry.{NoEntry}
+use Rattle.line_reader.specs.declared.line.NoEntry.TheVariants as no_entry
 use Rattle.desk_log.specs.Record.{record_length}
 use Rattle.desk_state.specs.Lines.{typed}
 use Rattle.desk_state.specs.Desks.{bench_count, no_line, line_at}
@@ -77,7 +79,7 @@ module _ (Sound : Type 0) (line : List ℕ) (size : ℕ) (OfAnother : ℕ → Ty
       by-owner false e =
           this (is-enter, record { name = name; value = drop start line; item = item; parts = parts; named = named; so = (is-other item).0 e }) refl
 
-    by-case : {c : Class} → LineCase line c → From 5 (enter_number c line may unused)
+    by-case : {c : Result LineEntry NoEntry} → LineCase line c → From 5 (enter_number c line may unused)
     by-case (LineCase.bad_form n) = this (is-enter, n) refl
     by-case (LineCase.no_name name value parts none) =
         next (λ h. h.1 name value parts) (this (is-enter, record { name = name; value = value; parts = parts; so = none }) refl)
@@ -168,12 +170,14 @@ module _ (d : Desk) (used : ℕ) (log : List ℕ) (bench byte : ℕ) where
   abbrev may : ℕ → Bool
   may item = open_to (own_item d bench item) bench
 
-  number-class : (c : Class) → (entered_as c d used log bench (typed l)).answer ≡ enter_number c (typed l) may (length log - used)
+  number-class : (c : Result LineEntry NoEntry) → (entered_as c d used log bench (typed l)).answer ≡ enter_number c (typed l) may (length log - used)
   unfolding stored_if_open stored
-  number-class class.BadForm = refl
-  number-class class.UnknownName = refl
-  number-class class.WrongKind = refl
-  number-class (class.Entry item start) =
+  number-class (Err no_entry.BadForm) = refl
+  number-class (Err no_entry.UnknownName) = refl
+  number-class (Err no_entry.WrongKind) = refl
+  number-class (Ok at) =
+      let item = at.item in
+      let start = at.start in
       cond-ap (λ (x : After). x.answer) (may item) _ _
       ∙ ap (λ (a : ℕ). cond (may item) a 9) (cond-ap (λ (x : After). x.answer) (leb (record_length (drop start (typed l))) (length log - used)) _ _)
 

@@ -1,5 +1,6 @@
 -- A line has the number of its table.
 -- Assumes nothing.
+use Rattle.std.specs.Prelude.{Result}
 use mathlib.Core.Path.{◌≡◌, refl, sym, ◌∙◌}
 use mathlib.Core.Bool.{Bool, true, false, ◌&&◌, false≢true}
 use mathlib.Core.List.{List}
@@ -13,7 +14,8 @@ use Rattle.line_items.specs.Items.{IsName}
 use Rattle.line_items.specs.Typed.{line_most, is_typed}
 use Rattle.line_reader.specs.Line.{class_of, class_number}
 use Rattle.line_reader.specs.Wording.{IsLine}
-use Rattle.line_reader.specs.declared.line.Class.{Class}
+use Rattle.line_reader.specs.declared.line.LineEntry.{LineEntry}
+use Rattle.line_reader.specs.declared.line.NoEntry.{NoEntry}
 use Rattle.theorem_refusals.specs.Table.{Answers}
 use Rattle.theorem_refusals.specs.Line.{BadLine, long, outside, bad_form, line_table}
 use Rattle.theorem_refusals.proofs.Firsts.{First, this, next, answers}
@@ -26,7 +28,7 @@ module _ (t : List ℕ) where
     of-form parts (outside n) = n typed
     of-form {name} {value} parts (bad_form n) = n name value parts
 
-    by-case : {c : Class} → LineCase t c → First (line_table t) (class_number c)
+    by-case : {c : Result LineEntry NoEntry} → LineCase t c → First (line_table t) (class_number c)
     by-case (LineCase.bad_form n) = this (bad_form n) refl
     by-case (LineCase.no_name name value parts none) = next (of-form parts) (this (record { name = name; value = value; parts = parts; so = none }) refl)
     by-case (LineCase.no_kind name value item parts named wrong) =

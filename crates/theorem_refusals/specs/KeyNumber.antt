@@ -1,20 +1,21 @@
 -- The number that a key call answers, by tests in the code's order. It is a means: what it stands for is the table of specs/Key.antt, by `number-answers`
 -- (proofs/KeyAnswers.antt). Document 01 reads the table twice, of a desk and of what a sequence of calls has typed and entered; both are instances.
 -- Assumes nothing.
-use Rattle.std.specs.Prelude.{ℕ, Bool, cond, List, ltb, leb, eqb, drop}
+use Rattle.std.specs.Prelude.{ℕ, Bool, cond, List, ltb, leb, eqb, drop, Result, Ok, Err}
 use Rattle.line_items.specs.Typed.{line_most, is_typed}
 use Rattle.line_reader.specs.Line.{class_of}
-use Rattle.line_reader.specs.declared.line.Class.{Class}
-use Rattle.line_reader.specs.declared.line.Class.TheVariants as class
+use Rattle.line_reader.specs.declared.line.LineEntry.{LineEntry}
+use Rattle.line_reader.specs.declared.line.NoEntry.{NoEntry}
+use Rattle.line_reader.specs.declared.line.NoEntry.TheVariants as no_entry
 use Rattle.desk_log.specs.Record.{record_length}
 use Rattle.desk_state.specs.Desks.{bench_count}
 
 -- an Enter, by what the line t is, where `may` tells which items the bench may write, with so many bytes of the log unused
-abbrev pub enter_number : Class → List ℕ → (ℕ → Bool) → ℕ → ℕ
-enter_number class.BadForm t may unused = 5
-enter_number class.UnknownName t may unused = 6
-enter_number class.WrongKind t may unused = 7
-enter_number (class.Entry item start) t may unused = cond (may item) (cond (leb (record_length (drop start t)) unused) 0 8) 9
+abbrev pub enter_number : Result LineEntry NoEntry → List ℕ → (ℕ → Bool) → ℕ → ℕ
+enter_number (Err no_entry.BadForm) t may unused = 5
+enter_number (Err no_entry.UnknownName) t may unused = 6
+enter_number (Err no_entry.WrongKind) t may unused = 7
+enter_number (Ok at) t may unused = cond (may at.item) (cond (leb (record_length (drop at.start t)) unused) 0 8) 9
 
 -- a byte, with the line t of that size
 abbrev pub byte_number : List ℕ → ℕ → (ℕ → Bool) → ℕ → ℕ → ℕ

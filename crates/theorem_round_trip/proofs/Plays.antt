@@ -1,5 +1,6 @@
 -- Keys that are all accepted: one after the other, a text typed on an empty line, and the Enter of an item's line.
 -- Assumes nothing.
+use Rattle.std.specs.Prelude.{Result}
 use mathlib.Core.Path.{◌≡◌, refl, sym, ap, ap₂, ◌∙◌}
 use mathlib.Core.Bool.{true, false}
 use mathlib.Core.List.{List, [], ◌∷◌, ◌++◌, map, append_assoc, append-nil, map-append}
@@ -14,10 +15,10 @@ use Rattle.text.proofs.Bools.{and_both, and-true-true}
 use Rattle.text.proofs.Runs.{all_append}
 use Rattle.line_items.specs.Items.{item_count, item_row}
 use Rattle.line_items.specs.Typed.{line_most, is_typed}
-use Rattle.line_reader.specs.Line.{class_of}
+use Rattle.line_reader.specs.Line.{class_of, entry_at}
 use Rattle.line_kinds.specs.Kinds.{passes, fits}
-use Rattle.line_reader.specs.declared.line.Class.{Class}
-use Rattle.line_reader.specs.declared.line.Class.TheVariants as class
+use Rattle.line_reader.specs.declared.line.LineEntry.{LineEntry}
+use Rattle.line_reader.specs.declared.line.NoEntry.{NoEntry}
 use Rattle.line_reader.proofs.Entries.{entry-taken}
 use Rattle.line_items.proofs.NameTable.{name-of}
 use Rattle.line_items.proofs.Names.{name_typed}
@@ -116,7 +117,7 @@ module _ (len : ℕ) where
         rw (append_assoc p (b ∷ []) bs) at (plays-then (key bench b ∷ []) (typing bench bs) (work_of bench p es) (work_of bench (p ++ (b ∷ [])) es) (work_of bench ((p ++ (b ∷ [])) ++ bs) es) first rest)
 
     -- Enter on the line of an entry, with room in the log; no other bench has an entry, so none owns the item
-    enter-plays : (p : List ℕ) (k s : ℕ) (es : List Entry) → OneBench bench es → class_of p ≡ class.Entry k s → length (records_of es) + record_length (drop s p) ≤ len
+    enter-plays : (p : List ℕ) (k s : ℕ) (es : List Entry) → OneBench bench es → class_of p ≡ entry_at k s → length (records_of es) + record_length (drop s p) ≤ len
         → Plays (work_of bench p es) (key bench 10 ∷ []) (work_of bench [] (record { bench = bench; item = k; value = drop s p; line = p } ∷ es))
     unfolding table_answer between
     enter-plays p k s es alone c room =
@@ -124,10 +125,10 @@ module _ (len : ℕ) where
         key-plays p [] es (record { bench = bench; item = k; value = drop s p; line = p } ∷ es) 10
         (rw (lt-ltb bench bench_count there, le-leb len log_most small, c, one-bench-sheet es bench alone, one-bench-may es k bench alone, le-leb (record_length (drop s p)) (len - u) (omega arith)))
         refl
-        (ap (λ (x : Class). with_entry_of x bench p es) c)
+        (ap (λ (x : Result LineEntry NoEntry). with_entry_of x bench p es) c)
 
     -- a line that is an entry, and its Enter
-    typed-plays : (p v : List ℕ) (k s : ℕ) (es : List Entry) → OneBench bench es → all is_typed p ≡ true → length p ≤ line_most → class_of p ≡ class.Entry k s → drop s p ≡ v
+    typed-plays : (p v : List ℕ) (k s : ℕ) (es : List Entry) → OneBench bench es → all is_typed p ≡ true → length p ≤ line_most → class_of p ≡ entry_at k s → drop s p ≡ v
         → length (records_of es) + record_length v ≤ len
         → Plays (work_of bench [] es) (typing bench (ended_line p)) (work_of bench [] (record { bench = bench; item = k; value = v; line = p } ∷ es))
     typed-plays p v k s es alone h short c e room =

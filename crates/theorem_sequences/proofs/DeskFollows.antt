@@ -1,5 +1,6 @@
 -- Desk and log follow the work, call by call: they are a function of it.
 -- Assumes nothing.
+use Rattle.std.specs.Prelude.{Result, Ok, Err}
 use mathlib.Core.Path.{◌≡◌, refl, sym, ap, ◌∙◌}
 use mathlib.Core.Bool.{Bool, true, false, cond, ◌&&◌, and-true}
 use mathlib.Core.List.{List, [], ◌∷◌, ◌++◌, map, append_assoc}
@@ -14,9 +15,10 @@ use Rattle.text.specs.Run.{between}
 use Rattle.text.proofs.Bools.{and_both, cond_sim, cond-true}
 use Rattle.line_items.specs.Items.{item_count, is_item}
 use Rattle.line_items.specs.Typed.{line_most, is_typed}
-use Rattle.line_reader.specs.Line.{class_of}
-use Rattle.line_reader.specs.declared.line.Class.{Class}
-use Rattle.line_reader.specs.declared.line.Class.TheVariants as class
+use Rattle.line_reader.specs.Line.{class_of, entry_at}
+use Rattle.line_reader.specs.declared.line.LineEntry.{LineEntry}
+use Rattle.line_reader.specs.declared.line.NoEntry.{NoEntry}
+use Rattle.line_reader.specs.declared.line.NoEntry.TheVariants as no_entry
 use Rattle.line_reader.proofs.Entries.{entry-is}
 use Rattle.desk_log.specs.Record.{record_length, record_of}
 use Rattle.desk_log.proofs.Records.{record-length}
@@ -162,7 +164,7 @@ module _ (log : List ℕ) (w : Work) (bench byte : ℕ) where
       rw (plain, text) (after-eq (desk-eq (ap (λ (x : Line). set (map line_of w.typed) bench x) e ∙ map-set line_of w.typed bench s) refl) refl refl)
 
   module _ (room : U ≤ length log) (b : bench < bench_count) (enter-key : eqb byte 10 ≡ true) where
-    stored-follows : (item start : ℕ) → class_of t ≡ class.Entry item start
+    stored-follows : (item start : ℕ) → class_of t ≡ entry_at item start
         → stored D U L bench item (drop start t) ≡ after_of (cond (leb (record_length (drop start t)) (length log - U)) 0 8)
     unfolding stored
     stored-follows item start e =
@@ -186,8 +188,8 @@ module _ (log : List ℕ) (w : Work) (bench byte : ℕ) where
         (λ p. refused-follows 8 refl)
 
     -- the item is not another bench's, by desk and by entries
-    open-follows : ((item : ℕ) → 1 ≤ item → item ≤ item_count → open_to (own_item D bench item) bench ≡ may item) → (item start : ℕ) → class_of t ≡ class.Entry item start
-        → stored_if_open D U L bench item (drop start t) ≡ after_of (enter_number (class.Entry item start) t may (length log - U))
+    open-follows : ((item : ℕ) → 1 ≤ item → item ≤ item_count → open_to (own_item D bench item) bench ≡ may item) → (item start : ℕ) → class_of t ≡ entry_at item start
+        → stored_if_open D U L bench item (drop start t) ≡ after_of (enter_number (entry_at item start) t may (length log - U))
     unfolding stored_if_open
     open-follows same item start e =
         let h = entry-is t item start e in
@@ -196,12 +198,12 @@ module _ (log : List ℕ) (w : Work) (bench byte : ℕ) where
         ∙ cond_sim (λ (x : After). x) after_of (may item) next (refused 9 D U L) (cond (leb (record_length (drop start t)) (length log - U)) 0 8) 9
         (λ p. stored-follows item start e) (λ p. refused-follows 9 refl)
 
-    enter-follows : ((item : ℕ) → 1 ≤ item → item ≤ item_count → open_to (own_item D bench item) bench ≡ may item) → (c : Class) → class_of t ≡ c
+    enter-follows : ((item : ℕ) → 1 ≤ item → item ≤ item_count → open_to (own_item D bench item) bench ≡ may item) → (c : Result LineEntry NoEntry) → class_of t ≡ c
         → entered_as c D U L bench t ≡ after_of (enter_number c t may (length log - U))
-    enter-follows same class.BadForm e = refused-follows 5 refl
-    enter-follows same class.UnknownName e = refused-follows 6 refl
-    enter-follows same class.WrongKind e = refused-follows 7 refl
-    enter-follows same (class.Entry item start) e = open-follows same item start e
+    enter-follows same (Err no_entry.BadForm) e = refused-follows 5 refl
+    enter-follows same (Err no_entry.UnknownName) e = refused-follows 6 refl
+    enter-follows same (Err no_entry.WrongKind) e = refused-follows 7 refl
+    enter-follows same (Ok at) e = open-follows same at.item at.start e
 
   module _ (g : Good log w) where
     -- each item of the desk is the last entry's, and sound

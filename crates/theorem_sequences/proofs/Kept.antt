@@ -1,5 +1,6 @@
 -- Soundness is kept: from a desk that is sound with its log, every key call leaves one that is.
 -- Assumes nothing.
+use Rattle.std.specs.Prelude.{Result, Ok, Err}
 use mathlib.Core.Path.{◌≡◌, refl, ap, ◌∙◌, subst⁻¹}
 use mathlib.Core.Bool.{Bool, true, false, ◌&&◌}
 use mathlib.Core.List.{List, [], ◌∷◌, ◌++◌}
@@ -15,8 +16,9 @@ use Rattle.line_items.specs.Items.{item_count}
 use Rattle.line_items.specs.Typed.{line_most, is_typed}
 use Rattle.line_reader.specs.Line.{class_of}
 use Rattle.line_kinds.specs.Kinds.{fits}
-use Rattle.line_reader.specs.declared.line.Class.{Class}
-use Rattle.line_reader.specs.declared.line.Class.TheVariants as class
+use Rattle.line_reader.specs.declared.line.LineEntry.{LineEntry}
+use Rattle.line_reader.specs.declared.line.NoEntry.{NoEntry}
+use Rattle.line_reader.specs.declared.line.NoEntry.TheVariants as no_entry
 use Rattle.line_reader.proofs.Entries.{entry-is}
 use Rattle.desk_log.specs.Record.{record_length, record_fits, record_of, with_record}
 use Rattle.desk_log.proofs.Records.{record-length}
@@ -179,11 +181,13 @@ module _ (d : Desk) (used : ℕ) (log : List ℕ) (shape : Shaped d) (sound : so
   unfolding stored_if_open
   open-keeps item v h = cond-keeps (Keeps d used log) (open_to (own_item d bench item) bench) _ _ (λ p. h) (λ p. no 9)
 
-  enter-keeps : used ≤ length log → (c : Class) (t : List ℕ) → class_of t ≡ c → Keeps d used log (entered_as c d used log bench t)
-  enter-keeps within class.BadForm t e = no 5
-  enter-keeps within class.UnknownName t e = no 6
-  enter-keeps within class.WrongKind t e = no 7
-  enter-keeps within (class.Entry item start) t e =
+  enter-keeps : used ≤ length log → (c : Result LineEntry NoEntry) (t : List ℕ) → class_of t ≡ c → Keeps d used log (entered_as c d used log bench t)
+  enter-keeps within (Err no_entry.BadForm) t e = no 5
+  enter-keeps within (Err no_entry.UnknownName) t e = no 6
+  enter-keeps within (Err no_entry.WrongKind) t e = no 7
+  enter-keeps within (Ok at) t e =
+      let item = at.item in
+      let start = at.start in
       let h = entry-is t item start e in
       open-keeps item (drop start t)
       (stored-keeps item (drop start t) (entry-fits t item start h) within)

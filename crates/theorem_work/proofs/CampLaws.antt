@@ -1,5 +1,6 @@
 -- A camp sees only its own calls: the laws of `Alone` for the work.
 -- Assumes nothing.
+use Rattle.std.specs.Prelude.{Result, Ok, Err}
 use mathlib.Core.Path.{◌≡◌, refl, sym, ap, ap₂, ◌∙◌}
 use mathlib.Core.Bool.{Bool, true, false, cond, not, false≢true}
 use mathlib.Core.List.{List, [], ◌∷◌}
@@ -11,8 +12,9 @@ use borrow.Author.Tests.{eqb-true, leb-true, le-leb}
 use Rattle.text.proofs.Bools.{cond-true, cond-false}
 use Rattle.line_items.specs.Typed.{line_most, is_typed}
 use Rattle.line_reader.specs.Line.{class_of}
-use Rattle.line_reader.specs.declared.line.Class.{Class}
-use Rattle.line_reader.specs.declared.line.Class.TheVariants as class
+use Rattle.line_reader.specs.declared.line.LineEntry.{LineEntry}
+use Rattle.line_reader.specs.declared.line.NoEntry.{NoEntry}
+use Rattle.line_reader.specs.declared.line.NoEntry.TheVariants as no_entry
 use Rattle.desk_log.specs.Record.{record_length, record_of}
 use Rattle.desk_state.specs.Desks.{bench_count, sheet_of_bench}
 use Rattle.desk_state.specs.declared.sheet.Sheet.{Sheet}
@@ -55,17 +57,13 @@ same_entries : (s c : ℕ) (es : List Entry) → s ≡ c → entries_of s (entri
 same_entries s c es e = rw e (entries_twice c es)
 
 -- an entry of a bench of the sheet, and of another bench
-own_new : (s b : ℕ) (t : List ℕ) (es : List Entry) (c : Class) → on_sheet s b ≡ true → entries_of s (with_entry_of c b t es) ≡ with_entry_of c b t (entries_of s es)
-own_new s b t es class.BadForm e = refl
-own_new s b t es class.UnknownName e = refl
-own_new s b t es class.WrongKind e = refl
-own_new s b t es (class.Entry item start) e = rw e
+own_new : (s b : ℕ) (t : List ℕ) (es : List Entry) (c : Result LineEntry NoEntry) → on_sheet s b ≡ true → entries_of s (with_entry_of c b t es) ≡ with_entry_of c b t (entries_of s es)
+own_new s b t es (Err why) e = refl
+own_new s b t es (Ok at) e = rw e
 
-other-new : (s b : ℕ) (t : List ℕ) (es : List Entry) (c : Class) → on_sheet s b ≡ false → entries_of s (with_entry_of c b t es) ≡ entries_of s es
-other-new s b t es class.BadForm e = refl
-other-new s b t es class.UnknownName e = refl
-other-new s b t es class.WrongKind e = refl
-other-new s b t es (class.Entry item start) e = rw e
+other-new : (s b : ℕ) (t : List ℕ) (es : List Entry) (c : Result LineEntry NoEntry) → on_sheet s b ≡ false → entries_of s (with_entry_of c b t es) ≡ entries_of s es
+other-new s b t es (Err why) e = refl
+other-new s b t es (Ok at) e = rw e
 
 pub own-after : (s a b k : ℕ) (t : List ℕ) (es : List Entry) → on_sheet s b ≡ true → entries_of s (entries_after a b k t es) ≡ entries_after a b k t (entries_of s es)
 own-after s a b k t es e = go (accepts a) (eqb k 10)
@@ -101,16 +99,16 @@ abbrev Freed : ℕ → ℕ → Type 0
 Freed x y = not (eqb x 8) ≡ true → y ≡ x
 
 module _ (may : ℕ → Bool) (free more : ℕ) (grows : free ≤ more) (t : List ℕ) where
-  enter-free : (c : Class) → Freed (enter_number c t may free) (enter_number c t may more)
-  enter-free class.BadForm = λ h. refl
-  enter-free class.UnknownName = λ h. refl
-  enter-free class.WrongKind = λ h. refl
-  enter-free (class.Entry item start) = go (may item) (leb (record_length (drop start t)) free) refl
+  enter-free : (c : Result LineEntry NoEntry) → Freed (enter_number c t may free) (enter_number c t may more)
+  enter-free (Err no_entry.BadForm) = λ h. refl
+  enter-free (Err no_entry.UnknownName) = λ h. refl
+  enter-free (Err no_entry.WrongKind) = λ h. refl
+  enter-free (Ok at) = go (may at.item) (leb (record_length (drop at.start t)) free) refl
     where
-      go : (x y : Bool) → leb (record_length (drop start t)) free ≡ y → Freed (cond x (cond y 0 8) 9) (cond x (cond (leb (record_length (drop start t)) more) 0 8) 9)
+      go : (x y : Bool) → leb (record_length (drop at.start t)) free ≡ y → Freed (cond x (cond y 0 8) 9) (cond x (cond (leb (record_length (drop at.start t)) more) 0 8) 9)
       go true true e =
-          let n = leb-true (record_length (drop start t)) free e in
-          λ h. rw (le-leb (record_length (drop start t)) more (omega arith))
+          let n = leb-true (record_length (drop at.start t)) free e in
+          λ h. rw (le-leb (record_length (drop at.start t)) more (omega arith))
       go true false e = λ h. absurd (false≢true h)
       go false y e = λ h. refl
 

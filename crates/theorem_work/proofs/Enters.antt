@@ -8,7 +8,6 @@ use borrow.Author.Tests.{eqb-true}
 use lib.Dec.{eqb}
 use lib.ListN.{drop}
 use Rattle.text.specs.Run.{between}
-use Rattle.line_reader.specs.declared.line.Class.TheVariants as class
 use Rattle.desk_state.specs.declared.sheet.Sheet.{Sheet}
 use Rattle.theorem_work.specs.Calls.{Call, key, ask, report, who, answered, final}
 use Rattle.theorem_work.specs.Work.{Entry, Work, typed_by, accepts, with_entry_of, key_answer, key_work, work_step}

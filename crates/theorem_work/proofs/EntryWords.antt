@@ -1,5 +1,7 @@
 -- An accepted Enter's line in document 01's words: a name of the item, spaces, and the value.
 -- Assumes nothing.
+use Rattle.line_reader.proofs.Entries.{entry-same}
+use Rattle.std.specs.Prelude.{Option, Some, None, Result, Ok, Err}
 use mathlib.Core.Path.{◌≡◌, refl}
 use mathlib.Core.Bool.{Bool, true, cond, ◌&&◌}
 use mathlib.Core.List.{List}
@@ -13,14 +15,12 @@ use Rattle.text.proofs.Bools.{cond-first}
 use Rattle.line_items.specs.Items.{item_of, IsName}
 use Rattle.line_kinds.specs.Kinds.{passes}
 use Rattle.line_items.specs.Typed.{line_most, is_typed}
-use Rattle.line_reader.specs.Line.{split_of, named_class, split_class, class_of}
+use Rattle.line_reader.specs.Line.{split_of, named_class, split_class, class_of, entry_at, parts_at}
 use Rattle.line_reader.specs.Wording.{IsLine}
-use Rattle.line_items.specs.declared.Named.{Named}
-use Rattle.line_items.specs.declared.Named.TheVariants.{Item, Unknown}
-use Rattle.line_reader.specs.declared.line.Split.{Split}
-use Rattle.line_reader.specs.declared.line.Split.TheVariants.{Parts, Malformed}
-use Rattle.line_reader.specs.declared.line.Class.{Class}
-use Rattle.line_reader.specs.declared.line.Class.TheVariants as class
+use Rattle.line_reader.specs.declared.line.Parts.{Parts}
+use Rattle.line_reader.specs.declared.line.LineEntry.{LineEntry}
+use Rattle.line_reader.specs.declared.line.NoEntry.{NoEntry}
+use Rattle.line_reader.specs.declared.line.NoEntry.TheVariants as no_entry
 use Rattle.line_items.proofs.Names.{name-found}
 use Rattle.line_reader.proofs.Wording.{line-is}
 use Rattle.desk_log.specs.Record.{record_length}
@@ -36,37 +36,41 @@ pub record Worded (t : List ℕ) (k v : ℕ) : Type 0 where
   pub item : IsName name k
 
 module _ (t : List ℕ) (k v : ℕ) where
-  named-worded : (n w : ℕ) (x : Named) → split_of t ≡ Parts n w → item_of (take n t) ≡ x → named_class t w x ≡ class.Entry k v → Worded t k v
-  named-worded n w Unknown s i e = let z : ◌≡◌ {A = ℕ} 0 1 = cc in absurd (omega arith)
-  named-worded n w (Item j) s i e =
-      let not-it : class.WrongKind ≡ class.Entry k v → ⊥ = λ q. let z : ◌≡◌ {A = ℕ} 0 1 = cc in omega arith in
-      let same = (cond-first (passes j (drop w t)) (class.Entry j w) class.WrongKind (class.Entry k v) not-it e).1 in
-      let s' : split_of t ≡ Parts n v = cc in
-      let i' : item_of (take n t) ≡ Item k = cc in
+  named-worded : (n w : ℕ) (x : Option ℕ) → split_of t ≡ parts_at n w → item_of (take n t) ≡ x → named_class t w x ≡ entry_at k v → Worded t k v
+  named-worded n w None s i e = let z : ◌≡◌ {A = ℕ} 0 1 = cc in absurd (omega arith)
+  named-worded n w (Some j) s i e =
+      let not-it : (Err no_entry.WrongKind) ≡ entry_at k v → ⊥ = λ q. let z : ◌≡◌ {A = ℕ} 0 1 = cc in omega arith in
+      let same = entry-same _ _ _ _ (cond-first (passes j (drop w t)) (entry_at j w) (Err no_entry.WrongKind) (entry_at k v) not-it e).1 in
+      let at = same.0 in
+      let from = same.1 in
+      let s' : split_of t ≡ parts_at n v = cc in
+      let i' : item_of (take n t) ≡ Some k = cc in
       record { name = take n t; parts = line-is t n v s'; item = name-found (take n t) k i' }
 
-  split-worded : (x : Split) → split_of t ≡ x → split_class t x ≡ class.Entry k v → Worded t k v
-  split-worded Malformed s e = let z : ◌≡◌ {A = ℕ} 0 1 = cc in absurd (omega arith)
-  split-worded (Parts n w) s e = named-worded n w (item_of (take n t)) s refl e
+  split-worded : (x : Option Parts) → split_of t ≡ x → split_class t x ≡ entry_at k v → Worded t k v
+  split-worded None s e = let z : ◌≡◌ {A = ℕ} 0 1 = cc in absurd (omega arith)
+  split-worded (Some p) s e = named-worded p.name_end p.value_start (item_of (take p.name_end t)) s refl e
 
-  pub entry-worded : class_of t ≡ class.Entry k v → Worded t k v
+  pub entry-worded : class_of t ≡ entry_at k v → Worded t k v
   unfolding class_of
   entry-worded e =
-      let not-it : class.BadForm ≡ class.Entry k v → ⊥ = λ q. let z : ◌≡◌ {A = ℕ} 0 1 = cc in omega arith in
-      split-worded (split_of t) refl (cond-first (leb (length t) line_most && all is_typed t) (split_class t (split_of t)) class.BadForm (class.Entry k v) not-it e).1
+      let not-it : (Err no_entry.BadForm) ≡ entry_at k v → ⊥ = λ q. let z : ◌≡◌ {A = ℕ} 0 1 = cc in omega arith in
+      split-worded (split_of t) refl (cond-first (leb (length t) line_most && all is_typed t) (split_class t (split_of t)) (Err no_entry.BadForm) (entry_at k v) not-it e).1
 
 -- an Enter that the table accepts has the line of an entry, whose item the bench may write
 pub record Accepts (t : List ℕ) (may : ℕ → Bool) : Type 0 where
   pub item : ℕ
   pub start : ℕ
-  pub class-is : class_of t ≡ class.Entry item start
+  pub class-is : class_of t ≡ entry_at item start
   pub allowed : may item ≡ true
 
-class-accepts : (t : List ℕ) (may : ℕ → Bool) (free : ℕ) (c : Class) → class_of t ≡ c → enter_number c t may free ≡ 0 → Accepts t may
-class-accepts t may free class.BadForm e h = absurd (omega arith)
-class-accepts t may free class.UnknownName e h = absurd (omega arith)
-class-accepts t may free class.WrongKind e h = absurd (omega arith)
-class-accepts t may free (class.Entry item start) e h =
+class-accepts : (t : List ℕ) (may : ℕ → Bool) (free : ℕ) (c : Result LineEntry NoEntry) → class_of t ≡ c → enter_number c t may free ≡ 0 → Accepts t may
+class-accepts t may free (Err no_entry.BadForm) e h = absurd (omega arith)
+class-accepts t may free (Err no_entry.UnknownName) e h = absurd (omega arith)
+class-accepts t may free (Err no_entry.WrongKind) e h = absurd (omega arith)
+class-accepts t may free (Ok at) e h =
+    let item = at.item in
+    let start = at.start in
     let not-it : ◌≡◌ {A = ℕ} 9 0 → ⊥ = λ q. omega arith in
     record { item = item; start = start; class-is = e; allowed = (cond-first (may item) (cond (leb (record_length (drop start t)) free) 0 8) 9 0 not-it h).0 }
 

@@ -6,8 +6,7 @@ use mathlib.Core.List.{List, [], ◌∷◌, map}
 use Prim.Native.Nat.{ℕ, ◌+◌}
 use lib.ListN.{drop}
 use Rattle.text.specs.Run.{between}
-use Rattle.line_reader.specs.Line.{class_of}
-use Rattle.line_reader.specs.declared.line.Class.TheVariants as class
+use Rattle.line_reader.specs.Line.{class_of, entry_at}
 use Rattle.desk_state.specs.Desks.{sheet_of_bench}
 use Rattle.desk_state.specs.Sheets.{filled, empty_item}
 use Rattle.desk_questions.specs.Who.{nobody}
@@ -49,7 +48,7 @@ entries-of-both = (refl, refl, refl, refl, refl, refl, refl, refl, refl)
 abbrev pub typed_by_all : List ℕ → Work
 typed_by_all t = record { typed = t ∷ t ∷ t ∷ t ∷ []; entries = [] }
 
-pub both-sheets-run : (t : List ℕ) (start : ℕ) → class_of t ≡ class.Entry 4 start → drop start t ≡ 49 ∷ []
+pub both-sheets-run : (t : List ℕ) (start : ℕ) → class_of t ≡ entry_at 4 start → drop start t ≡ 49 ∷ []
     → answered (work_step (λ p s. s.count + p) 0 15) (typed_by_all t)
     (key 0 10 ∷ key 1 10 ∷ key 2 10 ∷ key 3 10 ∷ key 7 10 ∷ ask (who 0 4) ∷ ask (who 1 4) ∷ ask (who 2 4) ∷ ask (report 1 1) ∷ ask (report 1 2) ∷ ask (report 2 2) ∷ [])
     ≡ (key 0 10, keyed 0) ∷ (key 1 10, keyed 9) ∷ (key 2 10, keyed 0) ∷ (key 3 10, keyed 9) ∷ (key 7 10, keyed 1)

@@ -13,7 +13,6 @@ use Rattle.text.proofs.Bools.{and_both, cond-first, and-true-true, cond-keeps}
 use Rattle.text.proofs.Runs.{all_append, all_take}
 use Rattle.line_items.specs.Typed.{line_most, is_typed}
 use Rattle.line_reader.specs.Line.{class_of}
-use Rattle.line_reader.specs.declared.line.Class.TheVariants as class
 use Rattle.desk_state.specs.Desks.{bench_count, sheet_of_bench}
 use Rattle.desk_state.specs.declared.sheet.Sheet.{Sheet}
 use Rattle.desk_soundness.specs.SoundLog.{log_most}

@@ -1,5 +1,6 @@
 -- Owners (document 02, No. 8): the number by tests says what specs/Owning.antt says, and where each entry was its bench's to make an item's bench is its owner.
 -- Assumes nothing.
+use Rattle.line_reader.specs.Line.{entry_at}
 use mathlib.Core.Path.{◌≡◌, refl, sym, ap, ◌∙◌, subst}
 use mathlib.Core.Bool.{Bool, true, false, cond, false≢true}
 use mathlib.Core.Logic.{◌↔◌}
@@ -10,7 +11,6 @@ use borrow.Author.Tests.{eqb-true, eqb-false, eq-eqb, ne_eqb}
 use lib.Dec.{eqb}
 use Rattle.desk_state.specs.Sheets.{empty_item}
 use Rattle.desk_state.specs.Desks.{sheet_of_bench}
-use Rattle.line_reader.specs.declared.line.Class.TheVariants as class
 use Rattle.theorem_work.specs.Work.{Entry, Work, typed_by, on_sheet, entries_of, times_of, last_of, owner_of, may_write, accepts, with_entry_of, key_answer, key_work}
 use Rattle.theorem_work.specs.Owning.{Owns, OwnedByAnother, AllOf}
 use Rattle.theorem_work.proofs.EntryWords.{enter-accepts, accepted-only}
@@ -96,10 +96,10 @@ AllRightful es = (sheet : ℕ) → Rightful (entries_of sheet es)
 
 -- an accepted Enter is one that its bench may make
 new-rightful : (sheet bench : ℕ) (t : List ℕ) (es : List Entry) (item start : ℕ) → may_write (entries_of (sheet_of_bench bench) es) item bench ≡ true
-    → Rightful (entries_of sheet es) → Rightful (entries_of sheet (with_entry_of (class.Entry item start) bench t es))
+    → Rightful (entries_of sheet es) → Rightful (entries_of sheet (with_entry_of (entry_at item start) bench t es))
 new-rightful sheet bench t es item start m h = go (on_sheet sheet bench) refl
   where
-    go : (x : Bool) → on_sheet sheet bench ≡ x → Rightful (entries_of sheet (with_entry_of (class.Entry item start) bench t es))
+    go : (x : Bool) → on_sheet sheet bench ≡ x → Rightful (entries_of sheet (with_entry_of (entry_at item start) bench t es))
     go true x = rw x (rw (eqb-true (sheet_of_bench bench) sheet x) at m, h)
     go false x = rw x h
 

@@ -2,12 +2,12 @@
 -- (document 01, "Sequences of calls"). No desk is mentioned here, and no byte of the log. The entries of all benches stand in one list, the newest first: that is
 -- the order of the shared log. What belongs to a sheet is read off the entries of its benches (document 02, No. 9): `entries_of sheet`.
 -- Assumes nothing.
-use Rattle.std.specs.Prelude.{ℕ, zero, suc, ◌-◌, Bool, cond, List, [], ◌∷◌, ◌++◌, leb, eqb, length, get_or, take, drop, set, replicate}
+use Rattle.std.specs.Prelude.{ℕ, zero, suc, ◌-◌, Bool, cond, List, [], ◌∷◌, ◌++◌, leb, eqb, length, get_or, take, drop, set, replicate, Result, Ok, Err}
 use Rattle.line_items.specs.Typed.{is_typed}
 use Rattle.line_reader.specs.Line.{class_of}
 use Rattle.line_items.specs.Items.{item_count, is_item}
-use Rattle.line_reader.specs.declared.line.Class.{Class}
-use Rattle.line_reader.specs.declared.line.Class.TheVariants as class
+use Rattle.line_reader.specs.declared.line.LineEntry.{LineEntry}
+use Rattle.line_reader.specs.declared.line.NoEntry.{NoEntry}
 use Rattle.desk_log.specs.Record.{record_of}
 use Rattle.desk_state.specs.Sheets.{filled, empty_item}
 use Rattle.desk_state.specs.Desks.{bench_count, sheet_of_bench, is_sheet}
@@ -107,11 +107,9 @@ abbrev pub text_after : ℕ → ℕ → List ℕ → List ℕ
 text_after a byte t = cond (accepts a) (edited_text byte t) t
 
 -- the entries with that of the line t, if it is one
-abbrev pub with_entry_of : Class → ℕ → List ℕ → List Entry → List Entry
-with_entry_of class.BadForm bench t es = es
-with_entry_of class.UnknownName bench t es = es
-with_entry_of class.WrongKind bench t es = es
-with_entry_of (class.Entry item start) bench t es = record { bench = bench; item = item; value = drop start t; line = t } ∷ es
+abbrev pub with_entry_of : Result LineEntry NoEntry → ℕ → List ℕ → List Entry → List Entry
+with_entry_of (Err why) bench t es = es
+with_entry_of (Ok at) bench t es = record { bench = bench; item = at.item; value = drop at.start t; line = t } ∷ es
 
 -- "An Enter with answer 0 is an accepted entry"
 abbrev pub entries_after : ℕ → ℕ → ℕ → List ℕ → List Entry → List Entry

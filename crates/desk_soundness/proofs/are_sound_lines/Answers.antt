@@ -9,7 +9,7 @@ use Rattle.desk_soundness.proofs.are_sound_lines.Goals as goal
 use Rattle.desk_soundness.proofs.are_sound_lines.Goals.{After-is_sound_line}
 
 pub loop-i-init : goal.loop-i-init
-loop-i-init c = (omega arith, refl)
+loop-i-init c = refl
 
 pub is_sound_line-requires : goal.is_sound_line-requires
 is_sound_line-requires c = simp (length-take, length-drop) (omega arith)
@@ -25,12 +25,12 @@ turn c =
 pub returns-then-not-is_sound_line : goal.returns-then-not-is_sound_line
 returns-then-not-is_sound_line c =
     let a = c.args in
-    sym (lines-all a.texts.now a.numbers.now ∙ c.loop-i.invariant.1 ∙ (turn (goal.at.returns-then-not-is_sound_line c).After-is_sound_line) ∙ simp (c.if-not-is_sound_line.true))
+    sym (lines-all a.texts.now a.numbers.now ∙ c.loop-i.invariant ∙ (turn (goal.at.returns-then-not-is_sound_line c).After-is_sound_line) ∙ simp (c.if-not-is_sound_line.true))
 
 pub loop-i-preserved : goal.loop-i-preserved
-loop-i-preserved c = (omega arith, c.loop-i.invariant.1 ∙ (turn (goal.at.loop-i-preserved c).After-is_sound_line) ∙ simp (c.if-not-is_sound_line.false))
+loop-i-preserved c = c.loop-i.invariant ∙ (turn (goal.at.loop-i-preserved c).After-is_sound_line) ∙ simp (c.if-not-is_sound_line.false)
 
 pub returns : goal.returns
 returns c =
     let a = c.args in
-    sym (lines-all a.texts.now a.numbers.now ∙ c.loop-i.invariant.1 ∙ lines_end a.texts.now a.numbers.now c.loop-i.i (omega arith))
+    sym (lines-all a.texts.now a.numbers.now ∙ c.loop-i.invariant ∙ lines_end a.texts.now a.numbers.now c.loop-i.i (omega arith))

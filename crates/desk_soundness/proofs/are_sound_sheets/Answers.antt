@@ -9,7 +9,7 @@ use Rattle.desk_soundness.proofs.are_sound_sheets.Goals as goal
 use Rattle.desk_soundness.proofs.are_sound_sheets.Goals.{After-is_sound_sheet}
 
 pub loop-s-init : goal.loop-s-init
-loop-s-init c = (omega arith, refl)
+loop-s-init c = refl
 
 pub is_sound_sheet-requires : goal.is_sound_sheet-requires
 is_sound_sheet-requires c =
@@ -29,12 +29,12 @@ turn c =
     c.is_sound_sheet.ensures
 
 pub returns-then-not-is_sound_sheet : goal.returns-then-not-is_sound_sheet
-returns-then-not-is_sound_sheet c = sym (c.loop-s.invariant.1 ∙ (turn (goal.at.returns-then-not-is_sound_sheet c).After-is_sound_sheet) ∙ simp (c.if-not-is_sound_sheet.true))
+returns-then-not-is_sound_sheet c = sym (c.loop-s.invariant ∙ (turn (goal.at.returns-then-not-is_sound_sheet c).After-is_sound_sheet) ∙ simp (c.if-not-is_sound_sheet.true))
 
 pub loop-s-preserved : goal.loop-s-preserved
-loop-s-preserved c = (omega arith, c.loop-s.invariant.1 ∙ (turn (goal.at.loop-s-preserved c).After-is_sound_sheet) ∙ simp (c.if-not-is_sound_sheet.false))
+loop-s-preserved c = c.loop-s.invariant ∙ (turn (goal.at.loop-s-preserved c).After-is_sound_sheet) ∙ simp (c.if-not-is_sound_sheet.false)
 
 pub returns : goal.returns
 returns c =
     let a = c.args in
-    sym (c.loop-s.invariant.1 ∙ sheets-end a.texts.now a.numbers.now c.loop-s.s (omega arith))
+    sym (c.loop-s.invariant ∙ sheets-end a.texts.now a.numbers.now c.loop-s.s (omega arith))

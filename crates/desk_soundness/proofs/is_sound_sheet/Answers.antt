@@ -9,7 +9,7 @@ use Rattle.desk_soundness.proofs.is_sound_sheet.Goals as goal
 use Rattle.desk_soundness.proofs.is_sound_sheet.Goals.{After-is_sound_item}
 
 pub loop-i-init : goal.loop-i-init
-loop-i-init c = (omega arith, refl)
+loop-i-init c = refl
 
 -- what the test of an item makes of the rest
 turn : (c : After-is_sound_item) → (let a = c.args in
@@ -24,12 +24,12 @@ turn c =
 pub returns-then-not-is_sound_item : goal.returns-then-not-is_sound_item
 returns-then-not-is_sound_item c =
     let a = c.args in
-    sym (items-all a.texts.now a.numbers.now a.sheet ∙ c.loop-i.invariant.1 ∙ (turn (goal.at.returns-then-not-is_sound_item c).After-is_sound_item) ∙ simp (c.if-not-is_sound_item.true))
+    sym (items-all a.texts.now a.numbers.now a.sheet ∙ c.loop-i.invariant ∙ (turn (goal.at.returns-then-not-is_sound_item c).After-is_sound_item) ∙ simp (c.if-not-is_sound_item.true))
 
 pub loop-i-preserved : goal.loop-i-preserved
-loop-i-preserved c = (omega arith, c.loop-i.invariant.1 ∙ (turn (goal.at.loop-i-preserved c).After-is_sound_item) ∙ simp (c.if-not-is_sound_item.false))
+loop-i-preserved c = c.loop-i.invariant ∙ (turn (goal.at.loop-i-preserved c).After-is_sound_item) ∙ simp (c.if-not-is_sound_item.false)
 
 pub returns : goal.returns
 returns c =
     let a = c.args in
-    sym (items-all a.texts.now a.numbers.now a.sheet ∙ c.loop-i.invariant.1 ∙ items-end a.texts.now a.numbers.now c.loop-i.i a.sheet (omega arith))
+    sym (items-all a.texts.now a.numbers.now a.sheet ∙ c.loop-i.invariant ∙ items-end a.texts.now a.numbers.now c.loop-i.i a.sheet (omega arith))

@@ -1,14 +1,10 @@
--- `formula_order::in_order` meets its contract. The loop's invariant: the order keys passed rise to the last one, so the rest decides.
--- The measure is what is left of the text. Assumes nothing.
+-- `formula_order::in_order` meets its contract. The loop's invariant: the order keys passed rise to the last one, so the rest decides. Assumes nothing.
 use mathlib.Core.Path.{◌≡◌}
-use Prim.Native.Nat.{◌+◌, ◌-◌}
-use lib.ListN.{length}
+use mathlib.Core.List.{map}
 use Rattle.formula_order.specs.Order.{order_keys, rising, in_order}
-use Rattle.formula_terms.proofs.Steps.{terms_from}
+use Rattle.formula_terms.specs.Term.{term_of}
+use Rattle.formula_terms.specs.Terms.{words_left}
 use Rattle.formula_order.proofs.in_order.Given as goal
 
-abbrev pub invariant-loop-term : goal.invariant-loop-term
-invariant-loop-term l = in_order l.s ≡ rising l.last (order_keys l.carbon (terms_from l.s l.from))
-
-abbrev pub decreases-loop-term : goal.decreases-loop-term
-decreases-loop-term l = length l.s + 1 - l.from
+abbrev pub invariant-loop-word : goal.invariant-loop-word
+invariant-loop-word l = in_order l.s ≡ rising l.last (order_keys l.carbon (map term_of (words_left l.word-iterator)))

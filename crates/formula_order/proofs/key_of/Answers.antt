@@ -7,4 +7,4 @@ use Rattle.formula_order.proofs.key_of.Goals as goal
 
 pub returns : goal.returns
 unfolding order_key
-returns c = ap (λ (r : ℕ). (r * 256 + c.args.a) * 256 + c.args.b) c.rank_of.ensures.0
+returns c = ap (λ (r : ℕ). (r * 256 + c.args.symbol.first) * 256 + c.args.symbol.second) c.rank_of.ensures.0

@@ -1,32 +1,24 @@
 -- `hydrogen_helper::other_weight` meets its contract: it is the sum of what the writer gives without hydrogen, which is small.
 -- Assumes nothing.
+use Rattle.std.specs.Prelude.{Option, Some, None, unwrap_or}
 use native.Mathlib.Omega.{arith}
-use mathlib.Core.Path.{◌≡◌, sym, ap, ◌∙◌}
-use Prim.Native.Nat.{ℕ, ◌-◌}
-use lib.ListN.{take}
+use mathlib.Core.Path.{◌≡◌, refl, sym, ap, subst⁻¹, ◌∙◌}
+use Prim.Native.Nat.{ℕ, ◌^◌, ◌<◌}
+use mathlib.Core.List.{List}
 use Rattle.line_quotes.specs.Quoted.{text_of}
 use Rattle.formula_sum.specs.Sum.{sum_of}
 use Rattle.formula_sum.proofs.Small.{sum-small}
-use Rattle.hydrogen_writer.specs.Typed.{typed_with}
 use Rattle.hydrogen_helper.specs.Helper.{weight_or, other_weight}
 use Rattle.hydrogen_helper.proofs.other_weight.Goals as goal
-use Rattle.hydrogen_helper.proofs.other_weight.Goals.{After-sum_of}
 
--- the sum of the text without hydrogen
-summed : (c : After-sum_of) → c.sum_of.result ≡ sum_of (text_of (typed_with 0 c.args.s.now))
-summed c =
-    let r = c.typed_with-typed.result in
-    let same : r.length - 0 ≡ r.length = omega arith in
-    c.sum_of.ensures
-    ∙ ap sum_of (c.text_of.ensures ∙ ap (λ (i : ℕ). text_of (take i r.bytes)) same ∙ ap text_of c.typed_with-typed.ensures.0)
-
-pub returns-in_default : goal.returns-in_default
-unfolding other_weight
-returns-in_default c = (sym (ap weight_or (sym (summed (goal.at.returns-in_default c).After-sum_of) ∙ c.in_default.is)), omega arith)
+-- the sum, or 0, is small
+weighed : (s : List ℕ) (x : Option ℕ) → sum_of s ≡ x → (unwrap_or x 0 ≡ weight_or x) × (unwrap_or x 0 < 10 ^ 13)
+weighed s (Some n) e = (refl, sum-small s n e)
+weighed s None e = (refl, omega arith)
 
 pub returns : goal.returns
 unfolding other_weight
-returns c = (sym (ap weight_or (sym (summed (goal.at.returns c).After-sum_of) ∙ c.in-Thousandths.is)), sum-small _ _ (sym c.sum_of.ensures ∙ c.in-Thousandths.is))
-
-pub slice_bounds-text_of-end : goal.slice_bounds-text_of-end
-slice_bounds-text_of-end c = omega (arith, c.typed_with-typed.ensures.1)
+returns c =
+    let summed = c.sum_of.ensures ∙ ap sum_of (c.text_of.ensures ∙ ap text_of (c.written.ensures ∙ c.typed_with-typed.ensures)) in
+    let w = weighed _ c.sum_of.result (sym c.sum_of.ensures) in
+    (c.unwrap_or.ensures ∙ w.0 ∙ ap weight_or summed, subst⁻¹ (λ (n : ℕ). n < 10 ^ 13) c.unwrap_or.ensures w.1)

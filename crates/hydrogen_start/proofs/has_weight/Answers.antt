@@ -1,10 +1,8 @@
--- `hydrogen_start::has_weight` meets its contract: each arm is a case of `has_weight`.
+-- `hydrogen_start::has_weight` meets its contract: each return is a case of `has_weight`.
 -- Assumes nothing.
-use mathlib.Core.Path.{sym, ◌∙◌}
+use mathlib.Core.Path.{ap, ◌∙◌}
+use Rattle.std.specs.Option.{is_some}
 use Rattle.hydrogen_start.proofs.has_weight.Goals as goal
 
-pub returns-in-Thousandths : goal.returns-in-Thousandths
-returns-in-Thousandths c = simp (c.in-Well.is, sym c.weight_of.ensures ∙ c.in-Thousandths.is)
-
-pub returns-in-NoWeight : goal.returns-in-NoWeight
-returns-in-NoWeight c = simp (c.in-Well.is, sym c.weight_of.ensures ∙ c.in-NoWeight.is)
+pub returns : goal.returns
+returns c = c.is_some.ensures ∙ ap is_some c.weight_of.ensures ∙ simp c.in-Some.is

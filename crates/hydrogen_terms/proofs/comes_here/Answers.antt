@@ -4,6 +4,7 @@ use mathlib.Core.Path.{◌≡◌, sym, ap, ◌∙◌}
 use mathlib.Core.Bool.{true}
 use Prim.Native.Nat.{ℕ}
 use lib.Dec.{ltb}
+use Rattle.formula_elements.specs.Elements.{same_symbol}
 use Rattle.hydrogen_terms.proofs.comes_here.Goals as goal
 use Rattle.hydrogen_terms.proofs.comes_here.Goals.{Else-not-wanted}
 
@@ -16,10 +17,12 @@ returns-then-not-wanted c = simp c.if-not-wanted.true
 pub returns-in_default : goal.returns-in_default
 returns-in_default c = simp ((wanted (goal.at.returns-in_default c).Else-not-wanted), c.in_default.is)
 
-pub returns-then-same_symbol : goal.returns-then-same_symbol
-returns-then-same_symbol c = simp ((wanted (goal.at.returns-then-same_symbol c).Else-not-wanted), c.in-Well.is, sym c.same_symbol.ensures ∙ c.if-same_symbol.true)
+pub returns-then-eq : goal.returns-then-eq
+unfolding same_symbol
+returns-then-eq c = simp ((wanted (goal.at.returns-then-eq c).Else-not-wanted), c.in-Some.is, sym c.eq.ensures ∙ c.if-eq.true)
 
 pub returns : goal.returns
+unfolding same_symbol
 returns c =
     ap (λ (x : ℕ). ltb x c.key_of-2.result) c.key_of.ensures ∙ ap (ltb _) c.key_of-2.ensures
-    ∙ simp ((wanted (goal.at.returns c).Else-not-wanted), c.in-Well.is, sym c.same_symbol.ensures ∙ c.if-same_symbol.false)
+    ∙ simp ((wanted (goal.at.returns c).Else-not-wanted), c.in-Some.is, sym c.eq.ensures ∙ c.if-eq.false)

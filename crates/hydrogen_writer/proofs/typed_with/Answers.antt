@@ -4,7 +4,7 @@ use native.Mathlib.Omega.{arith}
 use mathlib.Core.Path.{◌≡◌, refl}
 use mathlib.Core.Logic.{inl, inr}
 use Prim.Native.Nat.{◌+◌, ◌<◌}
-use lib.ListN.{take, set, length-set}
+use lib.ListN.{take, set}
 use Rattle.hydrogen_writer.specs.Typed.{typed_with, typed_most, whole}
 use Rattle.hydrogen_writer.proofs.Closing.{Ends, closed-off, closed}
 use Rattle.hydrogen_writer.proofs.typed_with.Goals as goal
@@ -16,7 +16,7 @@ put_words-at-requires c = (refl, whole refl (omega arith) refl)
 pub returns-then-at-gt-TYPED_MOST : goal.returns-then-at-gt-TYPED_MOST
 returns-then-at-gt-TYPED_MOST c =
     let a = c.args in
-    (closed-off a.n a.s.now c.put_words-at.new.out c.put_words-at.result c.put_words-at.auto.out c.if-at-gt-TYPED_MOST.true c.put_words-at.ensures, omega arith)
+    closed-off a.n a.s.now c.put_words-at.new.out c.put_words-at.result c.put_words-at.auto.out c.if-at-gt-TYPED_MOST.true c.put_words-at.ensures
 
 ends : (c : Joined-at-gt1) → Ends c.put_words-at.result c.if-at-gt1.end
 ends c =
@@ -38,6 +38,4 @@ pub overflow_add-result : goal.overflow_add-result
 overflow_add-result c = omega (arith, (shown (goal.at.overflow_add-result c).Joined-at-gt1).1)
 
 pub returns : goal.returns
-returns c =
-    let e = (shown (goal.at.returns c).Joined-at-gt1) in
-    (e.0, omega (arith, e.1, length-set c.put_words-at.new.out c.if-at-gt1.end 39, c.put_words-at.auto.out))
+returns c = (shown (goal.at.returns c).Joined-at-gt1).0

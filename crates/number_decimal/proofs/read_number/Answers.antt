@@ -1,5 +1,6 @@
 -- `number_decimal::read_number` meets its contract: a long text is no number, and the sign parts the others as `reading_of` does.
 -- Assumes nothing.
+use Rattle.std.specs.Prelude.{Option}
 use native.Mathlib.Omega.{arith}
 use mathlib.Core.Path.{◌≡◌, refl, ap, ◌∙◌}
 use mathlib.Core.Bool.{Bool, true, false, cond, ◌||◌}
@@ -10,7 +11,6 @@ use Rattle.text.specs.Run.{has_at}
 use Rattle.text.proofs.Parts.{rest_part}
 use Rattle.text.proofs.Runs.{has_within}
 use Rattle.number_decimal.specs.Reading.{unsigned_of, sign_length, signed_of, reading_of}
-use Rattle.number_decimal.specs.declared.Size.{Size}
 use Rattle.number_decimal.proofs.Small.{long-none}
 use Rattle.number_decimal.proofs.read_number.Goals as goal
 
@@ -37,5 +37,5 @@ unfolding reading_of
 returns c =
     let s = c.args.s.now in
     let part = rest_part s c.sign_length-sign.result ∙ ap (λ (n : ℕ). drop n s) c.sign_length-sign.ensures in
-    c.with_sign.ensures ∙ ap (λ (z : Size). signed_of c.has.result z) (c.unsigned.ensures.0 ∙ ap unsigned_of part)
+    c.with_sign.ensures ∙ ap (λ (z : Option ℕ). signed_of c.has.result z) (c.unsigned.ensures.0 ∙ ap unsigned_of part)
     ∙ ap (λ (b : Bool). signed_of b (unsigned_of (drop (sign_length s) s))) c.has.ensures

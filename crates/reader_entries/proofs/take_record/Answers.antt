@@ -30,11 +30,11 @@ asked c =
     let desk : is_desk c.args.texts.now c.args.numbers.now ≡ true = sym c.is_desk.ensures ∙ c.if-not-is_desk.false in
     let shape : (let a = c.args in shaped (used_of a.numbers.now) a.r.now ≡ true) = sym c.has_shape.ensures ∙ c.if-not-has_shape.false in
     let a = c.args in
-    let b = c.wide-bench.ensures in
-    let k = c.wide-item.ensures in
+    let b = c.from-bench.ensures in
+    let k = c.from-item.ensures in
     let n = a.numbers.now in
     open-asked a.texts.now n a.r.now desk shape c.is_open.result
-    (λ v. c.is_open.ensures v ∙ ap (λ (m : ℕ). open_to (item_from v (slot item_numbers (numbers_of n (sheet_of_bench m)) (c.wide-item.result - 1))) m) b
+    (λ v. c.is_open.ensures v ∙ ap (λ (m : ℕ). open_to (item_from v (slot item_numbers (numbers_of n (sheet_of_bench m)) (c.from-item.result - 1))) m) b
     ∙ ap (λ (m : ℕ). open_to (item_from v (slot item_numbers (numbers_of n (sheet_of_bench (bench_told a.r.now))) (m - 1))) (bench_told a.r.now)) k)
 
 pub returns-then-not-is_desk : goal.returns-then-not-is_desk
@@ -53,7 +53,7 @@ pub bounds-r-5 : goal.bounds-r-5
 bounds-r-5 c = let l = shaped-long _ _ (shape (goal.at.bounds-r-5 c).Else-not-has_shape) in omega (arith, l)
 
 pub overflow_sub-item : goal.overflow_sub-item
-overflow_sub-item c = let k = shaped-item _ _ (shape (goal.at.overflow_sub-item c).Else-not-has_shape) in omega (arith, k.0, c.wide-item.ensures)
+overflow_sub-item c = let k = shaped-item _ _ (shape (goal.at.overflow_sub-item c).Else-not-has_shape) in omega (arith, k.0, c.from-item.ensures)
 
 pub returns-then-not-is_open : goal.returns-then-not-is_open
 returns-then-not-is_open c = let a = c.args in taken-foreign a.texts.now a.numbers.now a.r.now (desk (goal.at.returns-then-not-is_open c).Else-not-is_desk) (shape (goal.at.returns-then-not-is_open c).Else-not-has_shape) ((asked (goal.at.returns-then-not-is_open c).After-is_open) ∙ c.if-not-is_open.true)
@@ -72,4 +72,4 @@ returns c =
     let a = c.args in
     let r = a.r.now in
     taken-stored a.texts.now a.numbers.now r (desk (goal.at.returns c).Else-not-is_desk) (shape (goal.at.returns c).Else-not-has_shape) _ _ ((asked (goal.at.returns c).After-is_open) ∙ c.if-not-is_open.false)
-    (entry-told a.texts.now a.numbers.now r c.wide-bench.result c.wide-item.result (take (length r - head_length) (drop head_length r)) _ _ _ c.wide-bench.ensures c.wide-item.ensures (rest_part r head_length) c.put_entry.ensures)
+    (entry-told a.texts.now a.numbers.now r c.from-bench.result c.from-item.result (take (length r - head_length) (drop head_length r)) _ _ _ c.from-bench.ensures c.from-item.ensures (rest_part r head_length) c.put_entry.ensures)

@@ -5,8 +5,8 @@ use lib.ListN.{length}
 use Rattle.reader_steps.proofs.Walks.{Walked}
 use Rattle.reader_steps.proofs.take_all.Given as goal
 
-abbrev pub invariant-loop-answer : goal.invariant-loop-answer
-invariant-loop-answer l = Walked l.initial.texts l.initial.numbers l.part l.texts l.numbers l.from
+abbrev pub invariant-loop-n : goal.invariant-loop-n
+invariant-loop-n l = Walked l.initial.texts l.initial.numbers l.part l.texts l.numbers l.from
 
-abbrev pub decreases-loop-answer : goal.decreases-loop-answer
-decreases-loop-answer l = length l.part - l.from
+abbrev pub decreases-loop-n : goal.decreases-loop-n
+decreases-loop-n l = length l.part - l.from

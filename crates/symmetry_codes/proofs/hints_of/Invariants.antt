@@ -1,12 +1,7 @@
--- `hints_of` meets its contract: at place i the hints of the codes before it are set, and `length codes - i` codes are left.
+-- `hints_of` meets its contract: at place i the hints of the codes before it are set.
 -- Assumes nothing.
-use lib.ListN.{length}
-use Prim.Native.Nat.{◌-◌}
 use Rattle.symmetry_codes.proofs.Hinted.{Hinted}
 use Rattle.symmetry_codes.proofs.hints_of.Given as goal
 
 abbrev pub invariant-loop-i : goal.invariant-loop-i
 invariant-loop-i l = Hinted l.codes l.i l.hints
-
-abbrev pub decreases-loop-i : goal.decreases-loop-i
-decreases-loop-i l = length l.codes - l.i

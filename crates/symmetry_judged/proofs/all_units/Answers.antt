@@ -1,25 +1,14 @@
-use mathlib.Core.Path.{ap}
-use mathlib.Core.Bool.{not}
-use Rattle.symmetry_judged.proofs.Read.{unit-read, taken, left}
+-- Each row comes once, and its determinant is tested.
+-- Assumes nothing.
+use Rattle.std.proofs.Common.{◌∙◌, rules}
+use borrow.Author.Tests.{tests}
+use Rattle.std.proofs.lemmas.Iterator.Search.{all_from_yields_List}
 use Rattle.symmetry_operators.specs.Residues.{turning}
-use Rattle.symmetry_operators.specs.Check.{row_from}
-use Rattle.symmetry_operators.proofs.Cut.{tested-none, tested-more, tested-fails, tested-all}
+use Rattle.symmetry_operators.proofs.Chunks.{rows-yielded, all-is}
 use Rattle.symmetry_judged.proofs.all_units.Goals as goal
 
-pub loop-i-init : goal.loop-i-init
-loop-i-init c = tested-none row_from _ _ turning
-
-pub returns-then-not-has_unit : goal.returns-then-not-has_unit
-returns-then-not-has_unit c =
-    tested-fails row_from _ _ turning c.loop-i.invariant c.loop-i-test.true
-    (left (unit-read c.args.rows.now c.loop-i.at c.residues_of.ensures c.has_unit.ensures)
-    (ap not c.if-not-has_unit.true))
-
-pub loop-i-preserved : goal.loop-i-preserved
-loop-i-preserved c =
-    tested-more row_from _ _ turning c.loop-i.invariant c.loop-i-test.true
-    (taken (unit-read c.args.rows.now c.loop-i.at c.residues_of.ensures c.has_unit.ensures)
-    (ap not c.if-not-has_unit.false))
-
 pub returns : goal.returns
-returns c = tested-all row_from _ _ turning c.loop-i.invariant c.loop-i-test.false
+returns c =
+    all_from_yields_List turning _ _ _ c.all.ensures.ran (rows-yielded c.args.rows.now c.chunks_exact.ensures.size c.chunks_exact.ensures.rest)
+    (λ x b q k. search (rules, tests))
+    ∙ all-is turning _

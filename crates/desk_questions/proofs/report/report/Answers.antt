@@ -28,24 +28,23 @@ is-profile c = lt-ltb _ profile_count c.if-profile-ge-PROFILE_COUNT.false
 pub returns-then-sheet : goal.returns-then-sheet
 returns-then-sheet c =
     let a = c.args in
-    c.refuse.ensures ∙ sym (report-by a.texts.now a.numbers.now a.sheet a.profile ∙ simp (le-ltb a.sheet sheet_count c.if-sheet.true))
+    sym (report-by a.texts.now a.numbers.now a.sheet a.profile ∙ simp (le-ltb a.sheet sheet_count c.if-sheet.true))
 
 pub returns-then-profile-ge-PROFILE_COUNT : goal.returns-then-profile-ge-PROFILE_COUNT
 returns-then-profile-ge-PROFILE_COUNT c =
     let a = c.args in
-    c.refuse-then-profile-ge-PROFILE_COUNT.ensures ∙ sym (report-by a.texts.now a.numbers.now a.sheet a.profile ∙ simp ((is-sheet (goal.at.returns-then-profile-ge-PROFILE_COUNT c).Else-sheet), le-ltb a.profile profile_count c.if-profile-ge-PROFILE_COUNT.true))
+    sym (report-by a.texts.now a.numbers.now a.sheet a.profile ∙ simp ((is-sheet (goal.at.returns-then-profile-ge-PROFILE_COUNT c).Else-sheet), le-ltb a.profile profile_count c.if-profile-ge-PROFILE_COUNT.true))
 
 pub returns-then-not-is_sound : goal.returns-then-not-is_sound
 returns-then-not-is_sound c =
     let a = c.args in
-    c.refuse-then-not-is_sound.ensures
-    ∙ sym (report-by a.texts.now a.numbers.now a.sheet a.profile ∙ simp ((is-sheet (goal.at.returns-then-not-is_sound c).Else-sheet), (is-profile (goal.at.returns-then-not-is_sound c).Else-profile-ge-PROFILE_COUNT), sym c.is_sound.ensures ∙ c.if-not-is_sound.true))
+    sym (report-by a.texts.now a.numbers.now a.sheet a.profile ∙ simp ((is-sheet (goal.at.returns-then-not-is_sound c).Else-sheet), (is-profile (goal.at.returns-then-not-is_sound c).Else-profile-ge-PROFILE_COUNT), sym c.is_sound.ensures ∙ c.if-not-is_sound.true))
 
 pub returns : goal.returns
 returns c =
     let a = c.args in
     let t = a.texts.now in
     let n = a.numbers.now in
-    let rows = c.sheet_rows-rows.ensures ∙ ap (rows_of a.profile) (sheet-lent t n a.sheet (here (goal.at.returns c).Else-sheet) c.sheet_texts.ensures c.sheet_numbers.ensures) in
+    let rows = c.sheet_rows.ensures ∙ ap (rows_of a.profile) (sheet-lent t n a.sheet (here (goal.at.returns c).Else-sheet) c.sheet_texts.ensures c.sheet_numbers.ensures) in
     ap (reported_as 0) rows
     ∙ sym (report-by t n a.sheet a.profile ∙ simp ((is-sheet (goal.at.returns c).Else-sheet), (is-profile (goal.at.returns c).Else-profile-ge-PROFILE_COUNT), sym c.is_sound.ensures ∙ c.if-not-is_sound.false))

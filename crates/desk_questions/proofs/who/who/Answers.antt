@@ -31,30 +31,28 @@ sound c = sym c.is_sound.ensures ∙ c.if-not-is_sound.false
 pub returns-then-sheet : goal.returns-then-sheet
 returns-then-sheet c =
     let a = c.args in
-    c.tell_nobody.ensures ∙ sym (who-by a.texts.now a.numbers.now a.sheet a.item ∙ simp (le-ltb a.sheet sheet_count c.if-sheet.true))
+    sym (who-by a.texts.now a.numbers.now a.sheet a.item ∙ simp (le-ltb a.sheet sheet_count c.if-sheet.true))
 
 pub returns-then-not-is_sound : goal.returns-then-not-is_sound
 returns-then-not-is_sound c =
     let a = c.args in
-    c.tell_nobody-then-not-is_sound.ensures
-    ∙ sym (who-by a.texts.now a.numbers.now a.sheet a.item ∙ simp ((is-sheet (goal.at.returns-then-not-is_sound c).Else-sheet), sym c.is_sound.ensures ∙ c.if-not-is_sound.true))
+    sym (who-by a.texts.now a.numbers.now a.sheet a.item ∙ simp ((is-sheet (goal.at.returns-then-not-is_sound c).Else-sheet), sym c.is_sound.ensures ∙ c.if-not-is_sound.true))
 
 pub returns-then-item-lt1 : goal.returns-then-item-lt1
 returns-then-item-lt1 c =
     let a = c.args in
-    c.tell_nobody-then-item-lt1.ensures ∙ sym (who-by a.texts.now a.numbers.now a.sheet a.item ∙ simp ((is-sheet (goal.at.returns-then-item-lt1 c).Else-sheet), (sound (goal.at.returns-then-item-lt1 c).Else-not-is_sound), lt-leb 1 _ c.if-item-lt1.true))
+    sym (who-by a.texts.now a.numbers.now a.sheet a.item ∙ simp ((is-sheet (goal.at.returns-then-item-lt1 c).Else-sheet), (sound (goal.at.returns-then-item-lt1 c).Else-not-is_sound), lt-leb 1 _ c.if-item-lt1.true))
 
 pub returns-then-item : goal.returns-then-item
 returns-then-item c =
     let a = c.args in
-    c.tell_nobody-then-item.ensures
-    ∙ sym (who-by a.texts.now a.numbers.now a.sheet a.item ∙ simp ((is-sheet (goal.at.returns-then-item c).Else-sheet), (sound (goal.at.returns-then-item c).Else-not-is_sound), le-leb 1 _ c.if-item-lt1.false, lt-leb _ item_count c.if-item.true))
+    sym (who-by a.texts.now a.numbers.now a.sheet a.item ∙ simp ((is-sheet (goal.at.returns-then-item c).Else-sheet), (sound (goal.at.returns-then-item c).Else-not-is_sound), le-leb 1 _ c.if-item-lt1.false, lt-leb _ item_count c.if-item.true))
 
-pub tell-requires : goal.tell-requires
-tell-requires c =
+pub last_entry-requires : goal.last_entry-requires
+last_entry-requires c =
     let a = c.args in
     subst (λ (l : List ℕ). (get_or (slot item_numbers l (a.item - 1)) 0 0 ≡ 0 → ⊥) → get_or (slot item_numbers l (a.item - 1)) 2 0 < bench_count)
-    (sym c.sheet_numbers.ensures) (sound-bench a.texts.now a.numbers.now a.sheet (here (goal.at.tell-requires c).Else-sheet) (sound (goal.at.tell-requires c).Else-not-is_sound) (a.item - 1) (omega arith))
+    (sym c.sheet_numbers.ensures) (sound-bench a.texts.now a.numbers.now a.sheet (here (goal.at.last_entry-requires c).Else-sheet) (sound (goal.at.last_entry-requires c).Else-not-is_sound) (a.item - 1) (omega arith))
 
 pub returns : goal.returns
 returns c =
@@ -64,6 +62,6 @@ returns c =
     let k = a.item - 1 in
     let h : k < item_count = omega arith in
     let value = slot line_most (texts_of t a.sheet) k in
-    c.tell.ensures value ∙ ap (λ (l : List ℕ). told_of (item_from value (slot item_numbers l k))) c.sheet_numbers.ensures
+    c.last_entry.ensures value ∙ ap (λ (l : List ℕ). told_of (item_from value (slot item_numbers l k))) c.sheet_numbers.ensures
     ∙ ap told_of (sym (item-lent t n a.sheet (here (goal.at.returns c).Else-sheet) k h))
     ∙ sym (who-by t n a.sheet a.item ∙ simp ((is-sheet (goal.at.returns c).Else-sheet), (sound (goal.at.returns c).Else-not-is_sound), le-leb 1 _ c.if-item-lt1.false, le-leb _ item_count c.if-item.false))

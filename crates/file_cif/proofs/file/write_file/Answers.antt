@@ -2,7 +2,7 @@
 -- Assumes nothing.
 use borrow.Author.Tests.{lt-ltb, le-ltb}
 use native.Mathlib.Omega.{arith}
-use mathlib.Core.Path.{◌≡◌, refl, sym, ap, ◌∙◌}
+use mathlib.Core.Path.{◌≡◌, sym, ap, ◌∙◌}
 use mathlib.Core.Bool.{true}
 use Prim.Native.Nat.{◌+◌, ◌<◌}
 use lib.ListN.{length}
@@ -37,19 +37,19 @@ named c = sym c.is_block_name.ensures ∙ c.if-not-is_block_name.false
 pub returns-then-sheet : goal.returns-then-sheet
 returns-then-sheet c =
     let a = c.args in
-    step-no-sheet a.texts.now a.numbers.now a.sheet a.name.now a.out.now _ (le-ltb a.sheet sheet_count c.if-sheet.true) c.refuse.ensures
+    step-no-sheet a.texts.now a.numbers.now a.sheet a.name.now a.out.now (le-ltb a.sheet sheet_count c.if-sheet.true)
 
 pub returns-then-not-is_sound : goal.returns-then-not-is_sound
 returns-then-not-is_sound c =
     let a = c.args in
-    step-unsound a.texts.now a.numbers.now a.sheet a.name.now a.out.now _ (is-sheet (goal.at.returns-then-not-is_sound c).Else-sheet)
-    (sym c.is_sound.ensures ∙ c.if-not-is_sound.true) c.refuse-then-not-is_sound.ensures
+    step-unsound a.texts.now a.numbers.now a.sheet a.name.now a.out.now (is-sheet (goal.at.returns-then-not-is_sound c).Else-sheet)
+    (sym c.is_sound.ensures ∙ c.if-not-is_sound.true)
 
 pub returns-then-not-is_block_name : goal.returns-then-not-is_block_name
 returns-then-not-is_block_name c =
     let a = c.args in
-    step-bad-name a.texts.now a.numbers.now a.sheet a.name.now a.out.now _ (is-sheet (goal.at.returns-then-not-is_block_name c).Else-sheet) (sound (goal.at.returns-then-not-is_block_name c).Else-not-is_sound)
-    (sym c.is_block_name.ensures ∙ c.if-not-is_block_name.true) c.refuse-then-not-is_block_name.ensures
+    step-bad-name a.texts.now a.numbers.now a.sheet a.name.now a.out.now (is-sheet (goal.at.returns-then-not-is_block_name c).Else-sheet) (sound (goal.at.returns-then-not-is_block_name c).Else-not-is_sound)
+    (sym c.is_block_name.ensures ∙ c.if-not-is_block_name.true)
 
 pub overflow_add-count : goal.overflow_add-count
 overflow_add-count c = omega (arith, block-short c.args.name.now (named (goal.at.overflow_add-count c).Else-not-is_block_name))
@@ -80,7 +80,7 @@ count c =
 pub returns-then-out-count : goal.returns-then-out-count
 returns-then-out-count c =
     let a = c.args in
-    step-no-room a.texts.now a.numbers.now a.sheet a.name.now a.out.now _ (is-sheet (goal.at.returns-then-out-count c).Else-sheet) (sound (goal.at.returns-then-out-count c).Else-not-is_sound) (named (goal.at.returns-then-out-count c).Else-not-is_block_name) (omega (arith, (count (goal.at.returns-then-out-count c).After-lines_length), c.if-out-count.true)) c.refuse-then-out-count.ensures
+    step-no-room a.texts.now a.numbers.now a.sheet a.name.now a.out.now (is-sheet (goal.at.returns-then-out-count c).Else-sheet) (sound (goal.at.returns-then-out-count c).Else-not-is_sound) (named (goal.at.returns-then-out-count c).Else-not-is_block_name) (omega (arith, (count (goal.at.returns-then-out-count c).After-lines_length), c.if-out-count.true))
 
 pub put_file-requires : goal.put_file-requires
 put_file-requires c =
@@ -91,4 +91,4 @@ pub returns : goal.returns
 returns c =
     let a = c.args in
     let wrote = c.put_file.ensures ∙ ap (λ (s : Sheet). copied a.out.now 0 (file_of a.name.now s)) (lent (goal.at.returns c).After-sheet_numbers-sheet_numbers) in
-    step-written a.texts.now a.numbers.now a.sheet a.name.now a.out.now _ (is-sheet (goal.at.returns c).Else-sheet) (sound (goal.at.returns c).Else-not-is_sound) (named (goal.at.returns c).Else-not-is_block_name) (omega (arith, (count (goal.at.returns c).After-lines_length), c.if-out-count.false)) wrote refl (count (goal.at.returns c).After-lines_length)
+    step-written a.texts.now a.numbers.now a.sheet a.name.now a.out.now (is-sheet (goal.at.returns c).Else-sheet) (sound (goal.at.returns c).Else-not-is_sound) (named (goal.at.returns c).Else-not-is_block_name) (omega (arith, (count (goal.at.returns c).After-lines_length), c.if-out-count.false)) wrote (count (goal.at.returns c).After-lines_length)

@@ -14,7 +14,7 @@ use Rattle.file_cif.proofs.length.lines_length.Goals as goal
 pub loop-i-init : goal.loop-i-init
 loop-i-init c =
     let a = c.args in
-    (omega arith, omega arith, sym (ap (λ (l : List ℕ). length l) (lines_none item_line (sheet_from a.texts.now a.numbers.now).items)))
+    (omega arith, sym (ap (λ (l : List ℕ). length l) (lines_none item_line (sheet_from a.texts.now a.numbers.now).items)))
 
 pub loop-i-preserved : goal.loop-i-preserved
 loop-i-preserved c =
@@ -26,7 +26,7 @@ loop-i-preserved c =
     let x = item_line (i + 1) (get_or xs i no_item) in
     let more = ap (λ (s : List ℕ). length s) (lines_next item_line xs i no_item (omega (arith, items-long t m))) ∙ length-append (first_lines item_line xs i) x in
     let here = ap (λ (y : Item). length (item_line (i + 1) y)) (item-at t m i (omega arith)) in
-    (omega arith, omega arith, omega (arith, more, here, c.line_length-n.ensures, c.loop-i.invariant))
+    (omega arith, omega (arith, more, here, c.line_length-n.ensures, c.loop-i.invariant))
 
 pub returns : goal.returns
 returns c =

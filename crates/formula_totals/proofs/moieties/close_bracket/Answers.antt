@@ -1,21 +1,22 @@
 -- `formula_totals::moieties::close_bracket` meets its contract. Assumes nothing.
+use Rattle.std.specs.Prelude.{Some}
 use native.Mathlib.Omega.{arith}
 use Prim.Native.Nat.{ℕ, ◌+◌, ◌-◌, ◌≤◌}
-use mathlib.Core.Path.{◌≡◌, sym, ap, ◌∙◌}
+use mathlib.Core.Path.{◌≡◌, sym, ap, subst, ◌∙◌}
 use mathlib.Core.Bool.{true}
 use mathlib.Core.List.{List}
 use lib.ListN.{length, take, drop, length-drop}
 use Rattle.text.specs.Run.{run_of, has_at}
 use Rattle.text.proofs.Runs.{has_within}
 use Rattle.text.proofs.Parts.{rest_part}
-use Rattle.formula_terms.specs.declared.term.Count.TheVariants.{Times}
 use Rattle.formula_terms.specs.Term.{count_of}
 use Rattle.formula_moiety.specs.Grammar.{most_times}
 use Rattle.formula_moiety.specs.Reading.{in_word, is_times}
+use Rattle.formula_totals.specs.Left.{CloseLeft}
 use Rattle.formula_words.proofs.Times.{times-read, times-unread}
 use Rattle.formula_totals.proofs.WordCases.{close-none, close-no-count, close-takes}
 use Rattle.formula_totals.proofs.moieties.close_bracket.Goals as goal
-use Rattle.formula_totals.proofs.moieties.close_bracket.Goals.{After-word_run-n, Else-not-has, In-Times}
+use Rattle.formula_totals.proofs.moieties.close_bracket.Goals.{After-word_run-n, Else-not-has, In_ok-c}
 
 back : (n : ℕ) → 1 + n - 1 ≡ n
 back n = omega arith
@@ -39,11 +40,11 @@ within c =
     omega (arith, c.word_run-n.ensures.1, length-drop 1 s)
 
 -- the count that was read
-abbrev text : In-Times → List ℕ
+abbrev text : In_ok-c → List ℕ
 text c = take c.word_run-n.result (drop 1 c.args.s.now)
 
-counted : (c : In-Times) → (is_times (text c) ≡ true) × ((count_of (text c) ≡ Times c.in-Times.c) × (c.in-Times.c ≤ most_times))
-counted c = times-read (text c) _ (rw (back c.word_run-n.result) at (sym c.read_times.ensures ∙ c.in-Times.is))
+counted : (c : In_ok-c) → (is_times (text c) ≡ true) × ((count_of (text c) ≡ Some c.in_ok-c.c) × (c.in_ok-c.c ≤ most_times))
+counted c = times-read (text c) _ (rw (back c.word_run-n.result) at (sym c.read_times.ensures ∙ c.in_ok-c.was))
 
 pub returns-then-not-has : goal.returns-then-not-has
 returns-then-not-has c = close-none _ _ _ _ (sym c.has.ensures ∙ c.if-not-has.true)
@@ -57,11 +58,11 @@ slice_bounds-word_run-start c = (some (goal.at.slice_bounds-word_run-start c).El
 pub slice_bounds-read_times-end : goal.slice_bounds-read_times-end
 slice_bounds-read_times-end c = (within (goal.at.slice_bounds-read_times-end c).After-word_run-n)
 
-pub returns-in_default : goal.returns-in_default
-returns-in_default c = close-no-count _ _ _ _ (bracket (goal.at.returns-in_default c).Else-not-has) _ (run (goal.at.returns-in_default c).After-word_run-n) (times-unread _ (rw (back c.word_run-n.result) at (sym c.read_times.ensures ∙ c.in_default.is)))
+pub returns-in_err-c : goal.returns-in_err-c
+returns-in_err-c c = subst (CloseLeft _ _ _ _) (sym c.from_residual.ensures) (close-no-count _ _ _ _ (bracket (goal.at.returns-in_err-c c).Else-not-has) _ (run (goal.at.returns-in_err-c c).After-word_run-n) (times-unread _ (rw (back c.word_run-n.result) at (sym c.read_times.ensures ∙ c.in_err-c.was))))
 
 pub add_times-requires : goal.add_times-requires
-add_times-requires c = (omega (arith, (counted (goal.at.add_times-requires c).In-Times).1.1), (c.requires.0, c.requires.1))
+add_times-requires c = (omega (arith, (counted (goal.at.add_times-requires c).In_ok-c).1.1), (c.requires.0, c.requires.1))
 
 pub returns : goal.returns
-returns c = close-takes _ _ _ _ (bracket (goal.at.returns c).Else-not-has) _ (run (goal.at.returns c).After-word_run-n) _ (counted (goal.at.returns c).In-Times).0 (counted (goal.at.returns c).In-Times).1.0 c.add_times.ensures
+returns c = close-takes _ _ _ _ (bracket (goal.at.returns c).Else-not-has) _ (run (goal.at.returns c).After-word_run-n) _ (counted (goal.at.returns c).In_ok-c).0 (counted (goal.at.returns c).In_ok-c).1.0 c.add_times.ensures

@@ -1,26 +1,17 @@
-use borrow.Author.Tests.{le-leb, lt-leb}
+-- `text::run::run_between` meets its contract: the run ends at the first byte of another kind.
+-- Assumes nothing.
+use Rattle.std.proofs.Common.{rules}
+use Rattle.std.proofs.lemmas.Iterator.{YieldsList-from_slice}
+use Rattle.std.proofs.lemmas.Iterator.Search.{position_from_yields_List}
+use mathlib.Core.Bool.{not}
+use Prim.Native.Nat.{ℕ}
 use Rattle.text.specs.Run.{between}
-use Rattle.text.proofs.Runs.{start, more, stop, end}
+use Rattle.text.proofs.Runs.{run-position}
 use Rattle.text.proofs.run.run_between.Goals as goal
 
-pub loop-i-init : goal.loop-i-init
-loop-i-init c = start _ _
-
-pub returns-then-b-lo : goal.returns-then-b-lo
-unfolding between
-returns-then-b-lo c = stop _ _ c.loop-i.invariant c.loop-i-test.true (simp (lt-leb _ _ c.if-b-lo.true))
-
-pub returns-then-hi-b : goal.returns-then-hi-b
-unfolding between
-returns-then-hi-b c =
-    stop _ _ c.loop-i.invariant c.loop-i-test.true
-    (simp (le-leb _ _ c.if-b-lo.false, lt-leb _ _ c.if-hi-b.true))
-
-pub loop-i-preserved : goal.loop-i-preserved
-unfolding between
-loop-i-preserved c =
-    more _ _ c.loop-i.invariant c.loop-i-test.true
-    (simp (le-leb _ _ c.if-b-lo.false, le-leb _ _ c.if-hi-b.false))
-
 pub returns : goal.returns
-returns c = end _ _ c.loop-i.invariant c.loop-i-test.false
+returns c =
+    let kind = between c.args.lo c.args.hi in
+    run-position kind c.args.s.now
+    (position_from_yields_List (λ (b : ℕ). not (kind b)) _ _ c.position.result c.position.ensures.ran (YieldsList-from_slice c.args.s.now cc) (λ x b q k. search rules))
+    c.unwrap_or.ensures
