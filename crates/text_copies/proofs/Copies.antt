@@ -9,12 +9,15 @@ use native.Mathlib.Omega.{arith}
 use borrow.Author.Tests.{le-leb, leb-true}
 use lib.Dec.{leb}
 use lib.ListN.{length, take, drop, length-append, length-take, length-drop, take-append-drop, drop_of_length-le}
-use lib.Seq.{take_at, drop-append-add, drop-drop, length-take-le}
+use lib.Seq.{paste, take-length, take_at, drop-append-add, drop-drop, length-take-le}
 use Rattle.text_copies.specs.Copy.{copied}
 
 pub copied-fits : (d : List ℕ) (at : ℕ) (s : List ℕ) → at + length s ≤ length d → copied d at s ≡ take at d ++ (s ++ drop (at + length s) d)
 unfolding copied
 copied-fits d at s h = simp (le-leb _ _ h)
+
+pub pasted-is : (d : List ℕ) (at : ℕ) (s : List ℕ) → paste d at s (length s) ≡ take at d ++ (s ++ drop (at + length s) d)
+pasted-is d at s = rw (take-length s) (append_assoc (take at d) s (drop (at + length s) d))
 
 -- a text written over the part of d that is as long is copied there
 pub written-is : (d : List ℕ) (at k : ℕ) (s wrote : List ℕ) → wrote ≡ s → k ≡ length s → at + length s ≤ length d → take at d ++ (wrote ++ drop k (drop at d)) ≡ copied d at s

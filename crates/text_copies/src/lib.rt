@@ -2,8 +2,19 @@
 // A client cites Copy (copied).
 #![tactic(auto)]
 
-ghost use Rattle.std.specs.Prelude.{◌≡◌};
+ghost use Rattle.std.specs.Prelude.{◌≡◌, ◌+◌, ◌≤◌, length};
+ghost use Rattle.std.proofs.Math.Seq.{paste};
 ghost use Rattle.text_copies.specs.Copy.{copied};
+
+// Byte by byte: the library's copy_from_slice would have C programs bring memmove.
+fn copy_fitting(dst: &mut [u8], at: usize, src: &[u8])
+    requires { at + length src.now ≤ length dst.old }
+    ensures { dst.new ≡ paste dst.old at src.now (length src.now) }
+{
+    for j in 0..src.len() {
+        dst[at + j] = src[j];
+    }
+}
 
 // Copies src into dst from a place on, where it fits; else nothing.
 pub fn copy_in(dst: &mut [u8], at: usize, src: &[u8])
@@ -15,5 +26,5 @@ pub fn copy_in(dst: &mut [u8], at: usize, src: &[u8])
     if dst.len() - at < src.len() {
         return;
     }
-    dst[at..at + src.len()].copy_from_slice(src);
+    copy_fitting(dst, at, src);
 }

@@ -1,10 +1,11 @@
 -- `text_copies::copy_in` meets its contract: the two tests are the one of `copied`.
 -- Assumes nothing.
 use native.Mathlib.Omega.{arith}
-use Prim.Native.Nat.{◌+◌}
+use mathlib.Core.Path.{sym, ◌∙◌}
+use Prim.Native.Nat.{◌+◌, ◌≤◌}
 use borrow.Author.Tests.{lt-leb}
 use lib.ListN.{length}
-use Rattle.text_copies.proofs.Copies.{written-is}
+use Rattle.text_copies.proofs.Copies.{copied-fits, pasted-is}
 use Rattle.text_copies.specs.Copy.{copied}
 use Rattle.text_copies.proofs.copy_in.Goals as goal
 
@@ -23,4 +24,5 @@ returns-then-dst-at-2 c =
 pub returns : goal.returns
 returns c =
     let a = c.args in
-    written-is a.dst.now a.at _ a.src.now _ c.copy_from_slice.ensures.after (omega arith) (omega arith)
+    let fits : a.at + length a.src.now ≤ length a.dst.now = omega arith in
+    c.copy_fitting.ensures ∙ pasted-is a.dst.now a.at a.src.now ∙ sym (copied-fits a.dst.now a.at a.src.now fits)
