@@ -41,11 +41,12 @@ const WEIGHTS: [u64; 25] = [
     39098, 40078, 54938, 55845, 58933, 58693, 63546, 65380, 79904, 107870, 126900, 207200,
 ];
 
-// Where a table has a symbol.
+// Where a table has a symbol. The loop counts its index, since the compiler then compares many symbols at once, as it does with no `for` or iterator tried.
 fn find(table: &[u8], symbol: Symbol) -> Option<usize>
     ensures { result ≡ place_of table.now symbol.first symbol.second }
 {
-    for k in 0..table.len() / 2 {
+    let mut k = 0;
+    while 2 * k + 1 < table.len() {
         let here = Symbol {
             first: table[2 * k],
             second: table[2 * k + 1],
@@ -53,6 +54,7 @@ fn find(table: &[u8], symbol: Symbol) -> Option<usize>
         if here == symbol {
             return Some(k);
         }
+        k += 1;
     }
     None
 }

@@ -10,7 +10,7 @@ use line_items::Kind::{Category, Number, Text};
 use line_items::{FIRST_TYPED, ITEM_COUNT, Kind, LAST_TYPED, LINE_MOST};
 
 // The kinds of the items.
-const KINDS: [Kind; ITEM_COUNT] = [
+static KINDS: [Kind; ITEM_COUNT] = [
     Text, Number, Category, Number, Number, Number, Number, Number, Number, Text, Number, Number,
     Number, Number, Number, Number, Number, Number, Text,
 ];
@@ -28,7 +28,10 @@ fn kind_at(k: usize) -> Kind
 fn is_number(s: &[u8]) -> bool
     ensures { result ≡ is_number s.now }
 {
-    number_decimal::read_number(s).is_some()
+    let Some(_) = number_decimal::read_number(s) else {
+        return false;
+    };
+    true
 }
 
 fn is_of_kind(kind: Kind, v: &[u8]) -> bool

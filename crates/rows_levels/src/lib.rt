@@ -23,8 +23,8 @@ pub enum Ungraded {
 }
 
 // The table of three-bound grades: rows 4 (below, above), 6, 8, 10, 12 (for I and F^2^, for F), and zeros for the rows that have none.
-// Row 4's are hundredths, the others millionths.
-const BOUNDS: [Bounds; 8] = [
+// Row 4's are hundredths, the others millionths. The table is lent, so that no call builds a copy of it.
+const BOUNDS: &[Bounds] = &[
     Bounds {
         a: 90,
         b: 95,
