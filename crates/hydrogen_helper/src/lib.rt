@@ -27,10 +27,10 @@ fn other_weight(s: &[u8]) -> u64
 fn given_weight(weight: &[u8]) -> u64
     ensures { (result ≡ given_weight weight.now) × (result < 10 ^ 16) }
 {
-    match number_decimal::read_number(weight) {
-        Some(given) => number_signed::magnitude(given),
-        None => 0,
-    }
+    let Some(given) = number_decimal::read_number(weight) else {
+        return 0;
+    };
+    number_signed::magnitude(given)
 }
 
 // The first count at which the given weight is at most 1.01 of the sum.

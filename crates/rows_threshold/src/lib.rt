@@ -29,7 +29,10 @@ fn read_multiplier(x: &[u8]) -> Option<u64>
     if text::has(x, 0, b'+') || text::has(x, 0, b'-') || ends_with(x, b')') {
         return None;
     }
-    u64::try_from(number_decimal::read_number(x)?).ok()
+    let Some(v) = number_decimal::read_number(x) else {
+        return None;
+    };
+    u64::try_from(v).ok()
 }
 
 // The level of x, in millionths, for F alone or not.

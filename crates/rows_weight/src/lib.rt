@@ -28,7 +28,9 @@ pub struct WeightRows {
 fn weigh(t: &[u8], weight: &[u8]) -> Option<Weighed>
     ensures { (result ≡ weighed_of t.now weight.now) × SmallWeighed result }
 {
-    let given = number_decimal::read_number(weight)?;
+    let Some(given) = number_decimal::read_number(weight) else {
+        return None;
+    };
     let sum = formula_sum::sum::sum_of(t)? * 1000;
     Some(Weighed { given, sum })
 }

@@ -29,15 +29,15 @@ pub struct ProbeLine {
 pub extern "C" fn probe_number(t: &[u8]) -> ProbeNumber
     ensures { result ≡ number_told (reading_of t.now) }
 {
-    match number_decimal::read_number(t) {
-        Some(millionths) => ProbeNumber {
-            millionths,
-            found: 1,
-        },
-        None => ProbeNumber {
+    let Some(millionths) = number_decimal::read_number(t) else {
+        return ProbeNumber {
             millionths: 0,
             found: 0,
-        },
+        };
+    };
+    ProbeNumber {
+        millionths,
+        found: 1,
     }
 }
 

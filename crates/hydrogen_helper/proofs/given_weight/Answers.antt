@@ -16,14 +16,14 @@ use Rattle.hydrogen_helper.proofs.given_weight.Goals.{In-Some}
 read : (c : In-Some) → reading_of c.args.weight.now ≡ Some c.in-Some.given
 read c = sym c.read_number.ensures ∙ c.in-Some.is
 
-pub returns-in-None : goal.returns-in-None
+pub returns-in_default : goal.returns-in_default
 unfolding given_weight
-returns-in-None c = (sym (ap size_or (sym c.read_number.ensures ∙ c.in-None.is)), omega arith)
+returns-in_default c = (sym (ap size_or (sym c.read_number.ensures ∙ c.in_default.is)), omega arith)
 
-pub returns-in-Some : goal.returns-in-Some
+pub returns : goal.returns
 unfolding given_weight
-returns-in-Some c =
+returns c =
     let z = c.in-Some.given in
-    let small = number_small _ _ (read (goal.at.returns-in-Some c).In-Some) in
+    let small = number_small _ _ (read (goal.at.returns c).In-Some) in
     let same = c.magnitude.ensures ∙ ap nat_abs (back z (small-fits z (omega arith))) in
-    (same ∙ sym (ap size_or (read (goal.at.returns-in-Some c).In-Some)), subst⁻¹ (λ (n : ℕ). n < 10 ^ 16) same (size_small z small))
+    (same ∙ sym (ap size_or (read (goal.at.returns c).In-Some)), subst⁻¹ (λ (n : ℕ). n < 10 ^ 16) same (size_small z small))

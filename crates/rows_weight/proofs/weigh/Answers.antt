@@ -20,9 +20,9 @@ overflow_mul-sum c = let h = sum-small _ _ (sym c.sum_of.ensures ∙ c.in_ok-sum
 
 pub returns : goal.returns
 returns c =
-    let z = c.in_ok-given.given in
+    let z = c.in-Some.given in
     let s = c.in_ok-sum.field-0 in
-    let read : reading_of c.args.weight.now ≡ Some z = sym c.read_number.ensures ∙ c.in_ok-given.was in
+    let read : reading_of c.args.weight.now ≡ Some z = sym c.read_number.ensures ∙ c.in-Some.is in
     let summed : sum_of c.args.t.now ≡ Some s = sym c.sum_of.ensures ∙ c.in_ok-sum.was in
     let small = number_small _ _ read in
     let light = sum-small _ _ summed in
