@@ -61,6 +61,46 @@ impl From<Standing> for usize {
     }
 }
 
+// Whether memory is a reader's.
+pub fn is_reader(kept: &[u8], state: &[usize]) -> bool
+    ensures { result ≡ is_reader kept.now state.now }
+{
+    if kept.len() != READER_KEPT || state.len() != READER_STATE {
+        return false;
+    }
+    Standing::try_from(state[STANDS_AT]).is_ok()
+}
+
+// Makes all kept bytes but the first len zero.
+pub fn keep_first(kept: &mut [u8], len: usize)
+    ensures { kept.new ≡ only_first kept.old len }
+{
+    if kept.len() < len {
+        return;
+    }
+    let rest = kept.len() - len;
+    desk_memory::clear(kept, len, rest);
+}
+
+// Keeps the bytes bs, and zeros behind them.
+pub fn hold(kept: &mut [u8], bs: &[u8])
+    ensures { kept.new ≡ holding kept.old bs.now }
+{
+    text_copies::copy_in(kept, 0, bs);
+    keep_first(kept, bs.len());
+}
+
+// Writes the two numbers.
+pub fn put_state(state: &mut [usize], len: usize, e: usize)
+    ensures { state.new ≡ standing state.old len e }
+{
+    if state.len() != READER_STATE {
+        return;
+    }
+    state[LEN_AT] = len;
+    state[STANDS_AT] = e;
+}
+
 // One reader's memory, as the caller lends it: the kept bytes and the two numbers.
 #[derive(Drop)]
 pub struct Reader<'a> {
@@ -74,7 +114,7 @@ impl Reader<'_> {
         ensures reader { is_some result ≡ is_reader self.now.kept.now self.now.state.now }
         ensures number { IfSome result (StandsSo (stands_at self.now.state.now)) }
     {
-        if self.kept.len() != READER_KEPT || self.state.len() != READER_STATE {
+        if !is_reader(self.kept, self.state) {
             return None;
         }
         Standing::try_from(self.state[STANDS_AT]).ok()
@@ -93,11 +133,7 @@ impl Reader<'_> {
         ensures state { self.new.state.now ≡ self.old.state.now }
         ensures lent { StillLent self.old self.new }
     {
-        if self.kept.len() < len {
-            return;
-        }
-        let rest = self.kept.len() - len;
-        desk_memory::clear(self.kept, len, rest);
+        keep_first(self.kept, len);
     }
 
     // Puts the bytes bs behind the first len that are kept; changes nothing where they do not fit.
@@ -115,8 +151,7 @@ impl Reader<'_> {
         ensures state { self.new.state.now ≡ self.old.state.now }
         ensures lent { StillLent self.old self.new }
     {
-        self.put(0, bs);
-        self.keep_first(bs.len());
+        hold(self.kept, bs);
     }
 
     // Writes the two numbers. How the reading stands is a number here, as it lies in the memory that a C program lends.
@@ -125,10 +160,6 @@ impl Reader<'_> {
         ensures state { self.new.state.now ≡ standing self.old.state.now len e }
         ensures lent { StillLent self.old self.new }
     {
-        if self.state.len() != READER_STATE {
-            return;
-        }
-        self.state[LEN_AT] = len;
-        self.state[STANDS_AT] = e;
+        put_state(self.state, len, e);
     }
 }
