@@ -140,58 +140,36 @@ fn told(answer: &Answer) -> Vec<u8> {
 /// In how many parts the measured examples are run, each few enough for the interpreter.
 const EXAMPLE_PARTS: usize = 5;
 
-/// How many calls of a typed line make a part.
-const CALLS_EACH: usize = 7;
-
 /// The measured examples, with the typed line whose record document 01 gives, in parts: each in a folder
 /// of its number, from 1 on.
 pub fn write_examples(folder: &Path) -> Result<(), String> {
     let sheets = sheet_lists::measured_examples();
-    let mut parts = typed_line(10);
-    parts.extend(typed_line(9));
-    for part in sheets.chunks(sheets.len().div_ceil(EXAMPLE_PARTS)) {
+    let calls = b"_refine_ls_R_factor_gt 0.16\n".map(|byte| Call::Key { bench: 0, byte });
+    // The typed lines have parts of their own.
+    let alone: &[Desk] = &[];
+    let examples = sheets.chunks(sheets.len().div_ceil(EXAMPLE_PARTS));
+    let parts = [alone, alone].into_iter().chain(examples);
+    for (number, part) in (1..).zip(parts) {
         let mut frames = Frames::default();
         frames.examples(part);
-        parts.push(frames);
-    }
-    let mut frames = Frames::default();
-    frames.wall(b"0.200001", ROWS[0]);
-    frames.wall(b"-0.06", ROWS[2]);
-    frames.wall(b"-.06(3)", ROWS[2]);
-    frames.wall(b"1.", ROWS[1]);
-    frames.wall(b"-.", ROWS[0]);
-    frames.wall(b"_refine_ls_R_factor_gt 0.16", NO_ROW);
-    parts.push(frames);
-    for (number, frames) in (1..).zip(parts) {
+        match number {
+            1 => frames.sequence(&Sequence { calls: calls.into(), log: vec![0xee; 10] }),
+            2 => frames.sequence(&Sequence { calls: calls.into(), log: vec![0xee; 9] }),
+            3 => {
+                frames.wall(b"0.200001", ROWS[0]);
+                frames.wall(b"-0.06", ROWS[2]);
+                frames.wall(b"-.06(3)", ROWS[2]);
+                frames.wall(b"1.", ROWS[1]);
+                frames.wall(b"-.", ROWS[0]);
+                frames.wall(b"_refine_ls_R_factor_gt 0.16", NO_ROW);
+            }
+            _ => {}
+        }
         let folder = folder.join(number.to_string());
         fs::create_dir_all(&folder).map_err(|fault| format!("{}: {fault}", folder.display()))?;
         frames.write(&folder)?;
     }
     Ok(())
-}
-
-/// The typed line with a log of so many bytes, from a fresh desk on: each part goes on where the one
-/// before ends.
-fn typed_line(log: usize) -> Vec<Frames> {
-    let calls = b"_refine_ls_R_factor_gt 0.16\n".map(|byte| Call::Key { bench: 0, byte });
-    let mut memory = Memory::zeros(&vec![0xee; log]);
-    memory.texts.fill(FILL);
-    memory.numbers.fill(FILL.into());
-    let mut kind = FRESH_CALLS;
-    let mut parts = Vec::new();
-    for part in calls.chunks(CALLS_EACH) {
-        let mut frames = Frames::default();
-        frames.calls(kind, memory.clone(), part, b"camp-1", LOG);
-        if kind == FRESH_CALLS {
-            Reference.fresh(&mut memory);
-        }
-        for call in part {
-            Reference.call(&mut memory, call);
-        }
-        kind = CALLS;
-        parts.push(frames);
-    }
-    parts
 }
 
 /// The measured examples, as they are and typed, the sessions of desk with their files, and sequences
